@@ -1,0 +1,4 @@
+pub mod Grammar
+pub mod Stack
+pub mod Bytes
+pub mod Tokens

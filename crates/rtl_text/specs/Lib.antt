@@ -1,0 +1,4 @@
+pub mod Tokens
+pub mod Tree
+pub mod Productions
+pub mod Text

@@ -1,0 +1,78 @@
+-- The tokens of a Verilog text (IEEE 1364-2005 clause 3, the subset's part of it).
+use Rattle.std.specs.Prelude.{ℕ, Bool, true, false, ◌&&◌, ◌||◌, ◌==◌, not, List, [], ◌∷◌, Option, Some, None, if◌then◌else◌, codes}
+use Rattle.std.specs.List.{list_all, list_any, before_first, after_first}
+use Rattle.std.specs.Str.{bytes_eq}
+use Rattle.grammar.specs.Bytes.{is_digit, is_letter, is_hex, decimal, hexadecimal}
+use Rattle.grammar.specs.Tokens.{IsText, Gaps}
+
+pub data Token : Type 0 where
+  Word : List ℕ → Token  -- a name or a reserved word
+  Number : ℕ → Token  -- decimal digits
+  Literal : ℕ → ℕ → Token  -- a width, `'h` and hexadecimal digits
+  Sign : List ℕ → Token
+
+abbrev pub is_name_start : ℕ → Bool
+is_name_start b = is_letter b || b == 95
+
+-- a letter, a digit, `_` or `$`
+abbrev pub is_name_byte : ℕ → Bool
+is_name_byte b = is_letter b || (is_digit b || (b == 95 || b == 36))
+
+abbrev pub is_word : List ℕ → Bool
+is_word [] = false
+is_word (b ∷ bs) = is_name_start b && list_all is_name_byte bs
+
+abbrev pub is_number : List ℕ → Bool
+is_number [] = false
+is_number (b ∷ bs) = is_digit b && list_all is_digit bs
+
+-- `h` and at least one hexadecimal digit
+abbrev pub is_hex_part : List ℕ → Bool
+is_hex_part (h ∷ d ∷ ds) = h == 104 && (is_hex d && list_all is_hex ds)
+is_hex_part _ = false
+
+abbrev pub is_quote : ℕ → Bool
+is_quote b = b == 39
+
+abbrev pub is_literal : List ℕ → Bool
+is_literal word = is_number (before_first is_quote word) && is_hex_part (after_first is_quote word)
+
+abbrev pub hex_digits : List ℕ → List ℕ
+hex_digits [] = []
+hex_digits (h ∷ ds) = ds
+
+abbrev pub signs : List (List ℕ)
+signs =
+    codes "(" ∷ codes ")" ∷ codes "[" ∷ codes "]" ∷ codes "{" ∷ codes "}" ∷ codes ";" ∷ codes ":" ∷ codes "," ∷ codes "." ∷ codes "@" ∷ codes "?"
+    ∷ codes "=" ∷ codes "==" ∷ codes "<" ∷ codes "<=" ∷ codes "~" ∷ codes "+" ∷ codes "-" ∷ codes "*" ∷ codes "/" ∷ codes "&" ∷ codes "|" ∷ codes "^" ∷ []
+
+abbrev pub is_sign : List ℕ → Bool
+is_sign word = list_any (bytes_eq word) signs
+
+-- the token that a word is, if it is one
+abbrev pub token_of : List ℕ → Option Token
+token_of word =
+    if is_word word then Some (Token.Word word)
+    else (if is_number word then Some (Token.Number (decimal word))
+    else (if is_literal word then Some (Token.Literal (decimal (before_first is_quote word)) (hexadecimal (hex_digits (after_first is_quote word))))
+    else (if is_sign word then Some (Token.Sign word) else None)))
+
+-- whatever follows a token may follow it directly
+abbrev pub Apart : Token → List ℕ → Type 0
+Apart t rest = Unit {0}
+
+-- the bytes are these tokens, with white space and comments among them
+abbrev pub IsTokens : List ℕ → List Token → Type 0
+IsTokens bytes ts = IsText Gaps token_of Apart bytes ts
+
+-- the words that are no names
+abbrev pub reserved_words : List (List ℕ)
+reserved_words =
+    codes "module" ∷ codes "endmodule" ∷ codes "input" ∷ codes "output" ∷ codes "wire" ∷ codes "reg" ∷ codes "assign" ∷ codes "always"
+    ∷ codes "posedge" ∷ codes "begin" ∷ codes "end" ∷ codes "if" ∷ []
+
+abbrev pub is_reserved : List ℕ → Bool
+is_reserved word = list_any (bytes_eq word) reserved_words
+
+abbrev pub is_name : List ℕ → Bool
+is_name word = is_word word && not (is_reserved word)

@@ -1,0 +1,4 @@
+pub mod Tokens
+pub mod Source
+pub mod Steps
+pub mod Projects
