@@ -3,7 +3,10 @@
 use mx_base::{List, Text};
 use mx_bits::Word;
 
-/// A wire or a register.
+/// A net of a module: a wire, or a register that keeps its value between edges.
+///
+/// Its width is 1 to 128 bits. A wire follows IEEE 1364-2005, 4.2.1, a register 4.2.2, and the range
+/// `[width - 1:0]` of either 4.3.
 #[derive(Drop)]
 pub struct Net {
     pub name: Text,
@@ -11,7 +14,9 @@ pub struct Net {
     pub reg: bool,
 }
 
-/// A memory of `depth` words.
+/// A memory of `depth` words of `width` bits (IEEE 1364-2005, 4.9.3).
+///
+/// The width is 1 to 128 and the depth 1 to 2^28. The words have the addresses from 0.
 #[derive(Drop)]
 pub struct Mem {
     pub name: Text,
@@ -19,15 +24,20 @@ pub struct Mem {
     pub depth: u32,
 }
 
-/// A port, and whether the module gives it.
-#[derive(Clone, Copy, Drop)]
+/// A port of a module: the wire of the module that it is, and whether it is an output
+/// (IEEE 1364-2005, 12.3.4).
+#[derive(Clone, Copy, Debug, PartialEq, Eq)]
 pub struct Port {
     pub net: u32,
     pub output: bool,
 }
 
-/// The operators of two operands.
-#[derive(Clone, Copy, Drop)]
+/// An operator of two operands, each of them unsigned.
+///
+/// `Add`, `Sub`, `Mul` and `Div` are those of IEEE 1364-2005, 5.1.5, `And`, `Or` and `Xor` those of
+/// 5.1.10. `Eq` is `==` of 5.1.8 and `Lt` is `<` of 5.1.7, each with one bit as its result. A
+/// quotient by 0 is 0, where the standard has `x`.
+#[derive(Clone, Copy, Debug, PartialEq, Eq)]
 pub enum Sign {
     Add,
     Sub,
@@ -40,43 +50,63 @@ pub enum Sign {
     Lt,
 }
 
-/// The right side of an assignment.
-#[derive(Clone, Copy, Drop)]
+/// The right side of an assignment. Its operands are nets and memories of the module, by number.
+#[derive(Clone, Copy, Debug, PartialEq, Eq)]
 pub enum Expr {
+    /// The value of a net.
     Net(u32),
+    /// A number with a width (IEEE 1364-2005, 3.5.1).
     Literal(Word),
+    /// Each bit of a net turned (IEEE 1364-2005, 5.1.10).
     Not(u32),
+    /// An operator with its left and its right net.
     Binary(Sign, u32, u32),
+    /// The net of the high bits and the net of the low bits (IEEE 1364-2005, 5.1.14).
     Concat(u32, u32),
+    /// A net so many times, at most 128, one after another (IEEE 1364-2005, 5.1.14).
     Repeat(u8, u32),
+    /// The bits of a net from the highest down to the lowest number given, each at most 128
+    /// (IEEE 1364-2005, 5.2.1).
     Part(u32, u8, u8),
+    /// The second net where the first one is 1, and the third one else (IEEE 1364-2005, 5.1.13).
     Choose(u32, u32, u32),
+    /// The word of a memory at the address that a net has (IEEE 1364-2005, 5.2.2). Past the depth it
+    /// is 0, where the standard has `x`.
     Cell(u32, u32),
 }
 
-/// A net that takes the value of an expression.
-#[derive(Clone, Copy, Drop)]
+/// A continuous assignment: the net `target` has the value of the expression at all times
+/// (IEEE 1364-2005, 6.1).
+#[derive(Clone, Copy, Debug, PartialEq, Eq)]
 pub struct Assign {
     pub target: u32,
     pub expr: Expr,
 }
 
 /// What an update writes.
-#[derive(Clone, Copy, Drop)]
+#[derive(Clone, Copy, Debug, PartialEq, Eq)]
 pub enum Target {
+    /// A register, by the number of its net.
     Reg(u32),
+    /// The word of a memory at the address that a net has. Past the depth nothing is written.
     Cell(u32, u32),
 }
 
-/// A write at an edge, where the enable is 1.
-#[derive(Clone, Copy, Drop)]
+/// A nonblocking assignment at each rising edge of the clock where the net `enable` is 1
+/// (IEEE 1364-2005, 9.2.2 and 9.4).
+///
+/// The value of the net `value` is written, as it was before the edge.
+#[derive(Clone, Copy, Debug, PartialEq, Eq)]
 pub struct Update {
     pub enable: u32,
     pub target: Target,
     pub value: u32,
 }
 
-/// A module within a module, with one net for each of its ports.
+/// A module within a module (IEEE 1364-2005, 12.1.2).
+///
+/// `module` is the number of an earlier module of the design. `nets` has one net of the outer module
+/// for each port of the inner one, in the order of its ports.
 #[derive(Drop)]
 pub struct Instance {
     pub module: u32,
@@ -84,7 +114,7 @@ pub struct Instance {
     pub nets: List<u32>,
 }
 
-/// A module.
+/// A module (IEEE 1364-2005, 12.1). Nets, memories and instances are named by their number from 0.
 #[derive(Drop)]
 pub struct Module {
     pub name: Text,
@@ -96,7 +126,7 @@ pub struct Module {
     pub instances: List<Instance>,
 }
 
-/// A design, whose last module is the top.
+/// A design: its modules, each after those that it has instances of. The last one is the top module.
 #[derive(Drop)]
 pub struct Design {
     pub modules: List<Module>,

@@ -1,0 +1,57 @@
+-- What the design of a kernel of sums is.
+use Rattle.std.specs.Prelude.{◌≡◌, ◌≤◌, ◌+◌, ◌-◌, ℕ, false, List, [], ◌∷◌, length, bit_and, IsTrue}
+use Rattle.rtl_ir.specs.declared.design.Design.{Design}
+use Rattle.rtl_ir.specs.declared.design.Module.{Module}
+use Rattle.rtl_ir.specs.Value.{is_reg, Contents, Family}
+use Rattle.rtl_ir.specs.Edge.{Fits}
+use Rattle.rtl_ir.specs.Formed.{IsFormed}
+use Rattle.rtl_ir.specs.Run.{Channel, Outer}
+use Rattle.rtl_ir.specs.Ports.{is_plain_name, Shape, HasShape, outer_of}
+use Rattle.rtl_ir.specs.Streams.{StreamsAs}
+use Rattle.sum_source.specs.declared.project.Project.{Project}
+use Rattle.sum_source.specs.Steps.{InOrder, result_of}
+use Rattle.sum_module.specs.Straight.{shape_of}
+
+-- a project of which a design can be made: its names are a letter followed by letters, digits and `_`
+pub record IsSound (p : Project) : Type 0 where
+  pub name : IsTrue (is_plain_name p.name)
+  pub input : IsTrue (is_plain_name p.input)
+  pub output : IsTrue (is_plain_name p.output)
+  pub some : 1 ≤ p.width
+  pub narrow : p.width ≤ 128
+  pub order : InOrder 0 p.steps
+  pub few : length p.steps ≤ 510
+  pub within : p.result ≤ length p.steps
+
+-- In each edge: the output is valid where the input is valid and the kernel isn't held, the input is ready where the output is
+-- ready and the kernel isn't held, the output's data is f of the input's, and done is 0.
+pub record IsGated (m : Module) (o : Outer) (f : ℕ → ℕ) : Type 0 where
+  pub hold : ℕ
+  pub one_hold : o.holds ≡ hold ∷ []
+  pub input : Channel
+  pub one_input : o.inputs ≡ input ∷ []
+  pub output : Channel
+  pub one_output : o.outputs ≡ output ∷ []
+  pub gives : (c : Contents) (v : Family) → Fits m c v → v output.valid ≡ bit_and (v input.valid) (1 - v hold)
+  pub takes : (c : Contents) (v : Family) → Fits m c v → v input.ready ≡ bit_and (v output.ready) (1 - v hold)
+  pub data_is : (c : Contents) (v : Family) → Fits m c v → v output.word ≡ f (v input.word)
+  pub never_done : (c : Contents) (v : Family) → Fits m c v → v o.done ≡ 0
+
+-- The straight form: one module, all assignments, one for each operator beside five, with the ports of this shape, whose every
+-- run gives f of the words that it takes.
+pub record IsStraightForm (shape : Shape) (operators : ℕ) (f : ℕ → ℕ) (d : Design) : Type 0 where
+  pub formed : IsFormed d.modules
+  pub top : Module
+  pub only : d.modules ≡ top ∷ []
+  pub no_registers : (n : ℕ) → is_reg top n ≡ false
+  pub no_memories : top.mems ≡ []
+  pub no_updates : top.updates ≡ []
+  pub no_instances : top.instances ≡ []
+  pub assignments : length top.assigns ≡ operators + 5
+  pub has_shape : HasShape top shape
+  pub gated : IsGated top (outer_of shape top) f
+  pub streams : StreamsAs d top (outer_of shape top) f
+
+-- the straight form of a project
+abbrev pub IsDesignOf : Project → Design → Type 0
+IsDesignOf p d = IsStraightForm (shape_of p) (length p.steps) (result_of p.width p.steps p.result) d

@@ -1,0 +1,42 @@
+// The design of a kernel of sums.
+ghost use Rattle.std.specs.Prelude.{◌≡◌, IfOk};
+ghost use Rattle.sum_module.specs.Designs.{IsSound, IsDesignOf};
+ghost use Rattle.sum_module.specs.Straight.{module_of};
+
+use crate::assigns::assigns;
+use crate::nets::{nets, ports};
+use mx_base::{List, NoMemory, Text};
+use mx_bits::Word;
+use rtl_ir::{Design, Module};
+use std::alloc::Global;
+use sum_source::Project;
+
+const TOP: &[u8] = b"top$project";
+
+fn module(alloc: Global, project: &Project, low: Word) -> Result<Module, NoMemory>
+    requires { IsSound project.now }
+    ensures { IfOk result (λ m. m ≡ module_of project.now low) }
+{
+    Ok(Module {
+        name: Text::from_vec(TOP.to_vec(alloc)?),
+        ports: ports(alloc)?,
+        nets: nets(alloc, project)?,
+        mems: List::new(alloc),
+        assigns: assigns(alloc, project.steps.as_slice(), project.result, low)?,
+        updates: List::new(alloc),
+        instances: List::new(alloc),
+    })
+}
+
+/// The design of a kernel of sums: one module of assignments, whose output gives what the kernel
+/// says of each word of the input, in the edge in which the word is taken.
+pub fn sum_design(alloc: Global, project: &Project) -> Result<Design, NoMemory>
+    requires { IsSound project.now }
+    ensures { IfOk result (λ d. IsDesignOf project.now d) }
+{
+    let mut modules = Vec::new(alloc);
+    modules.push(module(alloc, project, Word::new(0, 1))?)?;
+    Ok(Design {
+        modules: List::from_vec(modules),
+    })
+}
