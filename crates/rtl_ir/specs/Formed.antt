@@ -11,7 +11,7 @@ use Rattle.rtl_ir.specs.declared.design.Instance.{Instance}
 use Rattle.rtl_ir.specs.declared.design.Module.{Module}
 use Rattle.rtl_ir.specs.Value.{width_of, is_reg}
 use Rattle.rtl_ir.specs.Names.{is_name}
-use Rattle.rtl_ir.specs.Operands.{reads, mem_read, bit_numbers, target_net, target_mem}
+use Rattle.rtl_ir.specs.Operands.{IsRead, mem_read, bit_numbers, target_net, target_mem}
 
 -- the name of a net, and none for a number of no net
 abbrev pub net_name : Option Net → List ℕ
@@ -48,7 +48,7 @@ pub record IsFormedPort (m : Module) (p : Port) : Type 0 where
 -- nets and memories are those of the module, and the numbers of a replication or part are at most 128.
 -- The width of a literal is in range by its type
 pub record IsFormedExpr (m : Module) (e : Expr) : Type 0 where
-  pub nets : (i n : ℕ) → slice_get (reads e) i ≡ Some n → n < length m.nets
+  pub nets : (n : ℕ) → IsRead e n → n < length m.nets
   pub mem : (k : ℕ) → mem_read e ≡ Some k → k < length m.mems
   pub numbers : (i x : ℕ) → slice_get (bit_numbers e) i ≡ Some x → x ≤ 128
 

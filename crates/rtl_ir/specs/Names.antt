@@ -21,7 +21,8 @@ continues_name b = begins_name b || is_digit b || nat_eq b 36
 -- the words that are no names
 abbrev pub reserved_words : List (List ℕ)
 reserved_words =
-    codes "module" ∷ codes "endmodule" ∷ codes "input" ∷ codes "output" ∷ codes "wire" ∷ codes "reg" ∷ codes "assign" ∷ codes "always" ∷ codes "posedge" ∷ codes "begin" ∷ codes "end" ∷ codes "if" ∷ []
+    codes "module" ∷ codes "endmodule" ∷ codes "input" ∷ codes "output" ∷ codes "wire" ∷ codes "reg" ∷ codes "assign"
+    ∷ codes "always" ∷ codes "posedge" ∷ codes "begin" ∷ codes "end" ∷ codes "if" ∷ []
 
 abbrev pub is_reserved : List ℕ → Bool
 is_reserved text = list_any (bytes_eq text) reserved_words

@@ -1,5 +1,5 @@
 -- What expressions and updates name: nets and memories, by number.
-use Rattle.std.specs.Prelude.{ℕ, List, [], ◌∷◌, Option, Some, None}
+use Rattle.std.specs.Prelude.{◌≡◌, ℕ, slice_get, List, [], ◌∷◌, Option, Some, None}
 use Rattle.rtl_ir.specs.declared.design.Expr.{Expr}
 use Rattle.rtl_ir.specs.declared.design.Expr.TheVariants.{Net as Plain, Literal, Not, Binary, Concat, Repeat, Part, Choose, Cell}
 use Rattle.rtl_ir.specs.declared.design.Target.{Target}
@@ -16,6 +16,10 @@ reads (Repeat k n) = n ∷ []
 reads (Part n hi lo) = n ∷ []
 reads (Choose n a b) = n ∷ a ∷ b ∷ []
 reads (Cell k n) = n ∷ []
+
+-- a net is one of those that an expression reads
+abbrev pub IsRead : Expr → ℕ → Type 0
+IsRead e n = (i : ℕ) × (slice_get (reads e) i ≡ Some n)
 
 -- the memory that an expression reads
 abbrev pub mem_read : Expr → Option ℕ

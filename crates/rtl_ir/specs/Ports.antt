@@ -8,7 +8,8 @@ use Rattle.rtl_ir.specs.Names.{is_letter, is_digit}
 use Rattle.rtl_ir.specs.Formed.{name_of}
 use Rattle.rtl_ir.specs.Run.{Channel, Outer}
 
--- the names of the kernels; of each scalar its kernel, its name and its width; of each host input and output its name and its width
+-- the names of the kernels; of each scalar its kernel, its name and its width; of each host input and output its name
+-- and its width
 pub record Shape : Type 0 where
   pub kernels : List (List ℕ)
   pub scalars : List (List ℕ × List ℕ × ℕ)
@@ -30,24 +31,43 @@ output_port name width = record { name = name; width = width; output = true }
 -- of each kernel: whether it is held, and how many ticks it runs
 abbrev pub kernel_ports : List (List ℕ) → List PortView
 kernel_ports [] = []
-kernel_ports (k ∷ ks) = input_port (codes "hold$" ++ k) 1 ∷ input_port (codes "ticks$" ++ k) 48 ∷ kernel_ports ks
+kernel_ports (k ∷ ks) =
+    input_port (codes "hold$" ++ k) 1
+    ∷ input_port (codes "ticks$" ++ k) 48
+    ∷ kernel_ports ks
 
 abbrev pub scalar_ports : List (List ℕ × List ℕ × ℕ) → List PortView
 scalar_ports [] = []
-scalar_ports (s ∷ ss) = input_port (codes "scalar$" ++ s.0 ++ codes "$" ++ s.1) s.2 ∷ scalar_ports ss
+scalar_ports (s ∷ ss) =
+    input_port (codes "scalar$" ++ s.0 ++ codes "$" ++ s.1) s.2
+    ∷ scalar_ports ss
 
 abbrev pub host_input_ports : List (List ℕ × ℕ) → List PortView
 host_input_ports [] = []
-host_input_ports (x ∷ xs) = input_port (codes "in$" ++ x.0 ++ codes "$data") x.1 ∷ input_port (codes "in$" ++ x.0 ++ codes "$valid") 1 ∷ output_port (codes "in$" ++ x.0 ++ codes "$ready") 1 ∷ host_input_ports xs
+host_input_ports (x ∷ xs) =
+    input_port (codes "in$" ++ x.0 ++ codes "$data") x.1
+    ∷ input_port (codes "in$" ++ x.0 ++ codes "$valid") 1
+    ∷ output_port (codes "in$" ++ x.0 ++ codes "$ready") 1
+    ∷ host_input_ports xs
 
 abbrev pub host_output_ports : List (List ℕ × ℕ) → List PortView
 host_output_ports [] = []
-host_output_ports (y ∷ ys) = output_port (codes "out$" ++ y.0 ++ codes "$data") y.1 ∷ output_port (codes "out$" ++ y.0 ++ codes "$valid") 1 ∷ input_port (codes "out$" ++ y.0 ++ codes "$ready") 1 ∷ host_output_ports ys
+host_output_ports (y ∷ ys) =
+    output_port (codes "out$" ++ y.0 ++ codes "$data") y.1
+    ∷ output_port (codes "out$" ++ y.0 ++ codes "$valid") 1
+    ∷ input_port (codes "out$" ++ y.0 ++ codes "$ready") 1
+    ∷ host_output_ports ys
 
 -- the ports of this shape, in order
 abbrev pub shape_ports : Shape → List PortView
 shape_ports s =
-    input_port (codes "clk") 1 ∷ input_port (codes "reset") 1 ∷ (kernel_ports s.kernels ++ scalar_ports s.scalars ++ host_input_ports s.inputs ++ host_output_ports s.outputs ++ output_port (codes "done") 1 ∷ [])
+    input_port (codes "clk") 1
+    ∷ input_port (codes "reset") 1
+    ∷ (kernel_ports s.kernels
+    ++ scalar_ports s.scalars
+    ++ host_input_ports s.inputs
+    ++ host_output_ports s.outputs
+    ++ output_port (codes "done") 1 ∷ [])
 
 -- the ports of a module, in order
 abbrev pub port_view : Module → Port → PortView
@@ -83,18 +103,22 @@ port_net (Some p) = p.net
 abbrev pub net_at : Module → ℕ → ℕ
 net_at m k = port_net (slice_get m.ports k)
 
--- the nets of ports from number k on: one for each of the list, two of which one is skipped, or three
+-- the nets of ports from number k on, as many as the list is long
 abbrev pub nets_from : {A : Type 0} → Module → ℕ → List A → List ℕ
 nets_from m k [] = []
 nets_from m k (x ∷ xs) = net_at m k ∷ nets_from m (k + 1) xs
 
+-- the same of every second port
 abbrev pub second_nets_from : {A : Type 0} → Module → ℕ → List A → List ℕ
 second_nets_from m k [] = []
 second_nets_from m k (x ∷ xs) = net_at m k ∷ second_nets_from m (k + 2) xs
 
+-- the same of three ports at a time, as the channels that they are
 abbrev pub channels_from : {A : Type 0} → Module → ℕ → List A → List Channel
 channels_from m k [] = []
-channels_from m k (x ∷ xs) = record { word = net_at m k; valid = net_at m (k + 1); ready = net_at m (k + 2) } ∷ channels_from m (k + 3) xs
+channels_from m k (x ∷ xs) =
+    record { word = net_at m k; valid = net_at m (k + 1); ready = net_at m (k + 2) }
+    ∷ channels_from m (k + 3) xs
 
 -- the number of the first port of each kind
 abbrev pub first_scalar : Shape → ℕ

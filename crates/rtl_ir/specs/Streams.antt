@@ -20,4 +20,8 @@ pub record StreamsAs (d : Design) (m : Module) (o : Outer) (f : ℕ → ℕ) : T
   pub inputs : o.inputs ≡ input ∷ []
   pub output : Channel
   pub outputs : o.outputs ≡ output ∷ []
-  pub runs : (c : AllContents) (steady words : List ℕ) (events : List Event) (vs : List Families) → EdgesFlat d m c vs → IsDriven o steady (words ∷ []) events (own_of vs) → Streams f words (moved input (own_of vs)) (moved output (own_of vs))
+  pub runs :
+      (c : AllContents) (steady words : List ℕ) (events : List Event) (vs : List Families)
+      → EdgesFlat d m c vs
+      → IsDriven o steady (words ∷ []) events (own_of vs)
+      → Streams f words (moved input (own_of vs)) (moved output (own_of vs))
