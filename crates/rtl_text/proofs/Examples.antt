@@ -1,7 +1,8 @@
 -- Words and the tokens that they are.
 use Rattle.std.proofs.Common.{◌≡◌, refl, true, false}
 use Rattle.std.specs.Prelude.{codes, Some, None}
-use Rattle.rtl_text.specs.Tokens.{Token, token_of, is_name}
+use Rattle.rtl_ir.specs.Names.{is_name}
+use Rattle.rtl_text.specs.Tokens.{Token, token_of}
 
 dollar_is : token_of (codes "in$x$data") ≡ Some (Token.Word (codes "in$x$data"))
 dollar_is = refl

@@ -2,8 +2,9 @@
 use Rattle.std.specs.Prelude.{ℕ, Bool, true, false, ◌&&◌, ◌||◌, ◌==◌, not, List, [], ◌∷◌, Option, Some, None, if◌then◌else◌, codes}
 use Rattle.std.specs.List.{list_all, list_any, before_first, after_first}
 use Rattle.std.specs.Str.{bytes_eq}
-use Rattle.grammar.specs.Bytes.{is_digit, is_letter, is_hex, decimal, hexadecimal}
+use Rattle.grammar.specs.Bytes.{is_digit, is_hex, decimal, hexadecimal}
 use Rattle.grammar.specs.Tokens.{IsText, Gaps}
+use Rattle.rtl_ir.specs.Names.{begins_name, continues_name}
 
 pub data Token : Type 0 where
   Word : List ℕ → Token  -- a name or a reserved word
@@ -11,16 +12,9 @@ pub data Token : Type 0 where
   Literal : ℕ → ℕ → Token  -- a width, `'h` and hexadecimal digits
   Sign : List ℕ → Token
 
-abbrev pub is_name_start : ℕ → Bool
-is_name_start b = is_letter b || b == 95
-
--- a letter, a digit, `_` or `$`
-abbrev pub is_name_byte : ℕ → Bool
-is_name_byte b = is_letter b || (is_digit b || (b == 95 || b == 36))
-
 abbrev pub is_word : List ℕ → Bool
 is_word [] = false
-is_word (b ∷ bs) = is_name_start b && list_all is_name_byte bs
+is_word (b ∷ bs) = begins_name b && list_all continues_name bs
 
 abbrev pub is_number : List ℕ → Bool
 is_number [] = false
@@ -64,15 +58,3 @@ Apart t rest = Unit {0}
 -- the bytes are these tokens, with white space and comments among them
 abbrev pub IsTokens : List ℕ → List Token → Type 0
 IsTokens bytes ts = IsText Gaps token_of Apart bytes ts
-
--- the words that are no names
-abbrev pub reserved_words : List (List ℕ)
-reserved_words =
-    codes "module" ∷ codes "endmodule" ∷ codes "input" ∷ codes "output" ∷ codes "wire" ∷ codes "reg" ∷ codes "assign" ∷ codes "always"
-    ∷ codes "posedge" ∷ codes "begin" ∷ codes "end" ∷ codes "if" ∷ []
-
-abbrev pub is_reserved : List ℕ → Bool
-is_reserved word = list_any (bytes_eq word) reserved_words
-
-abbrev pub is_name : List ℕ → Bool
-is_name word = is_word word && not (is_reserved word)

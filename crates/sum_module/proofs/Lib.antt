@@ -1,6 +1,11 @@
+pub mod Items
 pub mod Sums
 pub mod Runs
 pub mod Wires
 pub mod Names
 pub mod Formed
+pub mod Differ
+pub mod Driven
+pub mod Levels
+pub mod Accepted
 pub mod Form

@@ -1,6 +1,6 @@
 -- The names of the module's nets are names.
-use Rattle.std.proofs.Common.{◌≡◌, ℕ, ◌+◌, ◌/◌, ◌%◌, ◌<◌, ◌≤◌, ◌^◌, ◌++◌, ◌∷◌, [], List, refl, sym, ap, ◌∙◌, arith}
-use Rattle.std.specs.Prelude.{codes, Bool, true, false, ◌&&◌, ◌||◌, not, IsTrue, nat_eq, nat_le, bytes_eq}
+use Rattle.std.proofs.Common.{◌≡◌, ℕ, ◌+◌, ◌%◌, ◌<◌, ◌^◌, ◌++◌, ◌∷◌, [], List, refl, ap, ◌∙◌, arith}
+use Rattle.std.specs.Prelude.{codes, Bool, true, false, ◌&&◌, ◌||◌, nat_eq, bytes_eq}
 use Rattle.std.specs.List.{list_all}
 use Rattle.std.specs.Fmt.{decimal}
 use Rattle.std.proofs.lemmas.Fmt.{decimal_by_steps}

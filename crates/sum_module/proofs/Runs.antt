@@ -2,10 +2,9 @@
 use Rattle.std.proofs.Common.{◌≡◌, ℕ, zero, suc, ◌-◌, ◌≤◌, Bool, true, false, cond, ◌&&◌, List, [], ◌∷◌, Some, length, map, take, drop, eqb, refl, sym, ap, ◌∙◌, arith}
 use Rattle.std.specs.Prelude.{bit_and}
 use Rattle.std.proofs.lemmas.Bool.{false≢true}
-use Rattle.rtl_ir.specs.Value.{Family, Contents, bit}
+use Rattle.rtl_ir.specs.Value.{Family, bit}
 use Rattle.rtl_ir.specs.Run.{Outer, Event, IsDriven, moved, moves, Offered, Under, IsReset, Driven, Agrees}
 use Rattle.rtl_ir.specs.declared.design.Design.{Design}
-use Rattle.rtl_ir.specs.declared.design.Module.{Module}
 use Rattle.rtl_ir.specs.Flat.{AllContents, Families, EdgesFlat, after_flat}
 use Rattle.rtl_ir.specs.Parts.{own_of}
 use Rattle.rtl_ir.specs.Ports.{outer_of}

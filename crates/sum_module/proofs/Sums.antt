@@ -1,7 +1,7 @@
 -- The straight form streams its sum.
 use Rattle.std.proofs.lemmas.Bool.{cases_lt}
 use Rattle.std.proofs.lemmas.List.{get_or_append_left, get_or_push}
-use Rattle.std.proofs.Common.{add-zero, ⊎_elim, ◌≡◌, ℕ, zero, suc, ◌+◌, ◌-◌, ◌%◌, ◌^◌, ◌<◌, ◌≤◌, Bool, true, false, cond, List, [], ◌∷◌, ◌++◌, Some, length, get_or, refl, sym, ap, ◌∙◌, subst, arith}
+use Rattle.std.proofs.Common.{add-zero, ⊎_elim, ◌≡◌, ℕ, zero, suc, ◌+◌, ◌-◌, ◌%◌, ◌^◌, ◌<◌, ◌≤◌, Bool, true, false, cond, List, [], ◌∷◌, ◌++◌, length, get_or, refl, sym, ap, ◌∙◌, subst, arith}
 use Rattle.std.specs.Prelude.{slice_get, bit_and}
 use Rattle.std.proofs.lemmas.Grind.{common_steps}
 use Rattle.rtl_ir.specs.declared.design.Module.{Module}
@@ -21,7 +21,7 @@ wires_at w k [] j h = absurd (omega arith)
 wires_at w k (s ∷ steps) zero h = refl
 wires_at w k (s ∷ steps) (suc j) h = wires_at w (k + 1) steps j (omega arith)
 
-width_is : (p : Project) (low : Word) (j : ℕ) → j < length p.steps → width_of (module_of p low) (12 + j) ≡ p.width
+pub width_is : (p : Project) (low : Word) (j : ℕ) → j < length p.steps → width_of (module_of p low) (12 + j) ≡ p.width
 width_is p low j h =
     let e : 12 + j ≡ suc (suc (suc (suc (suc (suc (suc (suc (suc (suc (suc (suc j))))))))))) = omega arith in
     rw e (wires_at p.width 0 p.steps j h)

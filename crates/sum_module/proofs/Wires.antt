@@ -1,9 +1,8 @@
 -- The wires of the operators.
-use Rattle.std.proofs.Common.{◌≡◌, ℕ, zero, suc, ◌+◌, ◌<◌, ◌++◌, ◌∷◌, [], List, length, drop, refl, arith}
+use Rattle.std.proofs.Common.{ap, ◌≡◌, ℕ, zero, suc, ◌+◌, ◌<◌, ◌++◌, ◌∷◌, [], List, length, drop, refl, arith}
 use Rattle.std.specs.Prelude.{codes, false, slice_get}
 use Rattle.std.specs.Fmt.{decimal}
 use Rattle.rtl_ir.specs.declared.design.Net.{Net}
-use Rattle.rtl_ir.specs.declared.design.Assign.{Assign}
 use Rattle.rtl_ir.specs.Value.{net_kept}
 use Rattle.sum_source.specs.declared.project.Step.{Step}
 use Rattle.sum_module.specs.Straight.{wire, step_wires, step_assigns}
@@ -28,6 +27,6 @@ pub wires_kept_none : (w k : ℕ) (steps : List Step) → NoRegisters (step_wire
 wires_kept_none w k [] = tt
 wires_kept_none w k (s ∷ steps) = (refl, wires_kept_none w (k + 1) steps)
 
-pub length-step_assigns : (k : ℕ) (steps : List Step) (last : List Assign) → length (step_assigns k steps ++ last) ≡ length steps + length last
-length-step_assigns k [] last = omega arith
-length-step_assigns k (s ∷ steps) last = let e = length-step_assigns (k + 1) steps last in omega arith
+pub length-steps : (k : ℕ) (steps : List Step) → length (step_assigns k steps) ≡ length steps
+length-steps k [] = refl
+length-steps k (s ∷ steps) = ap suc (length-steps (k + 1) steps)

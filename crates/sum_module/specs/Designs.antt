@@ -1,10 +1,10 @@
 -- What the design of a kernel of sums is.
-use Rattle.std.specs.Prelude.{◌≡◌, ◌≤◌, ◌+◌, ◌-◌, ℕ, false, List, [], ◌∷◌, length, bit_and, IsTrue}
+use Rattle.std.specs.Prelude.{◌≡◌, ◌≤◌, ◌+◌, ◌-◌, ℕ, false, [], ◌∷◌, length, bit_and, IsTrue}
 use Rattle.rtl_ir.specs.declared.design.Design.{Design}
 use Rattle.rtl_ir.specs.declared.design.Module.{Module}
 use Rattle.rtl_ir.specs.Value.{is_reg, Contents, Family}
 use Rattle.rtl_ir.specs.Edge.{Fits}
-use Rattle.rtl_ir.specs.Formed.{IsFormed}
+use Rattle.rtl_ir.specs.Rules.{IsAccepted}
 use Rattle.rtl_ir.specs.Run.{Channel, Outer}
 use Rattle.rtl_ir.specs.Ports.{is_plain_name, Shape, HasShape, outer_of}
 use Rattle.rtl_ir.specs.Streams.{StreamsAs}
@@ -37,10 +37,11 @@ pub record IsGated (m : Module) (o : Outer) (f : ℕ → ℕ) : Type 0 where
   pub data_is : (c : Contents) (v : Family) → Fits m c v → v output.word ≡ f (v input.word)
   pub never_done : (c : Contents) (v : Family) → Fits m c v → v o.done ≡ 0
 
--- The straight form: one module, all assignments, one for each operator beside five, with the ports of this shape, whose every
--- run gives f of the words that it takes.
+-- The straight form: an accepted design of one module, all assignments, one for each operator beside five, with the ports of
+-- this shape, whose every run gives f of the words that it takes. Since no net of an accepted design hangs on itself, each edge
+-- has values of the nets, and what is said of every run is said of some.
 pub record IsStraightForm (shape : Shape) (operators : ℕ) (f : ℕ → ℕ) (d : Design) : Type 0 where
-  pub formed : IsFormed d.modules
+  pub accepted : IsAccepted d
   pub top : Module
   pub only : d.modules ≡ top ∷ []
   pub no_registers : (n : ℕ) → is_reg top n ≡ false

@@ -1,5 +1,5 @@
 -- The module of a kernel of sums: all assignments, no register.
-use Rattle.std.specs.Prelude.{◌≡◌, ℕ, zero, suc, ◌+◌, List, [], ◌∷◌, ◌++◌, length, Bool, true, false, if◌then◌else◌, codes}
+use Rattle.std.specs.Prelude.{ℕ, zero, suc, ◌+◌, List, [], ◌∷◌, ◌++◌, Bool, true, false, if◌then◌else◌, codes}
 use Rattle.std.specs.Fmt.{decimal}
 use Rattle.mx_bits.specs.declared.word.Word.{Word}
 use Rattle.rtl_ir.specs.declared.design.Net.{Net}
@@ -9,7 +9,7 @@ use Rattle.rtl_ir.specs.declared.design.Assign.{Assign}
 use Rattle.rtl_ir.specs.declared.design.Sign.{Sign}
 use Rattle.rtl_ir.specs.declared.design.Sign.TheVariants.{Add, Sub, And}
 use Rattle.rtl_ir.specs.declared.design.Expr.TheVariants as exprs
-use Rattle.rtl_ir.specs.Run.{Channel, Outer}
+use Rattle.rtl_ir.specs.Run.{Channel}
 use Rattle.rtl_ir.specs.Ports.{Shape}
 use Rattle.sum_source.specs.declared.project.Step.{Step}
 use Rattle.sum_source.specs.declared.project.Project.{Project}

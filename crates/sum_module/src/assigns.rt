@@ -74,7 +74,12 @@ fn push_last(assigns: &mut Vec<Assign>, value: u32, low: Word) -> Result<(), NoM
 
 /// The assignments: the gate, one for each operator, the output's data and valid, the input's ready,
 /// and done.
-pub fn assigns(alloc: Global, steps: &[Step], value: u32, low: Word) -> Result<List<Assign>, NoMemory>
+pub fn assigns(
+    alloc: Global,
+    steps: &[Step],
+    value: u32,
+    low: Word,
+) -> Result<List<Assign>, NoMemory>
     requires order { InOrder 0 steps.now }
     requires few { length steps.now ≤ 510 }
     requires within { value ≤ length steps.now }

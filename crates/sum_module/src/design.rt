@@ -28,8 +28,18 @@ fn module(alloc: Global, project: &Project, low: Word) -> Result<Module, NoMemor
     })
 }
 
-/// The design of a kernel of sums: one module of assignments, whose output gives what the kernel
-/// says of each word of the input, in the edge in which the word is taken.
+/// The design of a kernel of sums: one module `top$project` of assignments, with no register. In the
+/// edge in which a word of the input is taken, the output has what the kernel says of it.
+///
+/// For the kernel K, its input X and its output Y of w bits, the inputs are `clk`, `reset`, `hold$K`
+/// and `out$Y$ready` of 1 bit, `ticks$K` of 48 bits, and `in$X$data` of w bits with `in$X$valid` of
+/// 1 bit. The outputs are `out$Y$data` of w bits, and `out$Y$valid`, `in$X$ready` and `done` of
+/// 1 bit. While `hold$K` is 1, neither side gives or takes a word. `done` is always 0.
+///
+/// The design is accepted by the rules of `rtl_ir`: each net but the inputs has one driver, widths
+/// agree, names differ, and no net hangs on itself.
+///
+/// The only error is `NoMemory`.
 pub fn sum_design(alloc: Global, project: &Project) -> Result<Design, NoMemory>
     requires { IsSound project.now }
     ensures { IfOk result (λ d. IsDesignOf project.now d) }

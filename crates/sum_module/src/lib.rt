@@ -6,3 +6,6 @@ mod design;
 mod nets;
 
 pub use design::sum_design;
+
+#[cfg(test)]
+mod tests;

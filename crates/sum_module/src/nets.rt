@@ -76,7 +76,13 @@ fn push_kernel(alloc: Global, nets: &mut Vec<Net>, kernel: &Text) -> Result<(), 
 }
 
 // The three nets of a stream.
-fn push_stream(alloc: Global, nets: &mut Vec<Net>, side: &[u8], name: &Text, width: u8) -> Result<(), NoMemory>
+fn push_stream(
+    alloc: Global,
+    nets: &mut Vec<Net>,
+    side: &[u8],
+    name: &Text,
+    width: u8,
+) -> Result<(), NoMemory>
     ensures { OnOk result (nets.new.items ≡ nets.old.items
         ++ wire (side.now ++ (name.now ++ codes "$data")) width ∷ wire (side.now ++ (name.now ++ codes "$valid")) 1 ∷ wire (side.now ++ (name.now ++ codes "$ready")) 1 ∷ []) }
 {

@@ -1,5 +1,5 @@
 -- What is made of a source.
-use Rattle.std.specs.Prelude.{◌≡◌, ◌≤◌, ◌<◌, ◌+◌, ◌^◌, ℕ, List, length, sum_by}
+use Rattle.std.specs.Prelude.{◌≡◌, ◌≤◌, ◌+◌, ℕ, List, length, sum_by}
 use Rattle.grammar.specs.Bytes.{decimal}
 use Rattle.sum_source.specs.Source.{Source, IsSource, Local, operators_of, output_of}
 use Rattle.sum_source.specs.Steps.{InOrder, result_of}
@@ -14,7 +14,7 @@ pub record Says (s : Source) (p : Project) : Type 0 where
   pub operators : length p.steps ≡ sum_by (λ (l : Local). operators_of l.sum) s.locals + operators_of s.result
   pub order : InOrder 0 p.steps
   pub within : p.result ≤ length p.steps
-  pub value : (x : ℕ) → x < 2 ^ p.width → result_of p.width p.steps p.result x ≡ output_of s x
+  pub value : (x : ℕ) → result_of p.width p.steps p.result x ≡ output_of s x
 
 -- the bytes are a source that says this kernel
 pub record IsProject (bytes : List ℕ) (p : Project) : Type 0 where

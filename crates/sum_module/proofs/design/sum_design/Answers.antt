@@ -1,6 +1,5 @@
-use Rattle.std.proofs.Common.{◌≡◌, ◌∷◌, [], ap, sym, ◌∙◌, ◌++◌, List}
+use Rattle.std.proofs.Common.{◌≡◌, ◌∷◌, [], ◌∙◌, ◌++◌, List}
 use Rattle.rtl_ir.specs.declared.design.Module.{Module}
-use Rattle.sum_module.specs.Straight.{module_of}
 use Rattle.sum_module.proofs.Form.{straight_form}
 use Rattle.sum_module.proofs.design.sum_design.Goals as goal
 
@@ -9,5 +8,5 @@ alone before after m n empty same e = cc
 
 pub returns : goal.returns
 returns c =
-    straight_form c.args.project.now c.new.result _ c.requires c.new.ensures.bits
+    straight_form c.args.project.now c.new.result _ c.requires c.new.ensures.bits c.new.ensures.width
     (alone c.new-modules.result.items _ _ _ c.new-modules.ensures.items c.in_ok-module.ensures (c.from_vec.ensures ∙ c.in_ok-push.ensures.items))

@@ -1,4 +1,4 @@
-use Rattle.std.proofs.Common.{arith, add-one}
+use Rattle.std.proofs.Common.{arith}
 use Rattle.std.proofs.lemmas.Grind.{common_steps}
 use Rattle.sum_module.proofs.Wires.{wires_more}
 use Rattle.sum_module.proofs.nets.push_steps.Goals as goal

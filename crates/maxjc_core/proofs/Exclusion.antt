@@ -1,0 +1,38 @@
+-- A project that is built has no cause of a refusal.
+use Rattle.std.proofs.Common.{◌≡◌, ◌<◌, ◌≤◌, ℕ, List, Some, None, length, arith, refl, sym, subst, ◌∙◌}
+use Rattle.std.specs.Prelude.{IsSome}
+use Rattle.mx_base.specs.Files.{Held, Name, Holds}
+use Rattle.maxjc_core.specs.Command.{Names}
+use Rattle.maxjc_core.specs.Causes.{Cause, file_limit, IsWithin, IsPast, Stands, IsBuilt, IsOfNoForm}
+use Rattle.maxjc_core.specs.Stops.{IsCompiled}
+
+-- a file that is held is told
+pub told : (held : Held) (name : Name) (bytes : List ℕ) → Holds held name bytes → IsSome held
+told None name bytes h = absurd (cc)
+told (Some m) name bytes h = refl
+
+same_bytes : (held : Held) (name : Name) (a b : List ℕ) → Holds held name a → Holds held name b → a ≡ b
+same_bytes held name a b h k = cc
+
+not_past : (held : Held) (name : Name) (bytes : List ℕ) → IsPast held name → IsWithin held name bytes → ⊥
+not_past held name bytes past within =
+    let same = same_bytes held name past.bytes bytes past.holds within.holds in
+    let large : file_limit < length bytes = subst (λ (b : List ℕ). file_limit < length b) same past.past in
+    let small = within.within in
+    omega arith
+
+pub excluded : (names : Names) (held : Held) (cause : Cause) → Stands names held cause → IsBuilt names held → ⊥
+excluded names held cause (Stands.source_too_large past) built = not_past held names.source _ past built.files.source_is
+excluded names held cause (Stands.table_too_large after) built = not_past held names.table _ after.then_table built.files.table_is
+excluded names held cause (Stands.not_built files none) built =
+    let same = same_bytes held names.source files.source built.files.source files.source_is.holds built.files.source_is.holds in
+    subst IsOfNoForm same none built.kernel built.is
+
+-- where a cause stands the source is held
+pub told_from_cause : (names : Names) (held : Held) (cause : Cause) → Stands names held cause → IsSome held
+told_from_cause names held cause (Stands.source_too_large past) = told held names.source past.bytes past.holds
+told_from_cause names held cause (Stands.table_too_large after) = told held names.source after.source after.source_is.holds
+told_from_cause names held cause (Stands.not_built files none) = told held names.source files.source files.source_is.holds
+
+pub built_from_compiled : (names : Names) (held : Held) (text line : List ℕ) → IsCompiled names held text line → IsBuilt names held
+built_from_compiled names held text line c = record { files = c.files; kernel = c.compiles.kernel; is = c.compiles.is }

@@ -1,0 +1,35 @@
+-- What `compile` makes of a source.
+use Rattle.std.specs.Prelude.{ℕ, ◌≡◌, ◌+◌, List, [], ◌∷◌, ◌++◌, sum_by, codes}
+use Rattle.grammar.specs.Bytes.{decimal}
+use Rattle.rtl_ir.specs.declared.design.Design.{Design}
+use Rattle.rtl_ir.specs.Ports.{Shape}
+use Rattle.rtl_text.specs.Text.{TextOf}
+use Rattle.sum_source.specs.Source.{Source, IsSource, Local, operators_of, output_of}
+use Rattle.sum_module.specs.Designs.{IsStraightForm}
+
+-- the ports that the text of a kernel of sums has
+abbrev pub kernel_shape : Source → Shape
+kernel_shape s = record {
+  kernels = s.name ∷ [];
+  scalars = [];
+  inputs = (s.input, decimal s.digits) ∷ [];
+  outputs = (s.output, decimal s.digits) ∷ [];
+}
+
+-- how many `+` and `-` a source has
+abbrev pub operators_in : Source → ℕ
+operators_in s = sum_by (λ (l : Local). operators_of l.sum) s.locals + operators_of s.result
+
+-- the summary: `kernel NAME fifo 0`
+abbrev pub summary_of : Source → List ℕ
+summary_of s = codes "kernel " ++ s.name ++ codes " fifo 0\n"
+
+-- The bytes of a source, the text made of them, and the line said: the text is a text of a design of the straight form of
+-- that kernel, and every run of this design agrees with a prefix of the sums.
+pub record Compiles (source text line : List ℕ) : Type 0 where
+  pub kernel : Source
+  pub is : IsSource source kernel
+  pub design : Design
+  pub text_of : TextOf text design
+  pub straight : IsStraightForm (kernel_shape kernel) (operators_in kernel) (output_of kernel) design
+  pub summary : line ≡ summary_of kernel

@@ -1,0 +1,9 @@
+pub mod Command
+pub mod Causes
+pub mod Compiling
+pub mod Ends
+pub mod Codes
+pub mod Named
+pub mod Refusals
+pub mod Emitting
+pub mod Stops

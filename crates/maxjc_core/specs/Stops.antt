@@ -1,0 +1,26 @@
+-- What compiling answers before anything is written, as the code has it.
+use Rattle.std.specs.Prelude.{ℕ, List, IsSome, Result, Ok, Err}
+use Rattle.mx_base.specs.Files.{Held}
+use Rattle.maxjc_core.specs.Command.{Names}
+use Rattle.maxjc_core.specs.Causes.{Cause, IsReadable, Stands}
+use Rattle.maxjc_core.specs.Refusals.{cause_told}
+use Rattle.maxjc_core.specs.Compiling.{Compiles}
+use Rattle.maxjc_core.specs.declared.compile.Stop.{Stop}
+use Rattle.maxjc_core.specs.declared.compile.Stop.TheVariants as stops
+use Rattle.maxjc_core.specs.declared.compile.Compiled.{Compiled}
+
+-- this holds of the cause of a refusal
+abbrev pub IfRefused : Stop → (Cause → Type 0) → Type 0
+IfRefused (stops.Refused refusal) P = P (cause_told refusal)
+IfRefused stops.ReadFault P = Unit {0}
+IfRefused stops.NoMemory P = Unit {0}
+
+-- the files that are read, and what is made of the source
+pub record IsCompiled (names : Names) (held : Held) (text line : List ℕ) : Type 0 where
+  pub files : IsReadable names held
+  pub compiles : Compiles files.source text line
+
+-- of what the files hold, where they are told: what is made of them, or why they are refused
+abbrev pub Answers : Names → Held → Result Compiled Stop → Type 0
+Answers names held (Ok compiled) = IsSome held → IsCompiled names held compiled.text.items compiled.summary.items
+Answers names held (Err stop) = IfRefused stop (λ cause. IsSome held → Stands names held cause)

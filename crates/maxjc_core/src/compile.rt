@@ -1,0 +1,137 @@
+// Reads a project and compiles it. No file is changed here.
+ghost use Rattle.std.specs.Prelude.{◌≡◌, ◌≤◌, ◌<◌, ◌⊎◌, ◌++◌, ◌∷◌, List, ℕ, Err, IfOk, IfErr, IfSome, IfNone, length, codes, OnOk};
+ghost use Rattle.mx_base.specs.Counts.{Rose};
+ghost use Rattle.mx_base.specs.Files.{Holds, Lacks};
+ghost use Rattle.maxjc_core.specs.Causes.{file_limit, IsMissing, IsOfNoForm, TooLarge};
+ghost use Rattle.maxjc_core.specs.Compiling.{Compiles};
+ghost use Rattle.maxjc_core.specs.Stops.{IfRefused, Answers};
+ghost use Rattle.maxjc_core.specs.Named.{names_told};
+ghost use Rattle.maxjc_core.specs.Emitting.{Emits};
+ghost use Rattle.sum_module.specs.Designs.{IsSound};
+
+use crate::command::Compile;
+use crate::refusal::Refusal;
+use mx_base::{Files, NoMemory, ReadError, Text, read_whole};
+use std::alloc::Global;
+use sum_module::sum_design;
+use sum_source::{Project, read_sum};
+use verilog_print::print;
+
+const FILE_LIMIT: u64 = 1 << 24;
+
+/// The text of a project, and the line that sums it up.
+#[derive(Drop)]
+pub struct Compiled {
+    pub text: Vec<u8>,
+    pub summary: Vec<u8>,
+}
+
+/// Why a command stops before it writes.
+#[derive(Clone, Copy)]
+pub enum Stop<'a> {
+    Refused(Refusal<'a>),
+    ReadFault,
+    NoMemory,
+}
+
+// The line `kernel NAME fifo 0`.
+fn summary_of(alloc: Global, project: &Project) -> Result<Vec<u8>, NoMemory>
+    ensures { IfOk result (λ line. line.items ≡ codes "kernel " ++ project.now.name ++ codes " fifo 0\n") }
+{
+    let mut line = b"kernel ".to_vec(alloc)?;
+    line.extend_from_slice(project.name.as_bytes())?;
+    line.extend_from_slice(b" fifo 0\n")?;
+    Ok(line)
+}
+
+// The text and the summary of a project.
+fn emit(alloc: Global, project: &Project) -> Result<Compiled, NoMemory>
+    requires { IsSound project.now }
+    ensures { IfOk result (λ c. Emits project.now c) }
+{
+    let summary = summary_of(alloc, project)?;
+    let design = sum_design(alloc, project)?;
+    let mut text = Vec::new(alloc);
+    print(alloc, &design, &mut text)?;
+    Ok(Compiled { text, summary })
+}
+
+// What is made of the bytes of a source, if they are of the form that is built.
+fn build(alloc: Global, source: &[u8]) -> Result<Option<Compiled>, NoMemory>
+    ensures some { IfOk result (λ built. IfSome built (λ c. Compiles source.now c.text.items c.summary.items)) }
+    ensures none { IfOk result (λ built. IfNone built (IsOfNoForm source.now)) }
+{
+    match read_sum(alloc, source)? {
+        Some(project) => Ok(Some(emit(alloc, &project)?)),
+        None => Ok(None),
+    }
+}
+
+// Reads one file of the project.
+fn read<'a, F: Files>(alloc: Global, files: &mut F, name: &'a Text) -> Result<Vec<u8>, Stop<'a>>
+    ensures same { F.held files.new ≡ F.held files.old }
+    ensures quiet { (result ≡ Err Stop.ReadFault → ⊥) → F.read_faults files.new ≡ F.read_faults files.old }
+    ensures write_quiet { F.write_faults files.new ≡ F.write_faults files.old }
+    ensures fault { result ≡ Err Stop.ReadFault → Rose (F.read_faults files.old) (F.read_faults files.new) ⊎ Lacks (F.held files.old) name.entry.now }
+    ensures lacking { Lacks (F.held files.old) name.entry.now → result ≡ Err Stop.ReadFault }
+    ensures lacking_quiet { Lacks (F.held files.old) name.entry.now → F.read_faults files.new ≡ F.read_faults files.old }
+    ensures refused { IfErr result (λ stop. IfRefused stop (λ cause. cause ≡ TooLarge name.entry.now)) }
+    ensures too_large { (file : List ℕ) → Holds (F.held files.old) name.entry.now file → IfErr result (λ stop. IfRefused stop (λ _. file_limit < length file)) }
+    ensures whole { (file : List ℕ) → Holds (F.held files.old) name.entry.now file → IfOk result (λ bytes. bytes.items ≡ file) }
+    ensures fits { IfOk result (λ bytes. length bytes.items ≤ file_limit) }
+{
+    match read_whole(alloc, files, name, FILE_LIMIT) {
+        Ok(bytes) => Ok(bytes),
+        Err(ReadError::ReadFault) => Err(Stop::ReadFault),
+        Err(ReadError::TooLarge) => Err(Stop::Refused(Refusal::TooLarge(name))),
+        Err(ReadError::NoMemory) => Err(Stop::NoMemory),
+    }
+}
+
+// Reads the table, whose bytes have no effect yet.
+fn skip_table<'a, F: Files>(alloc: Global, files: &mut F, name: &'a Text) -> Result<(), Stop<'a>>
+    ensures same { F.held files.new ≡ F.held files.old }
+    ensures quiet { (result ≡ Err Stop.ReadFault → ⊥) → F.read_faults files.new ≡ F.read_faults files.old }
+    ensures write_quiet { F.write_faults files.new ≡ F.write_faults files.old }
+    ensures fault { result ≡ Err Stop.ReadFault → Rose (F.read_faults files.old) (F.read_faults files.new) ⊎ Lacks (F.held files.old) name.entry.now }
+    ensures lacking { Lacks (F.held files.old) name.entry.now → result ≡ Err Stop.ReadFault }
+    ensures lacking_quiet { Lacks (F.held files.old) name.entry.now → F.read_faults files.new ≡ F.read_faults files.old }
+    ensures refused { IfErr result (λ stop. IfRefused stop (λ cause. cause ≡ TooLarge name.entry.now)) }
+    ensures too_large { (file : List ℕ) → Holds (F.held files.old) name.entry.now file → IfErr result (λ stop. IfRefused stop (λ _. file_limit < length file)) }
+    ensures fits { (file : List ℕ) → Holds (F.held files.old) name.entry.now file → OnOk result (length file ≤ file_limit) }
+{
+    match read(alloc, files, name) {
+        Ok(_table) => Ok(()),
+        Err(stop) => Err(stop),
+    }
+}
+
+/// Reads a project and compiles it. It changes no file.
+pub fn compile<'a, F: Files>(
+    alloc: Global,
+    files: &mut F,
+    names: Compile<'a>,
+) -> Result<Compiled, Stop<'a>>
+    ensures same { F.held files.new ≡ F.held files.old }
+    ensures quiet { (result ≡ Err Stop.ReadFault → ⊥) → F.read_faults files.new ≡ F.read_faults files.old }
+    ensures write_quiet { F.write_faults files.new ≡ F.write_faults files.old }
+
+    // A read fails only where its count rose or the file isn't held, and a file that isn't held is no fault.
+    ensures fault { result ≡ Err Stop.ReadFault → Rose (F.read_faults files.old) (F.read_faults files.new) ⊎ IsMissing (names_told names.entry) (F.held files.old) }
+    ensures missing { IsMissing (names_told names.entry) (F.held files.old) → (result ≡ Err Stop.ReadFault) ⊎ (result ≡ Err Stop.NoMemory) }
+    ensures missing_quiet { Lacks (F.held files.old) names.entry.source.now → F.read_faults files.new ≡ F.read_faults files.old }
+
+    ensures answers { Answers (names_told names.entry) (F.held files.old) result }
+{
+    match read(alloc, files, names.source) {
+        Ok(source) => match skip_table(alloc, files, names.table) {
+            Ok(()) => match build(alloc, source.as_slice()) {
+                Ok(Some(compiled)) => Ok(compiled),
+                Ok(None) => Err(Stop::Refused(Refusal::NotBuilt)),
+                Err(_) => Err(Stop::NoMemory),
+            },
+            Err(stop) => Err(stop),
+        },
+        Err(stop) => Err(stop),
+    }
+}

@@ -1,0 +1,199 @@
+-- The tree of a module is the module, by name.
+use Rattle.std.proofs.Common.{◌≡◌, ◌∙◌, ℕ, suc, ◌+◌, ◌<◌, Bool, true, false, ◌||◌, List, [], ◌∷◌, ◌++◌, length, refl, sym, ap, subst, Some, append_assoc, if◌then◌else◌}
+use Rattle.std.specs.Prelude.{map, slice_get}
+use Rattle.rtl_ir.specs.declared.design.Net.{Net}
+use Rattle.std.proofs.lemmas.List.{append-nil}
+use Rattle.rtl_ir.specs.declared.design.Mem.{Mem}
+use Rattle.rtl_ir.specs.declared.design.Port.{Port}
+use Rattle.rtl_ir.specs.declared.design.Target.{Target}
+use Rattle.rtl_ir.specs.declared.design.Target.TheVariants.{Reg, Cell as Word}
+use Rattle.rtl_ir.specs.declared.design.Update.{Update}
+use Rattle.rtl_ir.specs.Operands.{target_mem}
+use Rattle.rtl_ir.specs.declared.design.Expr.{Expr}
+use Rattle.rtl_ir.specs.declared.design.Expr.TheVariants.{Net as Plain, Literal, Not, Binary, Concat, Repeat, Part as Slice, Choose, Cell}
+use Rattle.rtl_ir.specs.declared.design.Assign.{Assign}
+use Rattle.rtl_ir.specs.declared.design.Module.{Module}
+use Rattle.rtl_ir.specs.declared.design.Design.{Design}
+use Rattle.rtl_ir.specs.Formed.{IsFormedPort, IsFormedExpr, IsFormedAssign, IsFormedUpdate, IsFormedModule}
+use Rattle.rtl_text.specs.Tree.{ItemTree, UpdateTree, WireItem, RegisterItem, MemoryItem, AssignItem, AlwaysItem, InstanceItem}
+use Rattle.rtl_text.specs.Text.{Pairwise, IsNet, PortIs, ExprIs, AssignIs, ModuleIs, is_port, wires_in, wires_from, registers_in, registers_of, memories_in, memories_of, assigns_in, updates_in, instances_in, UpdateIs, InstanceIs, IsMem, Declared, DeclaredMemory, NamedAssign, NamedInstance}
+use Rattle.verilog_print.specs.Straight.{IsStraightModule}
+use Rattle.verilog_print.specs.Printed.{name_of, mem_name}
+use Rattle.verilog_print.proofs.Trees.{net_at, port_tree, port_of, expr_tree, net_item, net_items, memory_item, assign_item, update_of, update_tree, always_items, items_of, module_tree, mem_at}
+
+named : (m : Module) (n : ℕ) → n < length m.nets → IsNet m (name_of m.nets n) n
+named m n h = let (net, e) = net_at m n h in rw e refl
+
+mem_named : (m : Module) (k : ℕ) → k < length m.mems → IsMem m (mem_name (slice_get m.mems k)) k
+mem_named m k h = let (mem, e) = mem_at m k h in rw e refl
+
+expr_is : (m : Module) (e : Expr) → IsFormedExpr m e → ExprIs m (expr_tree m e) e
+unfolding expr_tree
+expr_is m (Plain n) f = named m n (f.nets n (0, refl))
+expr_is m (Literal x) f = (refl, refl)
+expr_is m (Not n) f = named m n (f.nets n (0, refl))
+expr_is m (Binary s a b) f = (refl, named m a (f.nets a (0, refl)), named m b (f.nets b (1, refl)))
+expr_is m (Concat a b) f = (named m a (f.nets a (0, refl)), named m b (f.nets b (1, refl)))
+expr_is m (Repeat k n) f = (refl, named m n (f.nets n (0, refl)))
+expr_is m (Slice n hi lo) f = (refl, refl, named m n (f.nets n (0, refl)))
+expr_is m (Choose c a b) f = (named m c (f.nets c (0, refl)), named m a (f.nets a (1, refl)), named m b (f.nets b (2, refl)))
+expr_is m (Cell k n) f = (mem_named m k (f.mem k refl), named m n (f.nets n (0, refl)))
+
+port_then : (m : Module) (p : Port) (net : Net) → slice_get m.nets p.net ≡ Some net → net.reg ≡ false → (output : Bool) → p.output ≡ output → PortIs m (port_of output net.width net.name) p
+unfolding port_of
+port_then m p net e w true d = record { net = net; of = e; named = refl; wide = refl; wire = w; direction = d }
+port_then m p net e w false d = record { net = net; of = e; named = refl; wide = refl; wire = w; direction = d }
+
+port_is : (m : Module) (p : Port) → IsFormedPort m p → PortIs m (port_tree m.nets p) p
+unfolding port_tree
+port_is m p f = let (net, e) = net_at m p.net f.net in rw e (port_then m p net e (rw e at f.wire) p.output refl)
+
+ports_are : (m : Module) (ports : List Port) → ((k : ℕ) (p : Port) → slice_get ports k ≡ Some p → IsFormedPort m p) → Pairwise (PortIs m) (map (port_tree m.nets) ports) ports
+ports_are m [] f = tt
+ports_are m (p ∷ ports) f = (port_is m p (f 0 p refl), ports_are m ports (λ k q e. f (suc k) q e))
+
+-- the items of a kind in two lists, one behind the other
+record Joined (is js : List ItemTree) : Type 0 where
+  wires : wires_in (is ++ js) ≡ wires_in is ++ wires_in js
+  registers : registers_in (is ++ js) ≡ registers_in is ++ registers_in js
+  memories : memories_in (is ++ js) ≡ memories_in is ++ memories_in js
+  assigns : assigns_in (is ++ js) ≡ assigns_in is ++ assigns_in js
+  updates : updates_in (is ++ js) ≡ updates_in is ++ updates_in js
+  instances : instances_in (is ++ js) ≡ instances_in is ++ instances_in js
+
+joined : (is js : List ItemTree) → Joined is js
+joined [] js = record { wires = refl; registers = refl; memories = refl; assigns = refl; updates = refl; instances = refl }
+joined (WireItem w n ∷ is) js = let r = joined is js in let own : Declared = record { name = n; width = w } in record { wires = ap (λ l. own ∷ l) r.wires; registers = r.registers; memories = r.memories; assigns = r.assigns; updates = r.updates; instances = r.instances }
+joined (RegisterItem w n ∷ is) js = let r = joined is js in record { wires = r.wires; registers = (let own : Declared = record { name = n; width = w } in ap (λ l. own ∷ l) r.registers); memories = r.memories; assigns = r.assigns; updates = r.updates; instances = r.instances }
+joined (MemoryItem w n d ∷ is) js = let r = joined is js in record { wires = r.wires; registers = r.registers; memories = (let own : DeclaredMemory = record { name = n; width = w; depth = d } in ap (λ l. own ∷ l) r.memories); assigns = r.assigns; updates = r.updates; instances = r.instances }
+joined (AssignItem n e ∷ is) js = let r = joined is js in record { wires = r.wires; registers = r.registers; memories = r.memories; assigns = (let own : NamedAssign = record { target = n; expr = e } in ap (λ l. own ∷ l) r.assigns); updates = r.updates; instances = r.instances }
+joined (AlwaysItem us ∷ is) js = let r = joined is js in record { wires = r.wires; registers = r.registers; memories = r.memories; assigns = r.assigns; updates = ap (λ l. us ++ l) r.updates ∙ sym (append_assoc us (updates_in is) (updates_in js)); instances = r.instances }
+joined (InstanceItem o n cs ∷ is) js = let r = joined is js in record { wires = r.wires; registers = r.registers; memories = r.memories; assigns = r.assigns; updates = r.updates; instances = (let own : NamedInstance = record { of = o; name = n; connections = cs } in ap (λ l. own ∷ l) r.instances) }
+
+-- what a list of items declares
+record Declares (is : List ItemTree) (ws rs : List Declared) (ms : List DeclaredMemory) (bs : List NamedAssign) (us : List UpdateTree) (ns : List NamedInstance) : Type 0 where
+  wires : wires_in is ≡ ws
+  registers : registers_in is ≡ rs
+  memories : memories_in is ≡ ms
+  assigns : assigns_in is ≡ bs
+  updates : updates_in is ≡ us
+  instances : instances_in is ≡ ns
+
+net_declares : (reg port : Bool) (n : Net) → Declares (net_item reg port n) (if reg || port then [] else record { name = n.name; width = n.width } ∷ []) (if reg then record { name = n.name; width = n.width } ∷ [] else []) [] [] [] []
+unfolding net_item
+net_declares true port n = record { wires = refl; registers = refl; memories = refl; assigns = refl; updates = refl; instances = refl }
+net_declares false true n = record { wires = refl; registers = refl; memories = refl; assigns = refl; updates = refl; instances = refl }
+net_declares false false n = record { wires = refl; registers = refl; memories = refl; assigns = refl; updates = refl; instances = refl }
+
+shift : {A : Type 0} (b : Bool) (x : A) (xs : List A) → (if b then [] else x ∷ []) ++ xs ≡ (if b then xs else x ∷ xs)
+shift true x xs = refl
+shift false x xs = refl
+
+shift_other : {A : Type 0} (b : Bool) (x : A) (xs : List A) → (if b then x ∷ [] else []) ++ xs ≡ (if b then x ∷ xs else xs)
+shift_other true x xs = refl
+shift_other false x xs = refl
+
+nets_declare : (ports : List Port) (k : ℕ) (nets : List Net) → Declares (net_items ports k nets) (wires_from ports k nets) (registers_of nets) [] [] [] []
+unfolding net_items
+nets_declare ports k [] = record { wires = refl; registers = refl; memories = refl; assigns = refl; updates = refl; instances = refl }
+nets_declare ports k (n ∷ ns) =
+    let own : Declared = record { name = n.name; width = n.width } in
+    let o = net_declares n.reg (is_port ports k) n in
+    let r = nets_declare ports (k + 1) ns in
+    let j = joined (net_item n.reg (is_port ports k) n) (net_items ports (k + 1) ns) in
+    record {
+      wires = j.wires ∙ ap (λ l. l ++ wires_in (net_items ports (k + 1) ns)) o.wires ∙ ap (λ l. (if n.reg || is_port ports k then [] else own ∷ []) ++ l) r.wires ∙ shift (n.reg || is_port ports k) own (wires_from ports (k + 1) ns);
+      registers = j.registers ∙ ap (λ l. l ++ registers_in (net_items ports (k + 1) ns)) o.registers ∙ ap (λ l. (if n.reg then own ∷ [] else []) ++ l) r.registers ∙ shift_other n.reg own (registers_of ns);
+      memories = j.memories ∙ ap (λ l. l ++ memories_in (net_items ports (k + 1) ns)) o.memories ∙ r.memories;
+      assigns = j.assigns ∙ ap (λ l. l ++ assigns_in (net_items ports (k + 1) ns)) o.assigns ∙ r.assigns;
+      updates = j.updates ∙ ap (λ l. l ++ updates_in (net_items ports (k + 1) ns)) o.updates ∙ r.updates;
+      instances = j.instances ∙ ap (λ l. l ++ instances_in (net_items ports (k + 1) ns)) o.instances ∙ r.instances;
+    }
+
+memories_declare : (mems : List Mem) → Declares (map memory_item mems) [] [] (memories_of mems) [] [] []
+unfolding memory_item
+memories_declare [] = record { wires = refl; registers = refl; memories = refl; assigns = refl; updates = refl; instances = refl }
+memories_declare (x ∷ mems) = let r = memories_declare mems in record { wires = r.wires; registers = r.registers; memories = (let own : DeclaredMemory = record { name = x.name; width = x.width; depth = x.depth } in ap (λ l. own ∷ l) r.memories); assigns = r.assigns; updates = r.updates; instances = r.instances }
+
+named_assign : Module → Assign → NamedAssign
+named_assign m a = record { target = name_of m.nets a.target; expr = expr_tree m a.expr }
+
+assigns_declare : (m : Module) (assigns : List Assign) → Declares (map (assign_item m) assigns) [] [] [] (map (named_assign m) assigns) [] []
+unfolding assign_item named_assign
+assigns_declare m [] = record { wires = refl; registers = refl; memories = refl; assigns = refl; updates = refl; instances = refl }
+assigns_declare m (a ∷ assigns) = let r = assigns_declare m assigns in record { wires = r.wires; registers = r.registers; memories = r.memories; assigns = ap (λ l. named_assign m a ∷ l) r.assigns; updates = r.updates; instances = r.instances }
+
+always_declare : (m : Module) (us : List Update) → Declares (always_items m us) [] [] [] [] (map (update_tree m) us) []
+unfolding always_items
+always_declare m [] = record { wires = refl; registers = refl; memories = refl; assigns = refl; updates = refl; instances = refl }
+always_declare m (u ∷ us) = record { wires = refl; registers = refl; memories = refl; assigns = refl; updates = append-nil (map (update_tree m) (u ∷ us)); instances = refl }
+
+assigns_are : (m : Module) (assigns : List Assign) → ((k : ℕ) (a : Assign) → slice_get assigns k ≡ Some a → IsFormedAssign m a) → Pairwise (AssignIs m) (map (named_assign m) assigns) assigns
+unfolding named_assign
+assigns_are m [] f = tt
+assigns_are m (a ∷ assigns) f = let g : IsFormedAssign m a = f 0 a refl in ((named m a.target g.target, expr_is m a.expr g.expr), assigns_are m assigns (λ k x e. f (suc k) x e))
+
+update_is : (m : Module) (u : Update) (t : Target) → u.target ≡ t → IsFormedUpdate m u → UpdateIs m (update_of m (name_of m.nets u.enable) (name_of m.nets u.value) t) u
+unfolding update_of
+update_is m u (Reg n) e f = record { register = n; target = e; named = named m n (rw e at f.net); enabled = named m u.enable f.enable; writes = named m u.value f.value }
+update_is m u (Word k n) e f =
+    record { memory = k; at = n; target = e; named = mem_named m k (f.mem k (ap target_mem e)); addressed = named m n (rw e at f.net); enabled = named m u.enable f.enable; writes = named m u.value f.value }
+
+updates_are : (m : Module) (us : List Update) → ((k : ℕ) (u : Update) → slice_get us k ≡ Some u → IsFormedUpdate m u) → Pairwise (UpdateIs m) (map (update_tree m) us) us
+unfolding update_tree
+updates_are m [] f = tt
+updates_are m (u ∷ us) f = (update_is m u u.target refl (f 0 u refl), updates_are m us (λ k x e. f (suc k) x e))
+
+-- of two lists whose one part is empty
+kept_last : {A : Type 0} {ys : List A} (whole xs ws : List A) → whole ≡ xs ++ ws → xs ≡ [] → ws ≡ ys → whole ≡ ys
+kept_last whole xs ws h e k = h ∙ ap (λ l. l ++ ws) e ∙ k
+
+kept_first : {A : Type 0} {ys : List A} (whole xs ws : List A) → whole ≡ xs ++ ws → xs ≡ ys → ws ≡ [] → whole ≡ ys
+kept_first {ys = ys} whole xs ws h e k = h ∙ ap (λ l. l ++ ws) e ∙ ap (λ l. ys ++ l) k ∙ append-nil ys
+
+empty_both : {A : Type 0} (whole xs ws : List A) → whole ≡ xs ++ ws → xs ≡ [] → ws ≡ [] → whole ≡ []
+empty_both whole xs ws h e k = h ∙ ap (λ l. l ++ ws) e ∙ k
+
+pub module_is : (d : Design) (earlier : List Module) (m : Module) → IsFormedModule earlier m → IsStraightModule m → ModuleIs d (module_tree m) m
+unfolding module_tree items_of
+module_is d earlier m f s =
+    let us : List ItemTree = always_items m m.updates ++ [] in
+    let bs : List ItemTree = map (assign_item m) m.assigns ++ us in
+    let ms : List ItemTree = map memory_item m.mems ++ bs in
+    let n = nets_declare m.ports 0 m.nets in
+    let x = memories_declare m.mems in
+    let a = assigns_declare m m.assigns in
+    let u = always_declare m m.updates in
+    let j = joined (net_items m.ports 0 m.nets) ms in
+    let k = joined (map memory_item m.mems) bs in
+    let l = joined (map (assign_item m) m.assigns) us in
+    let e = append-nil (always_items m m.updates) in
+    let wires : wires_in (net_items m.ports 0 m.nets ++ ms) ≡ wires_from m.ports 0 m.nets =
+    kept_first _ _ _ j.wires n.wires (empty_both _ _ _ k.wires x.wires (empty_both _ _ _ l.wires a.wires (ap wires_in e ∙ u.wires))) in
+    let registers : registers_in (net_items m.ports 0 m.nets ++ ms) ≡ registers_of m.nets =
+    kept_first _ _ _ j.registers n.registers (empty_both _ _ _ k.registers x.registers (empty_both _ _ _ l.registers a.registers (ap registers_in e ∙ u.registers))) in
+    let memories : memories_in (net_items m.ports 0 m.nets ++ ms) ≡ memories_of m.mems =
+    kept_last _ _ _ j.memories n.memories (kept_first _ _ _ k.memories x.memories (empty_both _ _ _ l.memories a.memories (ap memories_in e ∙ u.memories))) in
+    let assigns : assigns_in (net_items m.ports 0 m.nets ++ ms) ≡ map (named_assign m) m.assigns =
+    kept_last _ _ _ j.assigns n.assigns (kept_last _ _ _ k.assigns x.assigns (kept_first _ _ _ l.assigns a.assigns (ap assigns_in e ∙ u.assigns))) in
+    let updates : updates_in (net_items m.ports 0 m.nets ++ ms) ≡ map (update_tree m) m.updates =
+    kept_last _ _ _ j.updates n.updates (kept_last _ _ _ k.updates x.updates (kept_last _ _ _ l.updates a.updates (ap updates_in e ∙ u.updates))) in
+    let instances : instances_in (net_items m.ports 0 m.nets ++ ms) ≡ [] =
+    empty_both _ _ _ j.instances n.instances (empty_both _ _ _ k.instances x.instances (empty_both _ _ _ l.instances a.instances (ap instances_in e ∙ u.instances))) in
+    record {
+      named = refl;
+      ports = ports_are m m.ports f.ports;
+      wires = wires;
+      registers = registers;
+      memories = memories;
+      assigns = subst (λ l. Pairwise (AssignIs m) l m.assigns) (sym assigns) (assigns_are m m.assigns f.assigns);
+      updates = subst (λ l. Pairwise (UpdateIs m) l m.updates) (sym updates) (updates_are m m.updates f.updates);
+      instances = subst (λ l. Pairwise (InstanceIs d m) l m.instances) (sym instances) (subst (λ l. Pairwise (InstanceIs d m) [] l) (sym s.instances) tt);
+    }
+
+pub modules_are : (d : Design) (modules : List Module) → ((k : ℕ) (m : Module) → slice_get modules k ≡ Some m → (before : List Module) × IsFormedModule before m) → ((k : ℕ) (m : Module) → slice_get modules k ≡ Some m → IsStraightModule m)
+    → Pairwise (ModuleIs d) (map module_tree modules) modules
+modules_are d [] f s = tt
+modules_are d (m ∷ modules) f s =
+    let (before, g) = f 0 m refl in
+    (module_is d before m g (s 0 m refl), modules_are d modules (λ k x e. f (suc k) x e) (λ k x e. s (suc k) x e))

@@ -1,0 +1,9 @@
+-- A text of a design behind what was there before.
+use Rattle.std.specs.Prelude.{◌≡◌, ℕ, List, ◌++◌}
+use Rattle.rtl_ir.specs.declared.design.Design.{Design}
+use Rattle.rtl_text.specs.Text.{TextOf}
+
+pub record AppendsText (before after : List ℕ) (d : Design) : Type 0 where
+  pub text : List ℕ
+  pub appended : after ≡ before ++ text
+  pub of : TextOf text d

@@ -1,0 +1,42 @@
+//! Prints a design as a Verilog text (IEEE 1364-2005, the subset of this compiler).
+#![tactic(auto)]
+
+mod expr;
+mod module;
+mod printer;
+mod storage;
+#[cfg(test)]
+mod tests;
+
+ghost use Rattle.std.specs.Prelude.{◌≡◌, OnOk, OnErr};
+ghost use Rattle.rtl_ir.specs.Formed.{IsFormed};
+ghost use Rattle.verilog_print.specs.Appended.{AppendsText};
+ghost use Rattle.verilog_print.specs.Straight.{IsStraight};
+
+use mx_base::NoMemory;
+use printer::Printer;
+use rtl_ir::Design;
+use std::alloc::Global;
+use std::mem;
+
+/// Appends a text of the design: one port, declaration, assignment, update or instance per line.
+/// The design is formed, and no module of it has instances. After want of memory `out` is as it was.
+pub fn print(alloc: Global, design: &Design, out: &mut Vec<u8>) -> Result<(), NoMemory>
+    requires formed { IsFormed design.now.modules }
+    requires straight { IsStraight design.now }
+    ensures ok { OnOk result (AppendsText out.old.items out.new.items design.now) }
+    ensures err { OnErr result (out.new.items ≡ out.old.items) }
+{
+    let mut printer = Printer::after(mem::replace(out, Vec::new(alloc)));
+    match printer.modules(alloc, design.modules.as_slice()) {
+        Ok(()) => {
+            *out = printer.into_vec();
+            Ok(())
+        }
+        Err(error) => {
+            printer.undo();
+            *out = printer.into_vec();
+            Err(error)
+        }
+    }
+}

@@ -1,0 +1,234 @@
+// Texts that were written by hand.
+ghost use Rattle.std.specs.Prelude.{◌<◌, length};
+
+use crate::printer::Printer;
+use mx_base::{List, NoMemory, Text};
+use mx_bits::Word;
+use rtl_ir::{Assign, Expr, Mem, Module, Net, Port, Sign, Target, Update};
+use std::alloc::Global;
+
+fn text(alloc: Global, name: &str) -> Result<Text, NoMemory> {
+    Ok(Text::from_vec(Vec::from_slice(alloc, name.as_bytes())?))
+}
+
+// Nets with these names and widths.
+fn nets(alloc: Global, rows: &[(&str, u8)]) -> Result<List<Net>, NoMemory> {
+    let mut nets = Vec::new(alloc);
+    for &(name, width) in rows {
+        let net = Net {
+            name: text(alloc, name)?,
+            width,
+            reg: false,
+        };
+        nets.push(net)?;
+    }
+    Ok(List::from_vec(nets))
+}
+
+// A module whose first nets are its ports.
+fn module(
+    alloc: Global,
+    name: &str,
+    nets: List<Net>,
+    outputs: &[bool],
+    assigns: &[Assign],
+) -> Result<Module, NoMemory>
+    requires { length outputs.now < 256 }
+{
+    let mut ports = Vec::new(alloc);
+    for (net, output) in outputs.iter().enumerate() {
+        ports.push(Port {
+            net: net as u32,
+            output: *output,
+        })?;
+    }
+    Ok(Module {
+        name: text(alloc, name)?,
+        ports: List::from_vec(ports),
+        nets,
+        mems: List::new(alloc),
+        assigns: List::from_vec(Vec::from_slice(alloc, assigns)?),
+        updates: List::new(alloc),
+        instances: List::new(alloc),
+    })
+}
+
+fn assign(target: u32, expr: Expr) -> Assign {
+    Assign { target, expr }
+}
+
+fn printed(alloc: Global, module: Module) -> Result<Vec<u8>, NoMemory> {
+    let mut modules = Vec::new(alloc);
+    modules.push(module)?;
+    let mut printer = Printer::after(Vec::from_slice(alloc, b"// before\n")?);
+    printer.modules(alloc, modules.as_slice())?;
+    Ok(printer.into_vec())
+}
+
+// The control of a kernel that doubles a stream.
+fn double(alloc: Global) -> Result<Module, NoMemory> {
+    let nets = nets(
+        alloc,
+        &[
+            ("clk", 1),
+            ("reset", 1),
+            ("hold$Double", 1),
+            ("ticks$Double", 48),
+            ("in$x$data", 8),
+            ("in$x$valid", 1),
+            ("in$x$ready", 1),
+            ("out$y$data", 8),
+            ("out$y$valid", 1),
+            ("out$y$ready", 1),
+            ("done", 1),
+            ("w0", 1),
+        ],
+    )?;
+    let outputs = [
+        false, false, false, false, false, false, true, true, true, false, true,
+    ];
+    let assigns = [
+        assign(11, Expr::Not(2)),
+        assign(7, Expr::Binary(Sign::Add, 4, 4)),
+        assign(8, Expr::Binary(Sign::And, 5, 11)),
+        assign(6, Expr::Binary(Sign::And, 9, 11)),
+        assign(10, Expr::Literal(Word::new(0, 1))),
+    ];
+    module(alloc, "top$project", nets, &outputs, &assigns)
+}
+
+const DOUBLE: &str = "// before
+module top$project (
+input wire [0:0] clk,
+input wire [0:0] reset,
+input wire [0:0] hold$Double,
+input wire [47:0] ticks$Double,
+input wire [7:0] in$x$data,
+input wire [0:0] in$x$valid,
+output wire [0:0] in$x$ready,
+output wire [7:0] out$y$data,
+output wire [0:0] out$y$valid,
+input wire [0:0] out$y$ready,
+output wire [0:0] done);
+wire [0:0] w0;
+assign w0 = ~hold$Double;
+assign out$y$data = in$x$data + in$x$data;
+assign out$y$valid = in$x$valid & w0;
+assign in$x$ready = out$y$ready & w0;
+assign done = 1'h0;
+endmodule
+";
+
+// Every form of expression.
+fn forms(alloc: Global) -> Result<Module, NoMemory> {
+    let nets = nets(alloc, &[("clk", 1), ("reset", 1), ("a", 4), ("b", 8)])?;
+    let assigns = [
+        assign(2, Expr::Net(2)),
+        assign(3, Expr::Literal(Word::new(0xabc0_1234_5678_9def, 128))),
+        assign(3, Expr::Not(3)),
+        assign(2, Expr::Binary(Sign::Sub, 2, 3)),
+        assign(2, Expr::Binary(Sign::Mul, 2, 3)),
+        assign(2, Expr::Binary(Sign::Div, 2, 3)),
+        assign(2, Expr::Binary(Sign::Or, 2, 3)),
+        assign(2, Expr::Binary(Sign::Xor, 2, 3)),
+        assign(2, Expr::Binary(Sign::Eq, 2, 3)),
+        assign(2, Expr::Binary(Sign::Lt, 2, 3)),
+        assign(3, Expr::Concat(2, 3)),
+        assign(3, Expr::Repeat(12, 0)),
+        assign(3, Expr::Part(3, 107, 9)),
+        assign(3, Expr::Choose(0, 2, 3)),
+    ];
+    module(alloc, "m", nets, &[false, false], &assigns)
+}
+
+const FORMS: &str = "// before
+module m (
+input wire [0:0] clk,
+input wire [0:0] reset);
+wire [3:0] a;
+wire [7:0] b;
+assign a = a;
+assign b = 128'habc0123456789def;
+assign b = ~b;
+assign a = a - b;
+assign a = a * b;
+assign a = a / b;
+assign a = a | b;
+assign a = a ^ b;
+assign a = a == b;
+assign a = a < b;
+assign b = {a, b};
+assign b = {12{clk}};
+assign b = b[107:9];
+assign b = clk ? a : b;
+endmodule
+";
+
+// A counter that is kept in a register and written to a memory.
+fn store(alloc: Global) -> Result<Module, NoMemory> {
+    let mut counter = module(
+        alloc,
+        "store",
+        nets(alloc, &[("clk", 1), ("reset", 1), ("go", 1), ("next", 4)])?,
+        &[false, false, false],
+        &[assign(3, Expr::Cell(0, 4))],
+    )?;
+    let mut nets = counter.nets.into_vec();
+    nets.push(Net {
+        name: text(alloc, "count")?,
+        width: 4,
+        reg: true,
+    })?;
+    let mut mems = Vec::new(alloc);
+    mems.push(Mem {
+        name: text(alloc, "table")?,
+        width: 4,
+        depth: 16,
+    })?;
+    let updates = [
+        Update {
+            enable: 2,
+            target: Target::Reg(4),
+            value: 3,
+        },
+        Update {
+            enable: 2,
+            target: Target::Cell(0, 4),
+            value: 3,
+        },
+    ];
+    counter.nets = List::from_vec(nets);
+    counter.mems = List::from_vec(mems);
+    counter.updates = List::from_vec(Vec::from_slice(alloc, &updates)?);
+    Ok(counter)
+}
+
+const STORE: &str = "// before
+module store (
+input wire [0:0] clk,
+input wire [0:0] reset,
+input wire [0:0] go);
+wire [3:0] next;
+reg [3:0] count;
+reg [3:0] table [0:15];
+assign next = table[count];
+always @(posedge clk) begin
+if (go) count <= next;
+if (go) table[count] <= next;
+end
+endmodule
+";
+
+#[test]
+fn texts_have_a_line_for_each_part(rt: HostRuntime) -> Result<(), NoMemory> {
+    let alloc = rt.alloc();
+    let rows = [
+        (printed(alloc, double(alloc)?)?, DOUBLE),
+        (printed(alloc, forms(alloc)?)?, FORMS),
+        (printed(alloc, store(alloc)?)?, STORE),
+    ];
+    for (text, want) in rows {
+        assert!(rt; text.as_slice() == want.as_bytes(), "{want}");
+    }
+    Ok(())
+}
