@@ -1,7 +1,7 @@
 -- The next token of a text, and what is left behind it.
-use Rattle.std.proofs.Common.{◌≡◌, ◌∙◌, ℕ, List, [], ◌∷◌, ◌++◌, Option, Some, None, IsSome, refl, sym, ap, subst, append_assoc, ◌⊎◌, inl, inr}
-use Rattle.std.proofs.lemmas.List.{append-nil, append_cancel_left}
-use Rattle.grammar.specs.Tokens.{IsNext, Reads, IsText}
+use Rattle.std.proofs.Common.{◌≡◌, ◌∙◌, ℕ, List, [], ◌∷◌, ◌++◌, Option, Some, None, IsSome, refl, sym, ap, subst, ◌⊎◌, inl, inr}
+use Rattle.std.proofs.lemmas.List.{append-nil}
+use Rattle.grammar.specs.Tokens.{IsNext, Reads}
 
 -- two fronts of one list: the one goes on as the other
 pub two_fronts : {A : Type 0} (a b c d : List A) → a ++ b ≡ c ++ d

@@ -179,11 +179,19 @@ fn a_source_that_is_not_held(rt: HostRuntime) -> Result<(), Fail> {
     Ok(())
 }
 
+// A source with blanks behind it, of this many bytes.
+fn padded(alloc: Global, source: &[u8], size: usize) -> Result<Vec<u8>, Fail> {
+    let mut bytes = source.to_vec(alloc)?;
+    for _ in source.len()..size {
+        bytes.push(b' ')?;
+    }
+    Ok(bytes)
+}
+
 #[test]
 fn a_source_at_the_limit_and_past_it(rt: HostRuntime) -> Result<(), Fail> {
     let alloc = rt.alloc();
-    let mut source = vec![in alloc; b' '; 1 << 24]?;
-    source[..DOUBLE.len()].copy_from_slice(DOUBLE);
+    let mut source = padded(alloc, DOUBLE, 1 << 24)?;
     expect_end(&rt, alloc, &source, Status::Done, b"kernel Double fifo 0\n")?;
     source.push(b' ')?;
     expect_end(&rt, alloc, &source, Status::Refused, b"refused F1 source\n")

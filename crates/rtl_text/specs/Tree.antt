@@ -1,5 +1,5 @@
 -- The tree of a Verilog text, by names.
-use Rattle.std.specs.Prelude.{ℕ, Bool, List}
+use Rattle.std.specs.Prelude.{ℕ, List}
 use Rattle.rtl_ir.specs.declared.design.Sign.{Sign}
 
 abbrev pub Name : Type 0

@@ -1,8 +1,8 @@
 -- Words and the tokens that they are.
-use Rattle.std.proofs.Common.{◌≡◌, refl, true, false}
+use Rattle.std.proofs.Common.{◌≡◌, refl, false}
 use Rattle.std.specs.Prelude.{codes, Some, None, [], ◌∷◌}
 use Rattle.sum_source.specs.Tokens.{Token, token_of, is_name}
-use Rattle.sum_source.specs.Source.{Source, Sum, Local, Term, output_of, tokens_of}
+use Rattle.sum_source.specs.Source.{Source, output_of}
 
 name_is : token_of (codes "x_1") ≡ Some (Token.Word (codes "x_1"))
 name_is = refl

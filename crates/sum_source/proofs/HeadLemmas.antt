@@ -1,5 +1,5 @@
 -- The head and the input of a source, read part by part.
-use Rattle.std.proofs.Common.{◌≡◌, ◌≤◌, ◌∙◌, ℕ, true, false, List, [], ◌∷◌, ◌++◌, refl, sym, ap, subst}
+use Rattle.std.proofs.Common.{◌≡◌, ℕ, true, false, List, [], ◌∷◌, ◌++◌, sym, subst}
 use Rattle.std.specs.Prelude.{codes}
 use Rattle.sum_source.specs.Tokens.{Token, IsTokens, is_plain_name, is_taken}
 use Rattle.sum_source.specs.Source.{Name, Source, IsAllowed, IsVariable, word, sign, head_tokens, input_tokens}

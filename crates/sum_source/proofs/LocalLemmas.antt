@@ -1,20 +1,19 @@
 -- Locals, read one by one.
-use Rattle.std.proofs.Common.{◌≡◌, ◌∙◌, ◌≤◌, ◌+◌, ◌==◌, ◌⊎◌, inl, inr, ℕ, Bool, true, false, cond, List, [], ◌∷◌, ◌++◌, Option, Some, None, IsSome, Contains, length, sum_by, refl, sym, ap, subst, append_assoc, arith}
+use Rattle.std.proofs.Common.{◌≡◌, ◌∙◌, ◌≤◌, ◌+◌, ◌==◌, ◌⊎◌, inl, inr, ℕ, Bool, true, false, cond, List, [], ◌∷◌, ◌++◌, Option, Some, None, IsSome, Contains, length, refl, sym, ap, subst, append_assoc, arith}
 use Rattle.std.specs.Prelude.{codes}
 use Rattle.std.proofs.lemmas.List.{append-nil}
 use Rattle.std.proofs.lemmas.List.Elements.{Contains-append_right, Contains-append_cases, Contains-push_cases}
 use Rattle.std.proofs.lemmas.List.Sums.{sum_by-append}
 use Rattle.std.specs.Str.{bytes_eq}
-use Rattle.sum_source.specs.Tokens.{Token, IsTokens, is_name}
-use Rattle.sum_source.specs.Source.{Name, Term, Sum, Local, Value, word, sign, term_tokens, sum_tokens, local_tokens, operators_of, names_after, values_after, value_in, sum_value, IsVariable, IsClosed, AreDeclared}
+use Rattle.sum_source.specs.Tokens.{Token, IsTokens}
+use Rattle.sum_source.specs.Source.{Name, Term, Sum, Local, Value, word, sign, term_tokens, sum_tokens, local_tokens, operators_of, names_after, sum_value, IsVariable, IsClosed, AreDeclared}
 use Rattle.sum_source.specs.Scanning.{Leads, Misses, mark_token}
 use Rattle.sum_source.specs.Scopes.{Declares}
 use Rattle.sum_source.specs.Reading.{Numbers, AreKnown, IsKnown, Point, IsSound, value_at, Shows, SumIs, IsDeclarable, declaration_tokens, LocalIs, Stage, IsSteady, IsGood, AreGood, operators_in, LocalsAre}
 use Rattle.sum_source.specs.declared.project.Step.{Step}
-use Rattle.sum_source.specs.declared.scan.Mark.{Mark}
 use Rattle.sum_source.specs.declared.scan.Mark.TheVariants.{Semicolon}
 use Rattle.sum_source.proofs.Words.{bytes_refl, bytes_same, true_or_false, not_true, clash, eq_refl}
-use Rattle.sum_source.proofs.Nexts.{leads_none, leads_then, misses_more}
+use Rattle.sum_source.proofs.Nexts.{leads_none, leads_then}
 use Rattle.sum_source.proofs.Walks.{leads_back}
 
 -- the tokens of sums tell the sums

@@ -1,18 +1,18 @@
 -- From the next word of a text to a step through its tokens.
-use Rattle.std.proofs.Common.{suc, arith, ◌≤◌, length-append, ◌<◌, ◌+◌, length, take, drop, get_or, map, MatchBool, ◌≡◌, ◌∙◌, ◌⊎◌, inl, inr, ℕ, ◌==◌, Bool, true, false, cond, ◌&&◌, ◌||◌, List, [], ◌∷◌, ◌++◌, Option, Some, None, IsSome, refl, sym, ap, subst, append_assoc}
+use Rattle.std.proofs.Common.{suc, arith, ◌≤◌, length-append, ◌<◌, ◌+◌, length, take, drop, get_or, map, MatchBool, ◌≡◌, ◌∙◌, inl, inr, ℕ, ◌==◌, Bool, true, false, ◌||◌, List, [], ◌∷◌, ◌++◌, Option, Some, None, IsSome, refl, sym, ap, subst, append_assoc}
 use Rattle.std.specs.List.{list_all}
 use Rattle.std.proofs.lemmas.List.{take-append-drop, drop_more, take_more, map-append}
 use Rattle.grammar.specs.Bytes.{is_digit}
 use Rattle.grammar.specs.Tokens.{IsNext, Reads, Blanks, is_blank}
-use Rattle.grammar.proofs.Reading.{two_fronts, first_token, reads_next}
+use Rattle.grammar.proofs.Reading.{first_token, reads_next}
 use Rattle.sum_source.specs.Tokens.{Token, IsTokens, token_of, Apart, BeginsNoName, is_word, is_name_start, is_name_byte, is_decimal_integer, is_string_byte, are_digits, is_dot}
 use Rattle.sum_source.specs.Classes.{is_in, BeginsOutside}
 use Rattle.sum_source.specs.Scanning.{Leads, Misses, begins_name, continues_number, mark_byte, mark_token, lengthens, is_lengthened}
 use Rattle.sum_source.specs.declared.bytes.Class.{Class}
-use Rattle.sum_source.specs.declared.bytes.Class.TheVariants.{Blank, Name, Digit, Quoted}
+use Rattle.sum_source.specs.declared.bytes.Class.TheVariants.{Blank, Name, Digit}
 use Rattle.sum_source.specs.declared.scan.Mark.{Mark}
 use Rattle.sum_source.specs.declared.scan.Mark.TheVariants.{OpenBrace, CloseBrace, Open, Close, Semicolon, Comma, Dot, Assign, Plus, Minus}
-use Rattle.sum_source.proofs.Words.{both_true, not_all, start_is_name, and_true, or_true, or_left, or_right, clash, not_true, true_or_false, no_blank, digit_is_name, eq_same, kind, token_of_word, no_longer_word, sign_alone, token_of_string, no_longer_string, string_is, token_of_integer, no_longer_integer, decimal_is, all_digits}
+use Rattle.sum_source.proofs.Words.{both_true, not_all, start_is_name, and_true, or_true, or_left, or_right, clash, not_true, no_blank, digit_is_name, eq_same, kind, token_of_word, no_longer_word, sign_alone, token_of_string, no_longer_string, string_is, token_of_integer, no_longer_integer, decimal_is, all_digits}
 
 abbrev pub IsNextToken : List ℕ → List ℕ → Token → Type 0
 IsNextToken word rest t = IsNext Blanks token_of Apart word rest t

@@ -1,5 +1,5 @@
 -- The output of a source, read part by part.
-use Rattle.std.proofs.Common.{Bool, true, false, MatchBool, ◌≡◌, ◌∙◌, ◌≤◌, ◌+◌, ℕ, List, [], ◌∷◌, ◌++◌, refl, sym, ap, subst, append_assoc}
+use Rattle.std.proofs.Common.{Bool, true, false, MatchBool, ◌≡◌, ◌∙◌, ℕ, List, [], ◌∷◌, ◌++◌, refl, sym, ap, subst, append_assoc}
 use Rattle.std.specs.Prelude.{codes}
 use Rattle.sum_source.specs.Tokens.{Token, IsTokens}
 use Rattle.sum_source.specs.Source.{Name, Source, Sum, sign, term_tokens, sum_tokens, type_tokens, output_tokens}
@@ -7,7 +7,6 @@ use Rattle.sum_source.specs.Scanning.{Leads, Misses, mark_token}
 use Rattle.sum_source.specs.Reading.{port_tokens, width_tokens}
 use Rattle.sum_source.specs.Outputs.{end_tokens}
 use Rattle.sum_source.specs.declared.scan.Mark.TheVariants.{Comma}
-use Rattle.sum_source.proofs.Walks.{leads_back}
 use Rattle.sum_source.proofs.LocalLemmas.{sums_same}
 
 abbrev pub port_of : Name → List Token

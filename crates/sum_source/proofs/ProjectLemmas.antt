@@ -1,14 +1,14 @@
 -- A source from its parts, and its parts from a source.
-use Rattle.std.proofs.Common.{◌≡◌, ◌∙◌, ◌≤◌, ◌<◌, ◌+◌, ◌^◌, ◌⊎◌, inl, inr, ℕ, Bool, true, false, List, [], ◌∷◌, ◌++◌, Option, Some, None, IsSome, Contains, length, map, sum_by, refl, sym, ap, subst, append_assoc, arith}
+use Rattle.std.proofs.Common.{◌≡◌, ◌∙◌, ◌≤◌, ◌+◌, inl, inr, ℕ, true, List, [], ◌∷◌, ◌++◌, Some, None, IsSome, Contains, length, map, refl, sym, ap, subst, append_assoc, arith}
 use Rattle.std.specs.Prelude.{codes}
 use Rattle.std.specs.Str.{bytes_eq}
 use Rattle.grammar.specs.Bytes.{decimal}
 use Rattle.sum_source.specs.Tokens.{Token, IsTokens}
-use Rattle.sum_source.specs.Source.{Name, Source, Sum, Local, Value, IsSource, IsAllowed, IsVariable, AreVariables, AreApart, AreClosed, IsClosed, names_after, values_after, value_in, operators_of, output_of, tokens_of, head_tokens, input_tokens, local_tokens, output_tokens, word}
-use Rattle.sum_source.specs.Scanning.{Leads, Misses}
+use Rattle.sum_source.specs.Source.{Name, Source, Sum, Local, Value, IsSource, IsAllowed, AreVariables, AreApart, AreClosed, IsClosed, names_after, values_after, operators_of, head_tokens, input_tokens, local_tokens, output_tokens, word}
+use Rattle.sum_source.specs.Scanning.{Misses}
 use Rattle.sum_source.specs.Scopes.{Declares}
 use Rattle.sum_source.specs.Projects.{IsProject}
-use Rattle.sum_source.specs.Reading.{Numbers, IsKnown, IsSound, Shows, Stage, IsSteady, IsGood, AreGood, operators_in, LocalsAre, HeadIs, InputIs}
+use Rattle.sum_source.specs.Reading.{Numbers, IsKnown, Shows, Stage, IsSteady, AreGood, operators_in, LocalsAre, HeadIs, InputIs}
 use Rattle.sum_source.specs.Outputs.{OutputIs, end_tokens}
 use Rattle.sum_source.specs.declared.project.Project.{Project}
 use Rattle.sum_source.specs.declared.project.Step.{Step}

@@ -1,9 +1,9 @@
 -- Sums, read term by term into operators.
-use Rattle.std.proofs.Common.{suc, ◌==◌, ◌≡◌, ◌∙◌, ◌≤◌, ◌<◌, ◌+◌, ◌-◌, ◌%◌, ◌^◌, ℕ, Bool, true, false, cond, List, [], ◌∷◌, ◌++◌, Option, Some, None, IsSome, length, slice_index, refl, sym, ap, subst, append_assoc, arith, length-append}
+use Rattle.std.proofs.Common.{◌==◌, ◌≡◌, ◌∙◌, ◌≤◌, ◌+◌, ◌-◌, ◌%◌, ◌^◌, ℕ, Bool, true, false, cond, List, [], ◌∷◌, ◌++◌, Option, Some, None, IsSome, length, slice_index, refl, sym, ap, subst, append_assoc, arith}
 use Rattle.std.proofs.lemmas.List.{get_or_append_left, get_or_at, length_push}
 use Rattle.std.specs.Prelude.{codes}
 use Rattle.sum_source.specs.Tokens.{Token, IsTokens}
-use Rattle.sum_source.specs.Source.{Name, Term, Sum, Value, word, sign, term_tokens, sum_tokens, operators_of, value_in, terms_value, sum_value}
+use Rattle.sum_source.specs.Source.{Name, Term, Sum, Value, word, sign, term_tokens, sum_tokens, operators_of, value_in, terms_value}
 use Rattle.sum_source.specs.Steps.{InOrder, step_value, values_of}
 use Rattle.sum_source.specs.Scanning.{Leads, Misses, mark_token}
 use Rattle.sum_source.specs.Reading.{Numbers, AreKnown, IsKnown, Point, IsSound, value_at, Shows, TermsAre, SumIs}

@@ -1,5 +1,5 @@
 -- What is left of tokens behind those that were read.
-use Rattle.std.proofs.Common.{◌≡◌, ◌≤◌, ◌<◌, ◌+◌, ◌*◌, ◌-◌, cond, true, false, ℕ, List, [], ◌∷◌, ◌++◌, refl, sym, subst, arith, get_or, drop, length}
+use Rattle.std.proofs.Common.{◌≡◌, ◌≤◌, ◌<◌, ◌+◌, ◌*◌, ◌-◌, true, ℕ, List, [], ◌∷◌, ◌++◌, refl, sym, subst, arith, get_or, drop, length}
 use Rattle.std.proofs.lemmas.List.{at_drop_more}
 use Rattle.std.specs.List.{list_all}
 use Rattle.std.proofs.lemmas.List.Folds.{list_all_at}
@@ -7,7 +7,7 @@ use Rattle.std.proofs.lemmas.Bool.{true_from_ne_false}
 use Rattle.sum_source.proofs.Words.{clash}
 use Rattle.grammar.specs.Bytes.{is_digit, digits_value, decimal, hex_value}
 use Rattle.sum_source.specs.Tokens.{Token, IsTokens}
-use Rattle.sum_source.specs.Scanning.{Leads, Misses}
+use Rattle.sum_source.specs.Scanning.{Leads}
 
 pub cancel : (f : List Token) {a b : List Token} → f ++ a ≡ f ++ b → a ≡ b
 cancel [] e = e

@@ -1,11 +1,10 @@
 -- What word is what token.
-use Rattle.std.proofs.Common.{suc, ◌+◌, take, drop, ◌≡◌, ◌∙◌, ◌⊎◌, inl, inr, ℕ, ◌≤◌, ◌==◌, Bool, true, false, cond, not, ◌&&◌, ◌||◌, List, [], ◌∷◌, ◌++◌, Option, Some, None, IsSome, IfNone, refl, sym, ap, subst, arith}
+use Rattle.std.proofs.Common.{suc, ◌+◌, take, drop, ◌≡◌, ◌∙◌, ◌⊎◌, inl, inr, ℕ, ◌==◌, Bool, true, false, cond, not, ◌&&◌, ◌||◌, List, [], ◌∷◌, ◌++◌, Option, Some, None, IsSome, IfNone, refl, sym, ap, subst, arith}
 use Rattle.std.specs.List.{list_all, list_any, before_first, after_first}
 use Rattle.std.specs.Str.{bytes_eq}
-use Rattle.std.proofs.lemmas.List.Folds.{list_all-append}
 use Rattle.std.proofs.lemmas.Bool.Decides.{nat_tests}
 use Rattle.std.proofs.lemmas.Slice.Eq.{bytes_eq-Decides}
-use Rattle.grammar.specs.Bytes.{is_digit, is_letter, is_hex, is_between}
+use Rattle.grammar.specs.Bytes.{is_digit, is_letter, is_hex}
 use Rattle.grammar.specs.Tokens.{is_blank}
 use Rattle.sum_source.specs.Tokens.{Token, is_name_start, is_name_byte, is_word, are_digits, is_decimal_integer, is_hex_integer, is_suffix, is_integer, is_dot, is_decimal, is_quote, is_string_byte, string_content, signs, is_sign, other_token_of, token_of}
 

@@ -1,8 +1,8 @@
 -- What is read of a source, statement by statement.
-use Rattle.std.specs.Prelude.{false, ◌≡◌, ◌≤◌, ◌<◌, ◌+◌, ℕ, true, List, [], ◌∷◌, ◌++◌, length, sum_by, Option, Some, None, IsSome, Contains, slice_index, codes}
+use Rattle.std.specs.Prelude.{false, ◌≡◌, ◌≤◌, ◌+◌, ℕ, true, List, [], ◌∷◌, ◌++◌, length, sum_by, Option, Some, None, IsSome, Contains, slice_index, codes}
 use Rattle.grammar.specs.Bytes.{decimal}
-use Rattle.sum_source.specs.Tokens.{Token, IsTokens, is_decimal_integer, is_taken, is_plain_name}
-use Rattle.sum_source.specs.Source.{Source, IsPortName, head_tokens, input_tokens, Name, Term, Sum, Local, Value, word, type_tokens, sign, term_tokens, sum_tokens, declared_tokens, local_tokens, operators_of, names_after, values_after, value_in, terms_value, sum_value, IsVariable, IsClosed}
+use Rattle.sum_source.specs.Tokens.{Token, is_decimal_integer, is_taken, is_plain_name}
+use Rattle.sum_source.specs.Source.{Source, IsPortName, head_tokens, input_tokens, Name, Term, Sum, Local, Value, word, type_tokens, sign, term_tokens, sum_tokens, local_tokens, operators_of, names_after, values_after, value_in, terms_value, sum_value, IsVariable, IsClosed}
 use Rattle.sum_source.specs.Steps.{InOrder, values_of}
 use Rattle.sum_source.specs.Scanning.{Leads, mark_token}
 use Rattle.sum_source.specs.Scopes.{Declares}

@@ -1,5 +1,5 @@
 -- Steps through the tokens of a text.
-use Rattle.std.specs.Prelude.{◌≡◌, ◌≤◌, ◌+◌, length, ℕ, Bool, true, false, ◌&&◌, ◌||◌, ◌==◌, List, [], ◌∷◌, ◌++◌}
+use Rattle.std.specs.Prelude.{◌≡◌, ◌≤◌, ◌+◌, length, ℕ, Bool, false, ◌&&◌, ◌||◌, ◌==◌, List, [], ◌∷◌, ◌++◌}
 use Rattle.grammar.specs.Bytes.{is_digit}
 use Rattle.sum_source.specs.Tokens.{Token, IsTokens, is_name_byte, is_name_start}
 use Rattle.sum_source.specs.declared.scan.Mark.{Mark}

@@ -1,5 +1,5 @@
 -- What a list of operators says of one word of the input. Value 0 is the input, and value k + 1 is what operator k gives.
-use Rattle.std.specs.Prelude.{ℕ, ◌+◌, ◌-◌, ◌%◌, ◌^◌, ◌≤◌, List, [], ◌∷◌, ◌++◌, length, slice_index, if◌then◌else◌}
+use Rattle.std.specs.Prelude.{ℕ, ◌+◌, ◌-◌, ◌%◌, ◌^◌, ◌≤◌, List, [], ◌∷◌, ◌++◌, slice_index, if◌then◌else◌}
 use Rattle.sum_source.specs.declared.project.Step.{Step}
 
 -- an operator uses values that stand before it, of which the last is k

@@ -27,24 +27,28 @@ pub struct Split<'a> {
 pub fn is_letter(byte: u8) -> bool
     ensures { result ≡ is_letter byte }
 {
-    65 <= byte && byte <= 90 || 97 <= byte && byte <= 122
+    b'A' <= byte && byte <= b'Z' || b'a' <= byte && byte <= b'z'
 }
 
 /// 0 to 9.
 pub fn is_digit(byte: u8) -> bool
     ensures { result ≡ is_digit byte }
 {
-    48 <= byte && byte <= 57
+    b'0' <= byte && byte <= b'9'
 }
 
 pub fn is_in(class: Class, byte: u8) -> bool
     ensures { result ≡ is_in class byte }
 {
     match class {
-        Class::Blank => byte == 32 || byte == 9 || byte == 10 || byte == 12 || byte == 13,
-        Class::Name => is_letter(byte) || is_digit(byte) || byte == 95,
+        Class::Blank => byte == b' '
+            || byte == b'\t'
+            || byte == b'\n'
+            || byte == 12
+            || byte == b'\r',
+        Class::Name => is_letter(byte) || is_digit(byte) || byte == b'_',
         Class::Digit => is_digit(byte),
-        Class::Quoted => 32 <= byte && byte <= 126 && byte != 34 && byte != 92,
+        Class::Quoted => b' ' <= byte && byte <= b'~' && byte != b'"' && byte != b'\\',
     }
 }
 

@@ -36,16 +36,16 @@ impl Mark {
         ensures { result ≡ mark_byte self }
     {
         match self {
-            Mark::OpenBrace => 123,
-            Mark::CloseBrace => 125,
-            Mark::Open => 40,
-            Mark::Close => 41,
-            Mark::Semicolon => 59,
-            Mark::Comma => 44,
-            Mark::Dot => 46,
-            Mark::Assign => 61,
-            Mark::Plus => 43,
-            Mark::Minus => 45,
+            Mark::OpenBrace => b'{',
+            Mark::CloseBrace => b'}',
+            Mark::Open => b'(',
+            Mark::Close => b')',
+            Mark::Semicolon => b';',
+            Mark::Comma => b',',
+            Mark::Dot => b'.',
+            Mark::Assign => b'=',
+            Mark::Plus => b'+',
+            Mark::Minus => b'-',
         }
     }
 
@@ -56,9 +56,9 @@ impl Mark {
         match rest.first() {
             None => false,
             Some(next) => match self {
-                Mark::Assign => *next == 61,
-                Mark::Plus => *next == 43 || *next == 61,
-                Mark::Minus => *next == 45 || *next == 61,
+                Mark::Assign => *next == b'=',
+                Mark::Plus => *next == b'+' || *next == b'=',
+                Mark::Minus => *next == b'-' || *next == b'=',
                 _ => false,
             },
         }
@@ -90,7 +90,7 @@ fn begins_name(text: &[u8]) -> bool
 {
     match text.first() {
         None => false,
-        Some(first) => is_letter(*first) || *first == 95,
+        Some(first) => is_letter(*first) || *first == b'_',
     }
 }
 
@@ -115,7 +115,7 @@ fn is_integer(digits: &[u8]) -> bool
 {
     match digits.first() {
         None => false,
-        Some(first) => *first != 48 || digits.len() == 1,
+        Some(first) => *first != b'0' || digits.len() == 1,
     }
 }
 
@@ -126,7 +126,7 @@ fn continues_number(rest: &[u8]) -> bool
     match rest {
         [] => false,
         [next] => is_in(Class::Name, *next),
-        [next, second, ..] => is_in(Class::Name, *next) || *next == 46 && is_digit(*second),
+        [next, second, ..] => is_in(Class::Name, *next) || *next == b'.' && is_digit(*second),
     }
 }
 
@@ -149,9 +149,9 @@ pub fn string(text: &[u8]) -> Option<Split<'_>>
     ensures some { IfSome result (λ s. Leads text.now (Token.Str s.front.now ∷ []) s.rest.now) }
     ensures none { IfNone result ((w : List ℕ) → Misses text.now (Token.Str w ∷ [])) }
 {
-    let inner = after_byte(skip_blanks(text), 34)?;
+    let inner = after_byte(skip_blanks(text), b'"')?;
     let split = split_front(inner, Class::Quoted);
-    let rest = after_byte(split.rest, 34)?;
+    let rest = after_byte(split.rest, b'"')?;
     Some(Split {
         front: split.front,
         rest,

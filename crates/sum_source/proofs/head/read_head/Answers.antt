@@ -1,7 +1,7 @@
-use Rattle.std.proofs.Common.{◌≡◌, ◌∙◌, sym, true, false, rules}
+use Rattle.std.proofs.Common.{◌∙◌, sym, rules}
 use Rattle.sum_source.specs.Source.{Source, IsAllowed, head_tokens}
 use Rattle.sum_source.specs.Scanning.{Misses}
-use Rattle.sum_source.proofs.Words.{if_none, clash, both_true}
+use Rattle.sum_source.proofs.Words.{if_none, clash}
 use Rattle.sum_source.proofs.HeadLemmas.{head_leads, no_head_name, no_head_between, no_head_parameter, no_head_behind, no_head_allowed}
 use Rattle.sum_source.proofs.head.read_head.Goals.{else-is_kernel_name-via-then-is_kernel_name+else-is_name, else-is_kernel_name-via-else-is_kernel_name}
 use Rattle.sum_source.proofs.head.read_head.Goals as goal

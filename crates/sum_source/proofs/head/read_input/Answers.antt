@@ -1,4 +1,4 @@
-use Rattle.std.proofs.Common.{◌≡◌, ◌≤◌, ◌∙◌, sym, ap, subst, true, false, rules}
+use Rattle.std.proofs.Common.{◌≤◌, ◌∙◌, sym, subst}
 use Rattle.sum_source.specs.Source.{Source, IsAllowed, input_tokens}
 use Rattle.sum_source.specs.Scanning.{Misses}
 use Rattle.sum_source.proofs.Words.{if_none, clash}

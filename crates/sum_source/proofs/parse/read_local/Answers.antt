@@ -1,6 +1,6 @@
-use Rattle.std.proofs.Common.{◌≡◌, ◌∙◌, ◌++◌, List, ℕ, None, sym, ap, [], ◌∷◌, rules, arith}
+use Rattle.std.proofs.Common.{◌≡◌, ◌∙◌, ◌++◌, None, sym, ap, [], ◌∷◌, rules}
 use Rattle.std.specs.Prelude.{codes}
-use Rattle.sum_source.specs.Source.{Local, word, sign, sum_tokens, IsVariable}
+use Rattle.sum_source.specs.Source.{word, sign, sum_tokens}
 use Rattle.sum_source.specs.Scanning.{mark_token}
 use Rattle.sum_source.specs.Scopes.{numbers_of}
 use Rattle.sum_source.specs.declared.scan.Mark.TheVariants.{Semicolon}

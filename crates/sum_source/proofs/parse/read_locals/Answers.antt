@@ -1,5 +1,5 @@
-use Rattle.std.proofs.Common.{◌≡◌, [], ◌∷◌, arith, rules}
-use Rattle.sum_source.proofs.LocalLemmas.{GoesOn, goes_on, no_locals, locals_none}
+use Rattle.std.proofs.Common.{[], ◌∷◌, rules}
+use Rattle.sum_source.proofs.LocalLemmas.{goes_on, no_locals, locals_none}
 use Rattle.sum_source.proofs.parse.read_locals.Goals as goal
 
 pub returns-in_err-rest-clause-none : goal.returns-in_err-rest-clause-none

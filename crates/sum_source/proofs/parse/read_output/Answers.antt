@@ -1,10 +1,10 @@
-use Rattle.std.proofs.Common.{ap, ◌≡◌, ◌∙◌, [], ◌∷◌, sym, rules}
+use Rattle.std.proofs.Common.{ap, ◌≡◌, ◌∙◌, [], sym}
 use Rattle.std.specs.Str.{bytes_eq}
 use Rattle.sum_source.specs.Tokens.{IsTokens}
 use Rattle.sum_source.proofs.Words.{clash, bytes_same, bytes_refl}
 use Rattle.sum_source.proofs.Walks.{leads_back}
 use Rattle.sum_source.specs.Outputs.{end_tokens}
-use Rattle.sum_source.proofs.OutputLemmas.{output_on, no_port, no_output_sum, no_output_width, no_output_end, at_end, not_at_end}
+use Rattle.sum_source.proofs.OutputLemmas.{output_on, no_output_width, no_output_end, at_end, not_at_end}
 use Rattle.sum_source.proofs.parse.read_output.Goals.{else-eq-via-then-eq+else-is_at_end, else-eq-via-else-eq}
 use Rattle.sum_source.proofs.parse.read_output.Goals as goal
 

@@ -1,10 +1,9 @@
-use Rattle.std.proofs.Common.{ap, ◌≡◌, ◌≤◌, ◌+◌, ◌∙◌, [], ◌∷◌, List, sym, subst, length, rules}
+use Rattle.std.proofs.Common.{ap, ◌≤◌, ◌+◌, ◌∙◌, [], ◌∷◌, sym, subst, length, rules}
 use Rattle.std.specs.Str.{bytes_eq}
 use Rattle.sum_source.specs.Scopes.{numbers_of}
 use Rattle.sum_source.specs.Reading.{Stage, IsSteady, LocalsAre, operators_in}
-use Rattle.sum_source.specs.Outputs.{OutputIs}
 use Rattle.sum_source.proofs.Words.{bytes_same, bytes_refl, clash}
-use Rattle.sum_source.proofs.ProjectLemmas.{first_stage, first_steady, project_is, no_head, no_input, same_names, no_source_locals, no_output}
+use Rattle.sum_source.proofs.ProjectLemmas.{first_steady, project_is, no_head, no_input, same_names, no_source_locals, no_output}
 use Rattle.sum_source.proofs.parse.read_project.Goals as goal
 
 pub returns-in_default-clause-none : goal.returns-in_default-clause-none

@@ -1,5 +1,4 @@
-use Rattle.std.proofs.Common.{◌≤◌, drop, arith, ◌+◌, ◌*◌}
-use Rattle.grammar.specs.Bytes.{digits_value}
+use Rattle.std.proofs.Common.{arith}
 use Rattle.sum_source.proofs.Walks.{digits_too_many}
 use Rattle.sum_source.proofs.pieces.bits.Goals as goal
 

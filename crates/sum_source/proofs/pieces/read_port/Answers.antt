@@ -1,4 +1,4 @@
-use Rattle.std.proofs.Common.{[], ◌∷◌, List, ℕ}
+use Rattle.std.proofs.Common.{[], ◌∷◌}
 use Rattle.std.specs.Prelude.{codes}
 use Rattle.sum_source.specs.Tokens.{Token}
 use Rattle.sum_source.specs.Source.{Name, IsPortName, sign}

@@ -2,11 +2,11 @@ use Rattle.std.proofs.Common.{◌≡◌, ◌≤◌, true, [], ◌∷◌, List, �
 use Rattle.std.specs.Prelude.{codes}
 use Rattle.grammar.specs.Bytes.{decimal}
 use Rattle.sum_source.specs.Tokens.{Token, is_decimal_integer}
-use Rattle.sum_source.specs.Source.{Name, sign}
+use Rattle.sum_source.specs.Source.{sign}
 use Rattle.sum_source.specs.Scanning.{Misses}
 use Rattle.sum_source.specs.Reading.{width_tokens}
 use Rattle.sum_source.proofs.Words.{if_none}
-use Rattle.sum_source.proofs.Nexts.{misses_behind, misses_more}
+use Rattle.sum_source.proofs.Nexts.{misses_more}
 use Rattle.sum_source.proofs.pieces.read_width.Goals as goal
 
 pub returns-in_err-expect-clause-none : goal.returns-in_err-expect-clause-none

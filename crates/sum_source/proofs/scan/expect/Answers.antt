@@ -1,8 +1,7 @@
-use Rattle.std.proofs.Common.{drop, ◌+◌, ◌≡◌, ◌∙◌, [], ◌∷◌, ◌++◌, List, ℕ, Option, Some, None, true, false, IfNone, refl, sym, ap, subst, length, take, map, MatchBool}
-use Rattle.sum_source.specs.Tokens.{Token, IsTokens, is_decimal_integer}
-use Rattle.sum_source.specs.Scanning.{Leads, Misses, continues_number, mark_byte, mark_token, is_lengthened, piece_token}
-use Rattle.sum_source.proofs.Nexts.{leads_none, leads_then, misses_behind, misses_more, blanks_lead, next_leads, word_leads, word_missed, integer_next, integer_missed, string_leads, string_parts, mark_leads, mark_parts, map_at}
-use Rattle.sum_source.proofs.Words.{if_none, clash}
+use Rattle.std.proofs.Common.{drop, ◌+◌, sym, subst, take, map}
+use Rattle.sum_source.specs.Scanning.{Misses, piece_token}
+use Rattle.sum_source.proofs.Nexts.{misses_behind, misses_more, map_at}
+use Rattle.sum_source.proofs.Words.{if_none}
 use Rattle.sum_source.proofs.scan.expect.Goals as goal
 
 pub returns-in_err-rest-clause-none : goal.returns-in_err-rest-clause-none

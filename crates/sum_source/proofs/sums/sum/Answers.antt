@@ -1,9 +1,8 @@
-use Rattle.std.proofs.Common.{◌≡◌, ◌∙◌, [], ◌∷◌, List, ℕ, sym, ap, arith}
+use Rattle.std.proofs.Common.{arith}
 use Rattle.sum_source.specs.Source.{Term}
-use Rattle.sum_source.specs.Scanning.{Misses}
 use Rattle.sum_source.specs.Scopes.{numbers_of}
 use Rattle.sum_source.specs.Reading.{Point}
-use Rattle.sum_source.proofs.SumLemmas.{IsInSum, IsTerm, sum_begins, sum_goes_on, sum_ends, sum_fails, sum_is_full, no_sum}
+use Rattle.sum_source.proofs.SumLemmas.{IsTerm, sum_begins, sum_goes_on, sum_ends, sum_fails}
 use Rattle.sum_source.proofs.sums.sum.Goals as goal
 
 pub loop-rest-init : goal.loop-rest-init

@@ -1,4 +1,4 @@
-use Rattle.std.proofs.Common.{◌≡◌, ◌∙◌, List, ℕ, Bor}
+use Rattle.std.proofs.Common.{◌∙◌, List, ℕ, Bor}
 use Rattle.std.proofs.lemmas.Map.Text.{is_eq-slice_cmp}
 use Rattle.std.specs.Str.{bytes_eq}
 use Rattle.sum_source.proofs.Words.{bytes_same, not_true}
