@@ -1,5 +1,5 @@
 -- The tokens of a Verilog text (IEEE 1364-2005 clause 3, the subset's part of it).
-use Rattle.std.specs.Prelude.{ℕ, Bool, false, ◌&&◌, ◌==◌, List, [], ◌∷◌, Option, Some, None, if◌then◌else◌, codes}
+use Rattle.std.specs.Prelude.{◌≡◌, ℕ, Bool, false, ◌&&◌, ◌==◌, List, [], ◌∷◌, Option, Some, None, if◌then◌else◌, codes}
 use Rattle.std.specs.List.{list_all, list_any, before_first, after_first}
 use Rattle.std.specs.Str.{bytes_eq}
 use Rattle.grammar.specs.Bytes.{is_digit, is_hex, decimal, hexadecimal}
@@ -51,9 +51,14 @@ token_of word =
     else (if is_literal word then Some (Token.Literal (decimal (before_first is_quote word)) (hexadecimal (hex_digits (after_first is_quote word))))
     else (if is_sign word then Some (Token.Sign word) else None)))
 
--- whatever follows a token may follow it directly
+abbrev pub BeginsStar : List ℕ → Type 0
+BeginsStar [] = ⊥
+BeginsStar (b ∷ bs) = b ≡ 42
+
+-- a `/` is no token before a `*`: that is a comment, and where the comment doesn't end, nothing
 abbrev pub Apart : Token → List ℕ → Type 0
-Apart t rest = Unit {0}
+Apart (Token.Sign s) rest = s ≡ codes "/" → BeginsStar rest → ⊥
+Apart _ rest = Unit {0}
 
 -- the bytes are these tokens, with white space and comments among them
 abbrev pub IsTokens : List ℕ → List Token → Type 0
