@@ -4,6 +4,7 @@
 
 use maxjc_core::{Status, maxjc};
 use mx_base::{RealFiles, StdSay, Text};
+use std::io::ErrorKind;
 use std::process::ExitCode;
 use std::rt::Env;
 use std::{env, io};
@@ -17,9 +18,19 @@ fn words_of(rt: &(impl Env + AllocGlobal)) -> io::Result<Vec<Text>> {
     Ok(words)
 }
 
+// How the program ends where it can't have its words. A word that isn't UTF-8 is one that can't be
+// read.
+fn status_without_words(error: &io::Error) -> Status {
+    match error.kind() {
+        ErrorKind::OutOfMemory => Status::NoMemory,
+        _ => Status::ReadFault,
+    }
+}
+
 fn main(rt: HostRuntime) -> ExitCode {
-    let Ok(words) = words_of(&rt) else {
-        return ExitCode::from(Status::NoMemory.code());
+    let words = match words_of(&rt) {
+        Ok(words) => words,
+        Err(error) => return ExitCode::from(status_without_words(&error).code()),
     };
     let mut files = RealFiles::new(&rt);
     let mut say = StdSay::new(&rt);
