@@ -1,0 +1,11 @@
+//! Which ports of a design stall, edge by edge.
+#![tactic(auto)]
+
+mod pattern;
+mod program;
+
+pub use pattern::Pattern;
+pub use program::program_stalls;
+
+#[cfg(test)]
+mod tests;

@@ -1,0 +1,118 @@
+-- From the registers and inputs to the values of all nets.
+use Rattle.std.proofs.Common.{◌≡◌, ◌≢◌, ℕ, zero, suc, ◌+◌, ◌*◌, ◌^◌, ◌<◌, ◌≤◌, ◌||◌, ◌&&◌, Bool, true, false, not, eqb, List, [], ◌∷◌, length, get_or, Some, refl, sym, ap, ◌∙◌, subst, ⊎_elim, arith}
+use Rattle.std.specs.Prelude.{slice_get, IsTrue}
+use Rattle.std.proofs.lemmas.Bool.{cases_lt, eq-eqb, false≢true}
+use Rattle.std.proofs.lemmas.Nat.{pow_pos}
+use Rattle.std.proofs.lemmas.Option.{slice_get_within, slice_get-get_or, get_or_from_slice_get}
+use Rattle.std.proofs.lemmas.List.{get_or_past}
+use Rattle.rtl_ir.specs.declared.design.Port.{Port}
+use Rattle.rtl_ir.specs.declared.design.Module.{Module}
+use Rattle.rtl_ir.specs.declared.design.Assign.{Assign}
+use Rattle.rtl_ir.specs.declared.design.Update.{Update}
+use Rattle.rtl_ir.specs.declared.design.Expr.{Expr}
+use Rattle.rtl_ir.specs.declared.design.Expr.TheVariants.{Net as Plain, Literal, Not, Binary, Concat, Repeat, Part, Choose, Cell}
+use Rattle.rtl_ir.specs.declared.design.Target.TheVariants.{Reg}
+use Rattle.rtl_ir.specs.Value.{Family, Contents, value, width_of, is_reg}
+use Rattle.rtl_ir.specs.Edge.{Fits}
+use Rattle.rtl_ir.specs.Typed.{is_input, is_given}
+use Rattle.rtl_ir.proofs.Ports.{assigned_of, InputAt, input_at}
+use Rattle.verilog_sim.specs.declared.offer.Offer.{Offer}
+use Rattle.verilog_sim.specs.declared.given.Counts.{Counts}
+use Rattle.verilog_sim.specs.Contents.{family_of, contents_of}
+use Rattle.verilog_sim.specs.Updates.{IsLoaded}
+use Rattle.verilog_sim.specs.Runnable.{IsRunnable, IsOrderOf}
+use Rattle.verilog_sim.specs.Settled.{AreWords, Settles}
+use Rattle.verilog_sim.specs.Sources.{AreDriven, IsGiven}
+use Rattle.verilog_sim.specs.Simulates.{AreKept, IsEvaluated}
+
+-- an expression reads the memories alone, and no register's content
+value_cells : (m : Module) (held : List ℕ) (memories : List (List ℕ)) (v : Family) (w : ℕ) (e : Expr) → value m (contents_of [] memories) v w e ≡ value m (contents_of held memories) v w e
+value_cells m held memories v w (Plain n) = refl
+value_cells m held memories v w (Literal x) = refl
+value_cells m held memories v w (Not n) = refl
+value_cells m held memories v w (Binary s a b) = refl
+value_cells m held memories v w (Concat a b) = refl
+value_cells m held memories v w (Repeat k n) = refl
+value_cells m held memories v w (Part n hi lo) = refl
+value_cells m held memories v w (Choose n a b) = refl
+value_cells m held memories v w (Cell k n) = refl
+
+-- an input among the ports is one
+pub input_of : (ps : List Port) (i : ℕ) (p : Port) → slice_get ps i ≡ Some p → p.output ≡ false → is_input ps p.net ≡ true
+input_of [] i p e f = absurd (cc)
+input_of (q ∷ ps) zero p e f =
+    let r : q ≡ p = cc in
+    let here : eqb q.net p.net ≡ true = eq-eqb q.net p.net (ap (λ (x : Port). x.net) r) in
+    let out : q.output ≡ false = ap (λ (x : Port). x.output) r ∙ f in
+    ap (λ b. (b && not q.output) || is_input ps p.net) here ∙ ap (λ b. (true && not b) || is_input ps p.net) out
+input_of (q ∷ ps) (suc i) p e f = let r = input_of ps i p e f in ap (λ b. (eqb q.net p.net && not q.output) || b) r ∙ or_true (eqb q.net p.net && not q.output)
+  where
+    or_true : (b : Bool) → b || true ≡ true
+    or_true true = refl
+    or_true false = refl
+
+given_reg : (m : Module) (n : ℕ) → is_reg m n ≡ true → is_given m n ≡ true
+given_reg m n h = ap (λ b. b || is_input m.ports n) h
+
+given_input : (m : Module) (n : ℕ) → is_input m.ports n ≡ true → is_given m n ≡ true
+given_input m n h = ap (λ b. is_reg m n || b) h ∙ or_true (is_reg m n)
+  where
+    or_true : (b : Bool) → b || true ≡ true
+    or_true true = refl
+    or_true false = refl
+
+-- what is given to a net is no target of an assignment
+no_target : (m : Module) (order : List Assign) (n : ℕ) → IsRunnable m → IsOrderOf m order → is_given m n ≡ true → (i : ℕ) (a : Assign) → slice_get order i ≡ Some a → a.target ≢ n
+no_target m order n r o given i a at e =
+    let from = o.from i a at in
+    false≢true (sym (r.given from.0 a from.1) ∙ ap (is_given m) e ∙ given)
+
+-- registers loaded
+pub loaded_words : (m : Module) (c : Counts) (steady held old new : List ℕ) (memories : List (List ℕ)) → IsRunnable m → AreKept m c steady held old memories → IsLoaded m.updates held old new → AreWords m new memories
+loaded_words m c steady held old new memories r k l =
+    record { nets = l.size ∙ k.words.nets; words = λ n. by_kind n (is_reg m n) refl; depths = k.words.depths; cells = k.words.cells }
+  where
+    by_kind : (n : ℕ) (b : Bool) → is_reg m n ≡ b → get_or new n 0 < 2 ^ width_of m n
+    by_kind n true e =
+        let u = r.updated n e in
+        subst (λ (y : ℕ). y < 2 ^ width_of m n) (sym (l.regs u.0 n u.1 u.2 u.3)) (k.held_words n e)
+    by_kind n false e =
+        subst (λ (y : ℕ). y < 2 ^ width_of m n) (sym (l.others n (λ j u at t. false≢true (sym e ∙ r.regs j n u at t)))) (k.words.words n)
+
+-- inputs driven
+pub driven_words :
+    (m : Module) (c : Counts) (reset : Bool) (steady : List ℕ) (offers : List Offer) (accepts holds : List Bool) (old new : List ℕ) (memories : List (List ℕ))
+    → ((i x : ℕ) (p : Port) → slice_get m.ports i ≡ Some p → p.output ≡ false → IsGiven c reset steady offers accepts holds i x → x < 2 ^ width_of m p.net)
+    → AreWords m old memories → AreDriven m.ports c reset steady offers accepts holds old new (length m.ports) → AreWords m new memories
+driven_words m c reset steady offers accepts holds old new memories fit w d =
+    record { nets = d.size ∙ w.nets; words = λ n. by_kind n (is_input m.ports n) refl; depths = w.depths; cells = w.cells }
+  where
+    by_kind : (n : ℕ) (b : Bool) → is_input m.ports n ≡ b → get_or new n 0 < 2 ^ width_of m n
+    by_kind n true e =
+        let q = input_at m.ports n e in
+        subst (λ (i : ℕ). get_or new i 0 < 2 ^ width_of m i) q.net (fit q.place (get_or new q.port.net 0) q.port q.at q.input (d.given q.place q.port (slice_get_within m.ports q.place q.port q.at) q.at q.input))
+    by_kind n false e =
+        subst (λ (y : ℕ). y < 2 ^ width_of m n) (sym (d.others n (λ i p at f same. false≢true (sym e ∙ ap (is_input m.ports) (sym same) ∙ input_of m.ports i p at f)))) (w.words n)
+
+pub evaluated :
+    (m : Module) (c : Counts) (reset : Bool) (steady : List ℕ) (offers : List Offer) (accepts holds : List Bool) (held old loaded driven new : List ℕ) (memories : List (List ℕ)) (order : List Assign)
+    → IsRunnable m → IsOrderOf m order → ((i : ℕ) (p : Port) → slice_get m.ports i ≡ Some p → is_reg m p.net ≡ false)
+    → IsLoaded m.updates held old loaded → AreDriven m.ports c reset steady offers accepts holds loaded driven (length m.ports)
+    → AreWords m driven memories → Settles m order memories driven new → IsEvaluated m c reset steady offers accepts holds held memories new
+evaluated m c reset steady offers accepts holds held old loaded driven new memories order r o wires l d w s =
+    record {
+      words = record { nets = s.nets; words = s.words; depths = w.depths; cells = w.cells };
+      fits = record {
+        words = s.words;
+        assigned = assigned_of m (contents_of held memories) (family_of new) m.assigns (λ j a at. (let q = o.all j a at in s.assigned q.0 a q.1 ∙ value_cells m held memories (family_of new) (width_of m a.target) a.expr));
+        kept = kept;
+      };
+      given = λ i p at input. subst (IsGiven c reset steady offers accepts holds i) (sym (s.others p.net (no_target m order p.net r o (given_input m p.net (input_of m.ports i p at input))))) (d.given i p (slice_get_within m.ports i p at) at input);
+    }
+  where
+    kept : (n : ℕ) → is_reg m n ≡ true → get_or new n 0 ≡ get_or held n 0
+    kept n e =
+        let u = r.updated n e in
+        s.others n (no_target m order n r o (given_reg m n e))
+        ∙ d.others n (λ i p at input same. false≢true (sym (wires i p at) ∙ ap (is_reg m) same ∙ e))
+        ∙ l.regs u.0 n u.1 u.2 u.3

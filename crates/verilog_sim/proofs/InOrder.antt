@@ -1,0 +1,104 @@
+-- One line after another, the assignments come to hold.
+use Rattle.std.proofs.Common.{◌≡◌, ◌≢◌, ℕ, ◌+◌, ◌^◌, ◌<◌, ◌≤◌, Bool, true, false, cond, ◌⊎◌, inl, inr, List, [], length, get_or, set, Some, refl, sym, ap, ◌∙◌, subst, ⊎_elim, arith, eqb, get_or-set_other, get_or-set_same}
+use Rattle.std.specs.Prelude.{slice_get}
+use Rattle.std.proofs.lemmas.Bool.{cases_eq, cases_lt}
+use Rattle.std.proofs.lemmas.Option.{slice_get_within, slice_get-get_or}
+use Rattle.std.proofs.lemmas.List.{length-set}
+use Rattle.rtl_ir.specs.declared.design.Module.{Module}
+use Rattle.rtl_ir.specs.declared.design.Assign.{Assign}
+use Rattle.rtl_ir.specs.Value.{Family, Contents, width_of, value}
+use Rattle.rtl_ir.specs.Operands.{IsRead}
+use Rattle.rtl_ir.proofs.Ports.{value_agrees}
+use Rattle.rtl_ir.proofs.Words.{value_fits}
+use Rattle.verilog_sim.specs.declared.line.Line.{Line}
+use Rattle.verilog_sim.specs.Lines.{step_value}
+use Rattle.verilog_sim.specs.Contents.{family_of, contents_of}
+use Rattle.verilog_sim.specs.Compiled.{IsLineOf, AreLinesOf}
+use Rattle.verilog_sim.specs.Settled.{IsInOrder, AreWords, Settles}
+use Rattle.verilog_sim.proofs.Step.{step_is}
+
+-- the first so many assignments hold, and all nets but their targets have their old values
+pub record Progress (m : Module) (assigns : List Assign) (memories : List (List ℕ)) (old new : List ℕ) (i : ℕ) : Type 0 where
+  pub nets : length new ≡ length m.nets
+  pub words : (n : ℕ) → get_or new n 0 < 2 ^ width_of m n
+  pub assigned :
+      (j : ℕ) (a : Assign)
+      → j < i
+      → slice_get assigns j ≡ Some a
+      → get_or new a.target 0 ≡ value m (contents_of [] memories) (family_of new) (width_of m a.target) a.expr
+  pub others : (n : ℕ) → ((j : ℕ) (a : Assign) → j < i → slice_get assigns j ≡ Some a → a.target ≢ n) → get_or new n 0 ≡ get_or old n 0
+
+pub at_start : (m : Module) (assigns : List Assign) (memories : List (List ℕ)) (old : List ℕ) → AreWords m old memories → Progress m assigns memories old old 0
+at_start m assigns memories old h =
+    record { nets = h.nets; words = h.words; assigned = λ j a lt e. absurd (omega arith); others = λ n f. refl }
+
+-- a list of words with one of them written
+pub set_fits : (m : Module) (values : List ℕ) (t x : ℕ) → t < length values → x < 2 ^ width_of m t → ((n : ℕ) → get_or values n 0 < 2 ^ width_of m n) → (n : ℕ) → get_or (set values t x) n 0 < 2 ^ width_of m n
+set_fits m values t x lt fx words n = ⊎_elim here other (cases_eq n t)
+  where
+    here : n ≡ t → get_or (set values t x) n 0 < 2 ^ width_of m n
+    here e =
+        subst (λ (i : ℕ). get_or (set values t x) i 0 < 2 ^ width_of m i) (sym e)
+        (subst (λ (y : ℕ). y < 2 ^ width_of m t) (sym (get_or-set_same values t x 0 lt)) fx)
+
+    other : n ≢ t → get_or (set values t x) n 0 < 2 ^ width_of m n
+    other ne = subst (λ (y : ℕ). y < 2 ^ width_of m n) (sym (get_or-set_other values t n x 0 ne)) (words n)
+
+one_more :
+    (m : Module) (assigns : List Assign) (memories : List (List ℕ)) (old new : List ℕ) (i : ℕ) (a : Assign) (x : ℕ)
+    → IsInOrder m assigns → AreWords m old memories → slice_get assigns i ≡ Some a → a.target < length new
+    → x ≡ value m (contents_of [] memories) (family_of new) (width_of m a.target) a.expr
+    → Progress m assigns memories old new i → Progress m assigns memories old (set new a.target x) (i + 1)
+one_more m assigns memories old new i a x o h at lt is p =
+    record {
+      nets = length-set new a.target x ∙ p.nets;
+      words = set_fits m new a.target x lt fx p.words;
+      assigned = λ j b less e. ⊎_elim (λ q. before j b q e) (λ q. here j b q e) (split j less);
+      others = λ n f. get_or-set_other new a.target n x 0 (λ q. f i a (omega arith) at (sym q)) ∙ p.others n (λ j b less e. f j b (omega arith) e);
+    }
+  where
+    fx : x < 2 ^ width_of m a.target
+    fx = subst (λ (y : ℕ). y < 2 ^ width_of m a.target) (sym is) (value_fits m (contents_of [] memories) (family_of new) (width_of m a.target) a.expr (o.typed i a at) p.words h.cells)
+
+    split : (j : ℕ) → j < i + 1 → (j < i) ⊎ (j ≡ i)
+    split j less = ⊎_elim (λ q. inl q) (λ q. inr (omega arith)) (cases_lt j i)
+
+    same : (j : ℕ) (b : Assign) → j ≤ i → slice_get assigns j ≡ Some b → value m (contents_of [] memories) (family_of new) (width_of m b.target) b.expr ≡ value m (contents_of [] memories) (family_of (set new a.target x)) (width_of m b.target) b.expr
+    same j b le e =
+        value_agrees m (contents_of [] memories) (family_of new) (family_of (set new a.target x)) (width_of m b.target) b.expr
+        (λ n r. sym (get_or-set_other new a.target n x 0 (λ q. o.unread j i b a le e at (subst (IsRead b.expr) q r))))
+
+    before : (j : ℕ) (b : Assign) → j < i → slice_get assigns j ≡ Some b → get_or (set new a.target x) b.target 0 ≡ value m (contents_of [] memories) (family_of (set new a.target x)) (width_of m b.target) b.expr
+    before j b less e = get_or-set_other new a.target b.target x 0 (o.once j i b a less e at) ∙ p.assigned j b less e ∙ same j b (omega arith) e
+
+    here : (j : ℕ) (b : Assign) → j ≡ i → slice_get assigns j ≡ Some b → get_or (set new a.target x) b.target 0 ≡ value m (contents_of [] memories) (family_of (set new a.target x)) (width_of m b.target) b.expr
+    here j b q e =
+        let e' : slice_get assigns i ≡ Some b = subst (λ (k : ℕ). slice_get assigns k ≡ Some b) q e in
+        let r : a ≡ b = cc in
+        subst (λ (y : Assign). get_or (set new a.target x) y.target 0 ≡ value m (contents_of [] memories) (family_of (set new a.target x)) (width_of m y.target) y.expr) r
+        (get_or-set_same new a.target x 0 lt ∙ is ∙ same i a (omega arith) at)
+
+pub one_line :
+    (m : Module) (ls : List ℕ) (assigns : List Assign) (memories : List (List ℕ)) (lines : List Line) (old new : List ℕ) (i : ℕ) (l : Line) (x : ℕ)
+    → AreLinesOf m ls assigns lines → IsInOrder m assigns → AreWords m old memories → slice_get lines i ≡ Some l
+    → l.target < length new → 1 ≤ l.width → l.width ≤ 128
+    → x ≡ step_value ls memories (λ n. get_or new n 0) l.width l.step
+    → Progress m assigns memories old new i → Progress m assigns memories old (set new l.target x) (i + 1)
+one_line m ls assigns memories lines old new i l x are o h at lt some most is p =
+    let within : i < length assigns = omega (arith, slice_get_within lines i l at, are.size) in
+    let none : Assign = record { target = 0; expr = Rattle.rtl_ir.specs.declared.design.Expr.TheVariants.Net 0 } in
+    let a = get_or assigns i none in
+    let at' : slice_get assigns i ≡ Some a = slice_get-get_or assigns i none within in
+    let r : IsLineOf m ls a l = are.each i a l at' at in
+    let e : x ≡ value m (contents_of [] memories) (family_of new) (width_of m a.target) a.expr = is ∙ ap (λ k. step_value ls memories (λ n. get_or new n 0) k l.step) r.width ∙ step_is m ls memories (λ n. get_or new n 0) (width_of m a.target) a.expr l.step (o.typed i a at') r.step (omega (arith, r.width)) (omega (arith, r.width)) p.words h.depths in
+    let lt' : a.target < length new = omega (arith, r.target) in
+    subst (λ (t : ℕ). Progress m assigns memories old (set new t x) (i + 1)) (sym r.target) (one_more m assigns memories old new i a x o h at' lt' e p)
+
+pub at_last : (m : Module) (ls : List ℕ) (assigns : List Assign) (memories : List (List ℕ)) (lines : List Line) (old new : List ℕ) (i : ℕ) → AreLinesOf m ls assigns lines → length lines ≤ i → Progress m assigns memories old new i → Settles m assigns memories old new
+at_last m ls assigns memories lines old new i are past p =
+    record {
+      nets = p.nets;
+      words = p.words;
+      assigned = λ j a e. p.assigned j a (omega (arith, slice_get_within assigns j a e, are.size)) e;
+      others = λ n f. p.others n (λ j a less e. f j a e);
+    }

@@ -1,0 +1,36 @@
+-- The updates of a module that can be simulated name nets and memories that there are.
+use Rattle.std.proofs.Common.{◌≡◌, ℕ, ◌<◌, List, length, get_or, Some, arith, subst}
+use Rattle.std.specs.Prelude.{slice_get}
+use Rattle.std.specs.List.{All}
+use Rattle.std.proofs.lemmas.Option.{slice_get-get_or}
+use Rattle.rtl_ir.specs.declared.design.Module.{Module}
+use Rattle.rtl_ir.specs.declared.design.Update.{Update}
+use Rattle.rtl_ir.specs.declared.design.Target.{Target}
+use Rattle.rtl_ir.specs.declared.design.Target.TheVariants.{Reg, Cell}
+use Rattle.rtl_ir.specs.Operands.{target_net, target_mem}
+use Rattle.verilog_sim.specs.Updates.{IsTargetSafe, IsRegSafe, IsUpdateSafe, IsLoadSafe}
+use Rattle.verilog_sim.specs.Runnable.{IsRunnable}
+
+reg_safe : (nets : ℕ) (t : Target) → target_net t < nets → IsRegSafe nets t
+reg_safe nets (Reg n) lt = lt
+reg_safe nets (Cell k a) lt = tt
+
+target_safe : (nets mems : ℕ) (t : Target) → target_net t < nets → ((k : ℕ) → target_mem t ≡ Some k → k < mems) → IsTargetSafe nets mems t
+target_safe nets mems (Reg n) lt mem = lt
+target_safe nets mems (Cell k a) lt mem = (mem k Rattle.std.proofs.Common.refl, lt)
+
+pub load_safe : (m : Module) (nets : ℕ) (updates : List Update) → IsRunnable m → nets ≡ length m.nets → updates ≡ m.updates → All (IsLoadSafe nets) updates
+load_safe m nets updates r e same k d lt =
+    let at : slice_get m.updates k ≡ Some (get_or updates k d) = subst (λ (l : List Update). slice_get l k ≡ Some (get_or updates k d)) same (slice_get-get_or updates k d lt) in
+    let f = (r.updates k (get_or updates k d) at).net in
+    reg_safe nets (get_or updates k d).target (omega (arith, f, e))
+
+pub update_safe : (m : Module) (nets mems : ℕ) (updates : List Update) → IsRunnable m → nets ≡ length m.nets → mems ≡ length m.mems → updates ≡ m.updates → All (IsUpdateSafe nets mems) updates
+update_safe m nets mems updates r e em same k d lt =
+    let at : slice_get m.updates k ≡ Some (get_or updates k d) = subst (λ (l : List Update). slice_get l k ≡ Some (get_or updates k d)) same (slice_get-get_or updates k d lt) in
+    let f = r.updates k (get_or updates k d) at in
+    record {
+      enable = omega (arith, f.enable, e);
+      value = omega (arith, f.value, e);
+      target = target_safe nets mems (get_or updates k d).target (omega (arith, f.net, e)) (λ j q. let x = f.mem j q in omega (arith, x, em));
+    }

@@ -1,0 +1,24 @@
+use Rattle.std.proofs.Common.{◌≡◌, ◌+◌, ◌<◌, ℕ, Bool, true, false, not, List, Some, length, get_or, arith, subst, sym}
+use Rattle.std.specs.Prelude.{slice_get}
+use Rattle.std.proofs.lemmas.Option.{slice_get-get_or}
+use Rattle.rtl_ir.specs.declared.design.Port.{Port}
+use Rattle.verilog_sim.specs.Sources.{AreDriven}
+use Rattle.verilog_sim.proofs.Driven.{output_passed, input_driven}
+use Rattle.verilog_sim.proofs.given.drive.Goals.{then-not-port, else-not-port}
+use Rattle.verilog_sim.proofs.given.drive.Goals as goal
+
+pub loop-number-preserved : goal.loop-number-preserved
+loop-number-preserved c =
+    let g = c.args.given.now in
+    let i = c.loop-number.number in
+    let none : Port = record { net = 0; output = false } in
+    let p = get_or c.args.ports.now i none in
+    let at : slice_get c.args.ports.now i ≡ Some p = slice_get-get_or c.args.ports.now i none c.loop-number-test.true in
+    elim c.if-not-port.branch [
+      | then-not-port w ↦ (
+          let more = input_driven c.args.ports.now c.args.counts g.reset g.steady.now g.offers.now g.accepts.now g.holds.now c.args.values.now c.loop-number.values i w.word_of.result p c.requires.apart at w.if-not-port.true (let lt = c.requires.nets i p at in omega (arith, lt)) (record { source = w.source_at.result; is = w.source_at.ensures; word = w.word_of.ensures }) c.loop-number.invariant in
+          subst (λ (l : List ℕ). AreDriven c.args.ports.now c.args.counts g.reset g.steady.now g.offers.now g.accepts.now g.holds.now c.args.values.now l (i + 1)) (sym w.values-is) more)
+      | else-not-port w ↦ (
+          let more = output_passed c.args.ports.now c.args.counts g.reset g.steady.now g.offers.now g.accepts.now g.holds.now c.args.values.now c.loop-number.values i p at w.if-not-port.false c.loop-number.invariant in
+          subst (λ (l : List ℕ). AreDriven c.args.ports.now c.args.counts g.reset g.steady.now g.offers.now g.accepts.now g.holds.now c.args.values.now l (i + 1)) (sym w.values-is) more)
+    ]

@@ -1,0 +1,57 @@
+-- The lines of assignments.
+use Rattle.std.specs.Prelude.{◌≡◌, ℕ, List, length, Some, slice_get}
+use Rattle.rtl_ir.specs.declared.design.Module.{Module}
+use Rattle.rtl_ir.specs.declared.design.Assign.{Assign}
+use Rattle.rtl_ir.specs.declared.design.Sign.{Sign}
+use Rattle.rtl_ir.specs.declared.design.Sign.TheVariants.{Add, Sub, Mul, Div, And, Or, Xor, Eq, Lt}
+use Rattle.rtl_ir.specs.declared.design.Expr.{Expr}
+use Rattle.rtl_ir.specs.declared.design.Expr.TheVariants.{Net as Plain, Literal, Not, Binary, Concat, Repeat, Part, Choose, Cell}
+use Rattle.rtl_ir.specs.Value.{width_of}
+use Rattle.verilog_sim.specs.declared.line.Step.{Step}
+use Rattle.verilog_sim.specs.declared.line.Step.TheVariants.{Copy, Literal as DoLiteral, Not as DoNot, Add as DoAdd, Sub as DoSub, Mul as DoMul, Div as DoDiv, And as DoAnd, Or as DoOr, Xor as DoXor, Eq as DoEq, Lt as DoLt, Concat as DoConcat, Repeat as DoRepeat, Part as DoPart, Choose as DoChoose, Cell as DoCell}
+use Rattle.verilog_sim.specs.declared.line.Line.{Line}
+
+-- a step is that of an operator on two nets
+abbrev pub IsBinary : Sign → ℕ → ℕ → Step → Type 0
+IsBinary Add n o (DoAdd a b) = (a ≡ n) × (b ≡ o)
+IsBinary Sub n o (DoSub a b) = (a ≡ n) × (b ≡ o)
+IsBinary Mul n o (DoMul a b) = (a ≡ n) × (b ≡ o)
+IsBinary Div n o (DoDiv a b) = (a ≡ n) × (b ≡ o)
+IsBinary And n o (DoAnd a b) = (a ≡ n) × (b ≡ o)
+IsBinary Or n o (DoOr a b) = (a ≡ n) × (b ≡ o)
+IsBinary Xor n o (DoXor a b) = (a ≡ n) × (b ≡ o)
+IsBinary Eq n o (DoEq a b) = (a ≡ n) × (b ≡ o)
+IsBinary Lt n o (DoLt a b) = (a ≡ n) × (b ≡ o)
+IsBinary s n o x = ⊥
+
+-- a step is that of an expression
+abbrev pub IsStepOf : Module → List ℕ → Expr → Step → Type 0
+IsStepOf m ls (Plain n) (Copy a) = a ≡ n
+IsStepOf m ls (Literal x) (DoLiteral i) = slice_get ls i ≡ Some x.bits
+IsStepOf m ls (Not n) (DoNot a) = a ≡ n
+IsStepOf m ls (Binary s n o) x = IsBinary s n o x
+IsStepOf m ls (Concat n o) (DoConcat a b low) = (a ≡ n) × (b ≡ o) × (low ≡ width_of m o)
+IsStepOf m ls (Repeat k n) (DoRepeat times low a) = (times ≡ k) × (low ≡ width_of m n) × (a ≡ n)
+IsStepOf m ls (Part n hi lo) (DoPart a low) = (a ≡ n) × (low ≡ lo)
+IsStepOf m ls (Choose n o p) (DoChoose a b c) = (a ≡ n) × (b ≡ o) × (c ≡ p)
+IsStepOf m ls (Cell k n) (DoCell i a) = (i ≡ k) × (a ≡ n)
+IsStepOf m ls e s = ⊥
+
+pub record IsLineOf (m : Module) (ls : List ℕ) (a : Assign) (line : Line) : Type 0 where
+  pub target : line.target ≡ a.target
+  pub width : line.width ≡ width_of m a.target
+  pub step : IsStepOf m ls a.expr line.step
+
+-- the step of an expression, in a table of literals that keeps those that it had
+pub record HasStep (m : Module) (e : Expr) (s : Step) (old new : List ℕ) : Type 0 where
+  pub step : IsStepOf m new e s
+  pub more : (i x : ℕ) → slice_get old i ≡ Some x → slice_get new i ≡ Some x
+
+-- the lines of the first so many assignments, in their order
+pub record AreLines (m : Module) (ls : List ℕ) (assigns : List Assign) (lines : List Line) (count : ℕ) : Type 0 where
+  pub size : length lines ≡ count
+  pub each : (i : ℕ) (a : Assign) (l : Line) → slice_get assigns i ≡ Some a → slice_get lines i ≡ Some l → IsLineOf m ls a l
+
+-- the lines of these assignments
+abbrev pub AreLinesOf : Module → List ℕ → List Assign → List Line → Type 0
+AreLinesOf m ls assigns lines = AreLines m ls assigns lines (length assigns)

@@ -1,0 +1,14 @@
+pub mod Lines
+pub mod Compiled
+pub mod Contents
+pub mod Updates
+pub mod Settled
+pub mod Runnable
+pub mod Drivers
+pub mod State
+pub mod Calls
+pub mod Sources
+pub mod Simulates
+pub mod Channels
+pub mod Names
+pub mod Start

@@ -1,0 +1,102 @@
+-- When a simulator can go on: what its parts have to do with the design.
+use Rattle.std.specs.Prelude.{◌≡◌, ℕ, ◌+◌, ◌^◌, ◌<◌, true, false, Bool, List, [], length, map, replicate, Option, Some, None, slice_get, slice_index, slice_index_or}
+use Rattle.rtl_ir.specs.declared.design.Design.{Design}
+use Rattle.rtl_ir.specs.declared.design.Module.{Module}
+use Rattle.rtl_ir.specs.declared.design.Assign.{Assign}
+use Rattle.rtl_ir.specs.declared.design.Port.{Port}
+use Rattle.rtl_ir.specs.Value.{Family, Contents, width_of, is_reg}
+use Rattle.rtl_ir.specs.Edge.{Fits, after_edge}
+use Rattle.rtl_ir.specs.Flat.{top_of}
+use Rattle.rtl_ir.specs.Ports.{Shape, HasShape, outer_of}
+use Rattle.rtl_ir.specs.Rules.{IsAccepted}
+use Rattle.rtl_ir.specs.Formed.{IsFormedPort}
+use Rattle.rtl_ir.specs.Run.{Outer, Channel}
+use Rattle.verilog_sim.specs.declared.offer.Offer.{Offer}
+use Rattle.verilog_sim.specs.declared.given.Counts.{Counts}
+use Rattle.verilog_sim.specs.declared.line.Line.{Line}
+use Rattle.verilog_sim.specs.Contents.{family_of, contents_of}
+use Rattle.verilog_sim.specs.Compiled.{AreLinesOf}
+use Rattle.verilog_sim.specs.Runnable.{IsRunnable, IsOrderOf}
+use Rattle.verilog_sim.specs.Settled.{AreWords}
+use Rattle.verilog_sim.specs.Sources.{IsGiven, AreApart}
+use Rattle.verilog_sim.specs.Calls.{nothing}
+
+-- a shape with so many ports of each kind, whose names are left open
+abbrev pub unnamed : Counts → Shape
+unnamed c = record {
+  kernels = replicate c.kernels [];
+  scalars = replicate c.scalars ([], [], 0);
+  inputs = replicate c.inputs ([], 0);
+  outputs = replicate c.outputs ([], 0);
+}
+
+-- the nets of the outer ports, by their counts
+abbrev pub outer_at : Option Module → Counts → Outer
+outer_at None c = record { clock = 0; reset = 0; holds = []; steady = []; inputs = []; outputs = []; done = 0 }
+outer_at (Some m) c = outer_of (unnamed c) m
+
+pub record AreCounts (c : Counts) (s : Shape) : Type 0 where
+  pub kernels : c.kernels ≡ length s.kernels
+  pub scalars : c.scalars ≡ length s.scalars
+  pub inputs : c.inputs ≡ length s.inputs
+  pub outputs : c.outputs ≡ length s.outputs
+
+-- a module that can be simulated with ports of a shape, and the lines of its assignments in an order in which they can be
+-- evaluated
+pub record IsProgramOf (m : Module) (c : Counts) (literals : List ℕ) (lines : List Line) : Type 0 where
+  pub runnable : IsRunnable m
+  pub order : List Assign
+  pub ordered : IsOrderOf m order
+  pub lines_are : AreLinesOf m literals order lines
+  pub shape : Shape
+  pub has : HasShape m shape
+  pub counts : AreCounts c shape
+  pub apart : AreApart m.ports
+  pub formed : (i : ℕ) (p : Port) → slice_get m.ports i ≡ Some p → IsFormedPort m p
+
+-- such a program for the top module of an accepted design, which has no instances
+pub record IsProgram (d : Design) (c : Counts) (literals : List ℕ) (lines : List Line) : Type 0 where
+  pub accepted : IsAccepted d
+  pub top : Module
+  pub is_top : top_of d ≡ Some top
+  pub alone : length top.instances ≡ 0
+  pub program : IsProgramOf top c literals lines
+
+-- words of their widths stand in all registers, memories and nets, and at the ports that keep one value
+pub record AreKept (m : Module) (c : Counts) (steady held values : List ℕ) (memories : List (List ℕ)) : Type 0 where
+  pub blocks : length memories ≡ length m.mems
+  pub words : AreWords m values memories
+  pub held_nets : length held ≡ length m.nets
+  pub held_words : (n : ℕ) → is_reg m n ≡ true → slice_index held n < 2 ^ width_of m n
+  pub steady_ports : length steady ≡ c.kernels + c.scalars
+  pub steady_words : (k : ℕ) → k < length steady → slice_index steady k < 2 ^ width_of m (slice_index (outer_of (unnamed c) m).steady k)
+
+-- the values of all nets in an edge: the assignments hold, registers have the values that they hold, and the inputs those
+-- that are given
+pub record IsEvaluated
+    (m : Module) (c : Counts) (reset : Bool) (steady : List ℕ) (offers : List Offer) (accepts holds : List Bool)
+    (held : List ℕ) (memories : List (List ℕ)) (new : List ℕ) : Type 0 where
+  pub words : AreWords m new memories
+  pub fits : Fits m (contents_of held memories) (family_of new)
+  pub given :
+      (i : ℕ) (p : Port)
+      → slice_get m.ports i ≡ Some p
+      → p.output ≡ false
+      → IsGiven c reset steady offers accepts holds i (slice_index new p.net)
+
+-- the words that are offered have the widths of their ports
+abbrev pub AreOffered : Module → Outer → List Offer → Type 0
+AreOffered m o offers = (k : ℕ) (c : Channel) → slice_get o.inputs k ≡ Some c → (slice_index_or offers k nothing).word < 2 ^ width_of m c.word
+
+-- a simulator between two calls
+pub record Simulates
+    (d : Design) (c : Counts) (literals : List ℕ) (lines : List Line) (steady held values : List ℕ) (memories : List (List ℕ)) : Type 0 where
+  pub program : IsProgram d c literals lines
+  pub kept : AreKept program.top c steady held values memories
+
+-- one edge: the values of all nets in it, and what registers and memories hold after it
+pub record IsStepped
+    (m : Module) (c : Counts) (reset : Bool) (steady : List ℕ) (offers : List Offer) (accepts holds : List Bool)
+    (held : List ℕ) (memories : List (List ℕ)) (values later : List ℕ) (words : List (List ℕ)) : Type 0 where
+  pub evaluated : IsEvaluated m c reset steady offers accepts holds held memories values
+  pub after : contents_of later words ≡ after_edge m (contents_of held memories) (family_of values)

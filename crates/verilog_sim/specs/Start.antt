@@ -1,0 +1,29 @@
+-- What a simulator holds before its first call, and how much there is of it.
+use Rattle.std.specs.Prelude.{◌≡◌, ℕ, ◌+◌, ◌-◌, ◌^◌, ◌%◌, ◌<◌, ◌≤◌, min, true, if◌then◌else◌, List, length, replicate, sum_by}
+use Rattle.rtl_ir.specs.declared.design.Net.{Net}
+use Rattle.rtl_ir.specs.declared.design.Mem.{Mem}
+use Rattle.rtl_ir.specs.declared.design.Module.{Module}
+use Rattle.rtl_ir.specs.Value.{Contents, width_of, is_reg, depth_of}
+use Rattle.rtl_ir.specs.Typed.{word_width}
+use Rattle.verilog_sim.specs.declared.error.SimError.{SimError}
+use Rattle.verilog_sim.specs.declared.error.SimError.TheVariants.{TooManyCells, NoMemory}
+
+-- the wires, registers and memory words of a module without instances
+abbrev pub cells_of : Module → ℕ
+cells_of m = length m.nets + sum_by (λ (x : Mem). x.depth) m.mems
+
+abbrev pub held_at_start : ℕ → Net → ℕ
+held_at_start fill n = if n.reg then fill % 2 ^ n.width else 0
+
+abbrev pub words_at_start : ℕ → Mem → List ℕ
+words_at_start fill x = replicate x.depth (fill % 2 ^ x.width)
+
+-- every register and memory word holds the low bits of a word
+pub record IsFilled (m : Module) (fill : ℕ) (c : Contents) : Type 0 where
+  pub regs : (n : ℕ) → is_reg m n ≡ true → c.regs n ≡ fill % 2 ^ width_of m n
+  pub cells : (k a : ℕ) → a < depth_of m k → c.cells k a ≡ fill % 2 ^ word_width m k
+
+-- which answer there is for so many cells
+abbrev pub IsRefusal : ℕ → SimError → Type 0
+IsRefusal cells (TooManyCells n) = (2 ^ 26 < cells) × (n ≡ min cells (2 ^ 64 - 1))
+IsRefusal cells NoMemory = cells ≤ 2 ^ 26

@@ -1,0 +1,58 @@
+// What the registers and memories hold: read before an edge, written after it.
+ghost use Rattle.std.specs.Prelude.{◌≡◌, ◌⊎◌, ℕ, ◌<◌, List, [], length, All, Some, slice_get, slice_index, slice_index_or};
+ghost use Rattle.rtl_ir.specs.declared.design.Module.{Module};
+ghost use Rattle.rtl_ir.specs.declared.design.Update.{Update};
+ghost use Rattle.rtl_ir.specs.declared.design.Target.TheVariants.{Reg};
+ghost use Rattle.rtl_ir.specs.Edge.{updated, updated_all};
+ghost use Rattle.verilog_sim.specs.Contents.{family_of, contents_of, HasDepths};
+ghost use Rattle.verilog_sim.specs.Updates.{IsUpdateSafe, IsLoadSafe, IsLoaded};
+
+use crate::memory::Memory;
+use rtl_ir::{Target, Update};
+
+/// Gives each register the value that it holds.
+pub(crate) fn load(updates: &[Update], held: &[u128], values: &mut [u128])
+    requires safe { All (IsLoadSafe (length values.old)) updates.now }
+    requires held { length held.now ≡ length values.old }
+    ensures { IsLoaded updates.now held.now values.old values.new }
+{
+    for update in updates {
+        if let Target::Reg(net) = update.target {
+            values[net as usize] = held[net as usize];
+        }
+    }
+}
+
+/// Writes what the updates write, with all values from before the edge.
+pub(crate) fn clock(updates: &[Update], values: &[u128], held: &mut [u128], memories: &mut [Memory])
+    requires safe { All (IsUpdateSafe (length values.now) (length memories.old)) updates.now }
+    requires held { length held.old ≡ length values.now }
+    ensures { (m : Module) → HasDepths m memories.old
+        → HasDepths m memories.new
+        × (contents_of held.new memories.new
+        ≡ updated_all m (family_of values.now) updates.now (contents_of held.old memories.old)) }
+{
+    for update in updates {
+        write(update, values, held, memories);
+    }
+}
+
+/// Writes what one update writes.
+fn write(update: &Update, values: &[u128], held: &mut [u128], memories: &mut [Memory])
+    requires safe { IsUpdateSafe (length values.now) (length memories.old) update.now }
+    requires held { length held.old ≡ length values.now }
+    ensures { (m : Module) → HasDepths m memories.old
+        → HasDepths m memories.new
+        × (contents_of held.new memories.new
+        ≡ updated m (family_of values.now) update.now (contents_of held.old memories.old)) }
+{
+    if values[update.enable as usize] == 1 {
+        let word = values[update.value as usize];
+        match update.target {
+            Target::Reg(net) => held[net as usize] = word,
+            Target::Cell(k, address) => {
+                memories[k as usize].write(values[address as usize], word);
+            }
+        }
+    }
+}

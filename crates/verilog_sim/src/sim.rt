@@ -1,0 +1,191 @@
+// The simulator: a design, and what it holds between two edges.
+ghost use Rattle.std.specs.Prelude.{◌≡◌, ℕ, ◌+◌, ◌^◌, ◌<◌, ◌≤◌, [], length, map, Some, slice_index, slice_set, IfOk, OnOk, IfErr};
+ghost use Rattle.rtl_ir.specs.declared.design.Module.{Module};
+ghost use Rattle.rtl_ir.specs.Value.{width_of};
+ghost use Rattle.rtl_ir.specs.Flat.{top_of};
+ghost use Rattle.rtl_ir.specs.Ports.{Shape, HasShape, outer_of};
+ghost use Rattle.rtl_ir.specs.Rules.{IsAccepted, AllHold};
+ghost use Rattle.verilog_sim.specs.State.{contents};
+ghost use Rattle.verilog_sim.specs.Calls.{IsEdge, IsResetEdge, IsDone};
+ghost use Rattle.verilog_sim.specs.Simulates.{AreOffered};
+ghost use Rattle.verilog_sim.specs.Start.{cells_of, IsFilled, IsRefusal};
+
+use crate::compile::{Program, compile};
+use crate::counts::counts_of;
+use crate::evaluate::{look, step, tell, top, value_at};
+use crate::given::{Counts, Given};
+use crate::memory::Memory;
+use crate::order::in_order;
+use crate::start::{count_cells, memories, registers};
+use crate::{Event, Offer, SimError};
+use rtl_ir::Design;
+use std::alloc::Global;
+use std::marker::Model;
+
+/// The greatest number of wires, registers and memory words of a design that is simulated.
+const MOST_CELLS: u64 = 1 << 26;
+
+/// A simulator of a design whose top module has no instances.
+///
+/// A contract sees the design, the nets of its outer ports, the values of the ports that keep one
+/// value, and what its registers and memories hold. All values are unsigned and two-valued.
+#[derive(Drop)]
+pub struct Sim<'a> {
+    design: &'a Design,
+    counts: Counts,
+    program: Program,
+    steady: Vec<u128>,
+    held: Vec<u128>,
+    memories: Vec<Memory>,
+    values: Vec<u128>,
+}
+
+impl<'a> Model for Sim<'a> {
+    ghost use Rattle.rtl_ir.specs.Flat.{top_of};
+    ghost use Rattle.verilog_sim.specs.State.{State};
+
+    ghost Value = { State };
+
+    ghost use Rattle.verilog_sim.specs.Simulates.{outer_at, Simulates};
+
+    ghost view = { λ a. record {
+      design = a.design.now;
+      outer = outer_at (top_of a.design.now) a.counts;
+      steady = a.steady.items;
+      held = a.held.items;
+      memories = a.memories.items;
+    } };
+
+    ghost invariant = { λ a. Simulates a.design.now a.counts a.program.literals.items a.program.lines.items a.steady.items a.held.items a.values.items a.memories.items };
+}
+
+impl<'a> Sim<'a> {
+    /// A simulator of an accepted design. Each register and each memory word holds the low bits of
+    /// `fill`, and each port that keeps one value is 0.
+    ///
+    /// `TooManyCells` comes exactly where the design has more than 2^26 wires, registers and memory
+    /// words, and `NoMemory` where there is no memory for what the simulator holds: 16 bytes for a
+    /// memory word, and some more for a net and for what gives it its value.
+    pub fn new(alloc: Global, design: &'a Design, fill: u128) -> Result<Self, SimError>
+        requires accepted { IsAccepted design.now }
+        requires shape { (m : Module) × (s : Shape) × (top_of design.now ≡ Some m) × HasShape m s }
+        requires alone { (m : Module) → top_of design.now ≡ Some m → length m.instances ≡ 0 }
+        ensures design { IfOk result (λ sim. sim.design ≡ design.now) }
+        ensures outer { IfOk result (λ sim. (m : Module) (s : Shape) → top_of design.now ≡ Some m → HasShape m s → sim.outer ≡ outer_of s m) }
+        ensures steady { IfOk result (λ sim. sim.steady ≡ map (λ n. 0) sim.outer.steady) }
+        ensures filled { IfOk result (λ sim. (m : Module) → top_of design.now ≡ Some m → IsFilled m fill (contents sim [])) }
+        ensures words { IfOk result (λ sim. (m : Module) → top_of design.now ≡ Some m → AllHold design.now m (contents sim)) }
+        ensures small { OnOk result ((m : Module) → top_of design.now ≡ Some m → cells_of m ≤ 2 ^ 26) }
+        ensures refusal { IfErr result (λ e. (m : Module) → top_of design.now ≡ Some m → IsRefusal (cells_of m) e) }
+    {
+        let top = top(design);
+        let cells = count_cells(top);
+        if cells > MOST_CELLS {
+            return Err(SimError::TooManyCells(cells));
+        }
+        let counts = counts_of(top);
+        let order = in_order(alloc, top)?;
+        Ok(Sim {
+            design,
+            counts,
+            program: compile(alloc, top, order.as_slice())?,
+            steady: vec![in alloc; 0; counts.kernels + counts.scalars]?,
+            held: registers(alloc, top, fill)?,
+            memories: memories(alloc, top, fill)?,
+            values: vec![in alloc; 0; top.nets.len()]?,
+        })
+    }
+
+    /// Sets a port that keeps one value: the ticks of a kernel or a scalar, numbered in the order of
+    /// the kernels and then of the scalars. Until it is set such a port is 0.
+    pub fn set(&mut self, port: u32, value: u128)
+        requires port { port < length self.old.steady }
+        requires value { (m : Module) → top_of self.old.design ≡ Some m → value < 2 ^ width_of m (slice_index self.old.outer.steady port) }
+        ensures { self.new ≡ record self.old { steady = slice_set self.old.steady port value } }
+    {
+        self.steady[port as usize] = value;
+    }
+
+    /// One edge with the port reset at 1 and all other inputs at 0, but for the ports that keep one
+    /// value.
+    pub fn reset(&mut self)
+        ensures edge { (m : Module) → top_of self.old.design ≡ Some m → IsResetEdge m self.old self.new }
+        ensures kept { self.new ≡ record self.old { held = self.new.held; memories = self.new.memories } }
+    {
+        let given = Given {
+            reset: true,
+            steady: self.steady.as_slice(),
+            offers: &[],
+            accepts: &[],
+            holds: &[],
+        };
+        step(
+            self.design,
+            self.counts,
+            &self.program,
+            &given,
+            self.held.as_mut_slice(),
+            self.memories.as_mut_slice(),
+            self.values.as_mut_slice(),
+        );
+    }
+
+    /// Whether the port done is 1 while all inputs are 0, but for the ports that keep one value.
+    pub fn done(&mut self) -> bool
+        ensures done { (m : Module) → top_of self.old.design ≡ Some m → IsDone m self.old result }
+        ensures kept { self.new ≡ self.old }
+    {
+        let given = Given {
+            reset: false,
+            steady: self.steady.as_slice(),
+            offers: &[],
+            accepts: &[],
+            holds: &[],
+        };
+        look(
+            self.design,
+            self.counts,
+            &self.program,
+            &given,
+            self.held.as_slice(),
+            self.memories.as_slice(),
+            self.values.as_mut_slice(),
+        );
+        let ports = top(self.design).ports.as_slice();
+        value_at(ports, self.values.as_slice(), ports.len() - 1) == 1
+    }
+
+    /// One edge with the port reset at 0.
+    ///
+    /// `offers` has what stands at each host input, whose words have the widths of their ports,
+    /// `accepts` whether each host output is ready, and `holds` whether each kernel is held. After
+    /// the call `events` has what happened at each host stream, the inputs first.
+    pub fn edge(&mut self, offers: &[Offer], accepts: &[bool], holds: &[bool], events: &mut [Event])
+        requires offers { length offers.now ≡ length self.old.outer.inputs }
+        requires accepts { length accepts.now ≡ length self.old.outer.outputs }
+        requires holds { length holds.now ≡ length self.old.outer.holds }
+        requires words { (m : Module) → top_of self.old.design ≡ Some m → AreOffered m self.old.outer offers.now }
+        requires events { length events.old ≡ length self.old.outer.inputs + length self.old.outer.outputs }
+        ensures edge { (m : Module) → top_of self.old.design ≡ Some m → IsEdge m offers.now accepts.now holds.now self.old self.new events.new }
+        ensures kept { self.new ≡ record self.old { held = self.new.held; memories = self.new.memories } }
+    {
+        let given = Given {
+            reset: false,
+            steady: self.steady.as_slice(),
+            offers,
+            accepts,
+            holds,
+        };
+        step(
+            self.design,
+            self.counts,
+            &self.program,
+            &given,
+            self.held.as_mut_slice(),
+            self.memories.as_mut_slice(),
+            self.values.as_mut_slice(),
+        );
+        let ports = top(self.design).ports.as_slice();
+        tell(ports, self.counts, self.values.as_slice(), events);
+    }
+}

@@ -1,0 +1,7 @@
+pub mod Hex
+pub mod RunFiles
+pub mod Keys
+pub mod Lines
+pub mod Ahead
+pub mod WordFiles
+pub mod Written

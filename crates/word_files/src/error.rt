@@ -1,0 +1,45 @@
+// Why a file of a simulation is refused.
+ghost use Rattle.std.specs.Prelude.{◌≡◌};
+
+use mx_base::{NoMemory, Text};
+use std::alloc::AllocError;
+
+/// Why a file of a simulation is refused. A line counts from 1.
+#[derive(Debug, PartialEq, Eq, Drop)]
+pub enum RunError {
+    /// The run file is no JSON text.
+    NotJson,
+    /// The run file isn't of its form, under this key of the outermost object, or `-` where it is no
+    /// object.
+    Shape(Text),
+    /// A line of this file isn't 1 to 32 hexadecimal digits.
+    BadLine(Text, u64),
+    /// A line of this file says a number that has more bits than the words of its stream.
+    WordRange(Text, u64),
+    /// A read failed, or the file isn't held.
+    ReadFault,
+    /// A write failed.
+    WriteFault,
+    /// No memory was left.
+    NoMemory,
+}
+
+impl From<NoMemory> for RunError {
+    ghost from_gives = { λ _ e. e ≡ NoMemory };
+
+    ghost use Rattle.word_files.specs.declared.error.RunError.TheVariants.{NoMemory};
+
+    fn from(_: NoMemory) -> Self {
+        RunError::NoMemory
+    }
+}
+
+impl From<AllocError> for RunError {
+    ghost from_gives = { λ _ e. e ≡ NoMemory };
+
+    ghost use Rattle.word_files.specs.declared.error.RunError.TheVariants.{NoMemory};
+
+    fn from(_: AllocError) -> Self {
+        RunError::NoMemory
+    }
+}

@@ -1,0 +1,23 @@
+//! The files of a simulation: the run file, and the words of each stream.
+#![tactic(auto)]
+
+mod bytes;
+mod digits;
+mod error;
+mod fit;
+mod hex;
+mod lines;
+mod parts;
+mod reader;
+mod reading;
+mod refusal;
+mod run_file;
+mod writer;
+
+pub use error::RunError;
+pub use reader::WordReader;
+pub use run_file::{PortList, RunFile};
+pub use writer::WordWriter;
+
+#[cfg(test)]
+mod tests;

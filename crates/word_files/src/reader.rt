@@ -1,0 +1,155 @@
+// Reading a file of words.
+ghost use Rattle.std.specs.Prelude.{◌≡◌, ◌⊎◌, ◌≤◌, ◌<◌, ◌+◌, ◌^◌, ℕ, List, Option, slice_get, is_some, if◌then◌else◌, IfOk, OnOk, IsSome, Some, None};
+ghost use Rattle.mx_base.specs.Counts.{Rose};
+ghost use Rattle.mx_base.specs.Files.{Holds, Lacks};
+
+use crate::RunError;
+use crate::bytes::FileBytes;
+use crate::hex::{is_below, parse_word};
+use crate::lines::MOST_TAKEN;
+use crate::refusal::Refusal;
+use mx_base::{Files, NoMemory, ReadError, Text};
+use mx_bits::Word;
+use std::alloc::Global;
+
+/// Reads a file of words, one a line: 1 to 32 hexadecimal digits of either case, ended by LF, which
+/// the last line may lack. It holds a piece of the file, and never more than 33 bytes of a line.
+///
+/// After a refusal it reads no more, and answers that refusal again. After want of memory nothing is
+/// said of what it answers next.
+#[derive(Debug, Drop)]
+pub struct WordReader {
+    pub(crate) alloc: Global,
+    pub(crate) name: Text,
+    pub(crate) width: u8,
+    pub(crate) bytes: FileBytes,
+    pub(crate) lines: u64,
+    pub(crate) refusal: Option<Refusal>,
+    ghost some: { 1 ≤ width },
+    ghost at_most: { width ≤ 128 },
+    ghost counted: { lines ≤ bytes.place },
+}
+
+impl WordReader {
+    ghost use Rattle.word_files.specs.Lines.{lines_of};
+    ghost use Rattle.word_files.specs.WordFiles.{Follows, IsOfLine, Judges, Keeps, Answers, refusal_of};
+    ghost use Rattle.word_files.specs.declared.error.RunError.TheVariants.{ReadFault, NoMemory as WantOfMemory};
+    ghost use Rattle.word_files.specs.declared.refusal.Refusal.{Refusal};
+    ghost use Rattle.word_files.specs.declared.refusal.Refusal.TheVariants as kept;
+
+    /// A reader of the words of this width in this file.
+    pub fn new(alloc: Global, name: Text, width: u8) -> Result<Self, NoMemory>
+        requires some { 1 ≤ width }
+        requires at_most { width ≤ 128 }
+        ensures name { IfOk result (λ made. made.name ≡ name) }
+        ensures width { IfOk result (λ made. made.width ≡ width) }
+        ensures lines { IfOk result (λ made. made.lines ≡ 0) }
+        ensures unrefused { IfOk result (λ made. made.refusal ≡ None) }
+        ensures follows { (file : List ℕ) → IfOk result (Follows file) }
+    {
+        Ok(WordReader {
+            alloc,
+            name,
+            width,
+            bytes: FileBytes::new(alloc)?,
+            lines: 0,
+            refusal: None,
+        })
+    }
+
+    /// The word of the next line; `None` at the end of the file. Errors: `BadLine` where the line
+    /// isn't 1 to 32 hexadecimal digits; `WordRange` where its number has more bits than the words;
+    /// `ReadFault` where a read failed or the file isn't held; and a refusal answered before.
+    pub fn next<F: Files>(&mut self, files: &mut F) -> Result<Option<Word>, RunError>
+        ensures same { F.held files.new ≡ F.held files.old }
+        ensures read_later { F.read_faults files.old ≤ F.read_faults files.new }
+        ensures quiet { (result ≡ Err ReadFault → ⊥) →
+            F.read_faults files.new ≡ F.read_faults files.old }
+        ensures write_quiet { F.write_faults files.new ≡ F.write_faults files.old }
+        ensures name { self.new.name ≡ self.old.name }
+        ensures width { self.new.width ≡ self.old.width }
+
+        // A refusal that is kept is answered, and nothing is read.
+        ensures again { (kept : Refusal) → self.old.refusal ≡ Some kept →
+            Answers (refusal_of self.old.name kept) result }
+        ensures stays { IsSome self.old.refusal → self.new ≡ self.old }
+        ensures unread { IsSome self.old.refusal → files.new ≡ files.old }
+        ensures kept { Keeps self.old.name self.new.refusal result }
+        ensures fault { self.old.refusal ≡ None → result ≡ Err ReadFault →
+            Rose (F.read_faults files.old) (F.read_faults files.new) ⊎ Lacks (F.held files.old) self.old.name }
+
+        // The line after those read decides, where the file is held.
+        ensures line { (file : List ℕ) → Holds (F.held files.old) self.old.name file → Follows file self.old →
+            IsOfLine self.old.name self.old.width (self.old.lines + 1) (slice_get (lines_of file) self.old.lines) result }
+        ensures follows { (file : List ℕ) → Holds (F.held files.old) self.old.name file → Follows file self.old →
+            OnOk result (Follows file self.new) }
+        ensures lines { IfOk result (λ word.
+            self.new.lines ≡ self.old.lines + (if is_some word then 1 else 0)) }
+    {
+        if let Some(refusal) = self.refusal {
+            return Err(self.answer(refusal));
+        }
+        match self.next_word(files) {
+            Ok(word) => Ok(word),
+            Err(refusal) => {
+                self.refusal = Some(refusal);
+                Err(self.answer(refusal))
+            }
+        }
+    }
+
+    // The answer of a refusal.
+    fn answer(&self, refusal: Refusal) -> RunError
+        ensures refusal { (result ≡ refusal_of self.now.name refusal) ⊎ (result ≡ WantOfMemory) }
+        ensures fault { refusal ≡ kept.ReadFault → result ≡ ReadFault }
+    {
+        match refusal {
+            Refusal::ReadFault => RunError::ReadFault,
+            Refusal::NoMemory => RunError::NoMemory,
+            Refusal::BadLine(line) => match self.name.copy(self.alloc) {
+                Ok(name) => RunError::BadLine(name, line),
+                Err(NoMemory) => RunError::NoMemory,
+            },
+            Refusal::WordRange(line) => match self.name.copy(self.alloc) {
+                Ok(name) => RunError::WordRange(name, line),
+                Err(NoMemory) => RunError::NoMemory,
+            },
+        }
+    }
+
+    // The word of the next line, or why it is refused.
+    fn next_word<F: Files>(&mut self, files: &mut F) -> Result<Option<Word>, Refusal>
+        ensures same { F.held files.new ≡ F.held files.old }
+        ensures read_later { F.read_faults files.old ≤ F.read_faults files.new }
+        ensures quiet { (result ≡ Err kept.ReadFault → ⊥) →
+            F.read_faults files.new ≡ F.read_faults files.old }
+        ensures write_quiet { F.write_faults files.new ≡ F.write_faults files.old }
+        ensures name { self.new.name ≡ self.old.name }
+        ensures width { self.new.width ≡ self.old.width }
+        ensures refusal { self.new.refusal ≡ self.old.refusal }
+        ensures fault { result ≡ Err kept.ReadFault →
+            Rose (F.read_faults files.old) (F.read_faults files.new) ⊎ Lacks (F.held files.old) self.old.name }
+        ensures line { (file : List ℕ) → Holds (F.held files.old) self.old.name file → Follows file self.old →
+            Judges self.old.width (self.old.lines + 1) (slice_get (lines_of file) self.old.lines) result }
+        ensures follows { (file : List ℕ) → Holds (F.held files.old) self.old.name file → Follows file self.old →
+            OnOk result (Follows file self.new) }
+        ensures lines { IfOk result (λ word.
+            self.new.lines ≡ self.old.lines + (if is_some word then 1 else 0)) }
+    {
+        let mut line = [0; MOST_TAKEN];
+        let count = match self.bytes.take_line(files, &self.name, &mut line) {
+            Ok(Some(count)) => count,
+            Ok(None) => return Ok(None),
+            Err(ReadError::ReadFault) => return Err(Refusal::ReadFault),
+            Err(_) => return Err(Refusal::NoMemory),
+        };
+        self.lines += 1;
+        let Some(bits) = parse_word(&line[..count]) else {
+            return Err(Refusal::BadLine(self.lines));
+        };
+        if !is_below(bits, self.width) {
+            return Err(Refusal::WordRange(self.lines));
+        }
+        Ok(Some(Word::new(bits, self.width)))
+    }
+}
