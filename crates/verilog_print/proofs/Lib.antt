@@ -1,5 +1,7 @@
+pub mod Instances
 pub mod Letters
 pub mod Marks
+pub mod Modules
 pub mod Numerals
 pub mod Same
 pub mod Spelling

@@ -1,6 +1,7 @@
 -- The tree of a module is the module, by name.
-use Rattle.std.proofs.Common.{◌≡◌, ◌∙◌, ℕ, suc, ◌+◌, ◌<◌, Bool, true, false, ◌||◌, List, [], ◌∷◌, ◌++◌, length, refl, sym, ap, subst, Some, append_assoc, if◌then◌else◌}
+use Rattle.std.proofs.Common.{◌≡◌, ◌∙◌, ℕ, suc, ◌+◌, ◌<◌, Bool, true, false, ◌||◌, List, [], ◌∷◌, ◌++◌, length, refl, sym, ap, subst, Some, append_assoc, arith, if◌then◌else◌}
 use Rattle.std.specs.Prelude.{map, slice_get}
+use Rattle.std.specs.List.{zip}
 use Rattle.rtl_ir.specs.declared.design.Net.{Net}
 use Rattle.std.proofs.lemmas.List.{append-nil}
 use Rattle.rtl_ir.specs.declared.design.Mem.{Mem}
@@ -12,20 +13,22 @@ use Rattle.rtl_ir.specs.Operands.{target_mem}
 use Rattle.rtl_ir.specs.declared.design.Expr.{Expr}
 use Rattle.rtl_ir.specs.declared.design.Expr.TheVariants.{Net as Plain, Literal, Not, Binary, Concat, Repeat, Part as Slice, Choose, Cell}
 use Rattle.rtl_ir.specs.declared.design.Assign.{Assign}
+use Rattle.rtl_ir.specs.declared.design.Instance.{Instance}
 use Rattle.rtl_ir.specs.declared.design.Module.{Module}
 use Rattle.rtl_ir.specs.declared.design.Design.{Design}
-use Rattle.rtl_ir.specs.Formed.{IsFormedPort, IsFormedExpr, IsFormedAssign, IsFormedUpdate, IsFormedModule}
-use Rattle.rtl_text.specs.Tree.{ItemTree, UpdateTree, WireItem, RegisterItem, MemoryItem, AssignItem, AlwaysItem, InstanceItem}
-use Rattle.rtl_text.specs.Text.{Pairwise, IsNet, PortIs, ExprIs, AssignIs, ModuleIs, is_port, wires_in, wires_from, registers_in, registers_of, memories_in, memories_of, assigns_in, updates_in, instances_in, UpdateIs, InstanceIs, IsMem, Declared, DeclaredMemory, NamedAssign, NamedInstance}
-use Rattle.verilog_print.specs.Straight.{IsStraightModule}
+use Rattle.rtl_ir.specs.Formed.{IsFormedPort, IsFormedExpr, IsFormedAssign, IsFormedUpdate, IsFormedInstance, IsFormedModule, IsFormed}
+use Rattle.rtl_text.specs.Tree.{Connection, ItemTree, UpdateTree, WireItem, RegisterItem, MemoryItem, AssignItem, AlwaysItem, InstanceItem}
+use Rattle.rtl_text.specs.Text.{Pairwise, IsNet, PortIs, ExprIs, AssignIs, ModuleIs, is_port, wires_in, wires_from, registers_in, registers_of, memories_in, memories_of, assigns_in, updates_in, instances_in, UpdateIs, IsJoined, InstanceIs, IsMem, Declared, DeclaredMemory, NamedAssign, NamedInstance}
 use Rattle.verilog_print.specs.Printed.{name_of, mem_name}
-use Rattle.verilog_print.proofs.Trees.{net_at, port_tree, port_of, expr_tree, net_item, net_items, memory_item, assign_item, update_of, update_tree, always_items, items_of, module_tree, mem_at}
+use Rattle.verilog_print.proofs.Trees.{element_at, port_tree, port_of, expr_tree, net_item, net_items, memory_item, assign_item, update_of, update_tree, always_items}
+use Rattle.verilog_print.proofs.Instances.{connection_tree, instance_tree, named_instance, instance_item, InnerOf, IsPart, parts}
+use Rattle.verilog_print.proofs.Modules.{items_of, module_tree}
 
 named : (m : Module) (n : ℕ) → n < length m.nets → IsNet m (name_of m.nets n) n
-named m n h = let (net, e) = net_at m n h in rw e refl
+named m n h = let (net, e) = element_at m.nets n h in rw e refl
 
 mem_named : (m : Module) (k : ℕ) → k < length m.mems → IsMem m (mem_name (slice_get m.mems k)) k
-mem_named m k h = let (mem, e) = mem_at m k h in rw e refl
+mem_named m k h = let (mem, e) = element_at m.mems k h in rw e refl
 
 expr_is : (m : Module) (e : Expr) → IsFormedExpr m e → ExprIs m (expr_tree m e) e
 unfolding expr_tree
@@ -46,7 +49,7 @@ port_then m p net e w false d = record { net = net; of = e; named = refl; wide =
 
 port_is : (m : Module) (p : Port) → IsFormedPort m p → PortIs m (port_tree m.nets p) p
 unfolding port_tree
-port_is m p f = let (net, e) = net_at m p.net f.net in rw e (port_then m p net e (rw e at f.wire) p.output refl)
+port_is m p f = let (net, e) = element_at m.nets p.net f.net in rw e (port_then m p net e (rw e at f.wire) p.output refl)
 
 ports_are : (m : Module) (ports : List Port) → ((k : ℕ) (p : Port) → slice_get ports k ≡ Some p → IsFormedPort m p) → Pairwise (PortIs m) (map (port_tree m.nets) ports) ports
 ports_are m [] f = tt
@@ -154,32 +157,78 @@ kept_first {ys = ys} whole xs ws h e k = h ∙ ap (λ l. l ++ ws) e ∙ ap (λ l
 empty_both : {A : Type 0} (whole xs ws : List A) → whole ≡ xs ++ ws → xs ≡ [] → ws ≡ [] → whole ≡ []
 empty_both whole xs ws h e k = h ∙ ap (λ l. l ++ ws) e ∙ k
 
-pub module_is : (d : Design) (earlier : List Module) (m : Module) → IsFormedModule earlier m → IsStraightModule m → ModuleIs d (module_tree m) m
+-- instances
+instances_declare : (modules : List Module) (m : Module) (instances : List Instance) → Declares (map (instance_item modules m) instances) [] [] [] [] [] (map (named_instance modules m) instances)
+unfolding instance_item
+instances_declare modules m [] = record { wires = refl; registers = refl; memories = refl; assigns = refl; updates = refl; instances = refl }
+instances_declare modules m (i ∷ instances) = let r = instances_declare modules m instances in record { wires = r.wires; registers = r.registers; memories = r.memories; assigns = r.assigns; updates = r.updates; instances = ap (λ l. named_instance modules m i ∷ l) r.instances }
+
+-- with one connection more
+joined_later : (m inner : Module) (c : Connection) (cs : List Connection) (ports : List Port) (nets : List ℕ) → Pairwise (IsJoined m inner cs) ports nets → Pairwise (IsJoined m inner (c ∷ cs)) ports nets
+joined_later m inner c cs [] [] h = tt
+joined_later m inner c cs [] (n ∷ nets) h = h
+joined_later m inner c cs (p ∷ ports) [] h = h
+joined_later m inner c cs (p ∷ ports) (n ∷ nets) (h, k) =
+    let (j, within, is) = h.listed in
+    (record { port = h.port; net = h.net; listed = (suc j, omega arith, is); named = h.named; joined = h.joined }, joined_later m inner c cs ports nets k)
+
+joined_each : (m inner : Module) (ports : List Port) (nets : List ℕ) → length nets ≡ length ports → ((k : ℕ) (p : Port) → slice_get ports k ≡ Some p → IsFormedPort inner p) → ((k n : ℕ) → slice_get nets k ≡ Some n → n < length m.nets)
+    → Pairwise (IsJoined m inner (map (connection_tree m.nets inner.nets) (zip ports nets))) ports nets
+unfolding connection_tree
+joined_each m inner [] [] same f g = tt
+joined_each m inner [] (n ∷ nets) same f g = absurd (omega arith)
+joined_each m inner (p ∷ ports) [] same f g = absurd (omega arith)
+joined_each m inner (p ∷ ports) (n ∷ nets) same f g = (
+  record { port = name_of inner.nets p.net; net = name_of m.nets n; listed = (0, omega arith, refl); named = named inner p.net (f 0 p refl).net; joined = named m n (g 0 n refl) },
+  joined_later m inner _ _ ports nets (joined_each m inner ports nets (omega arith) (λ k q e. f (suc k) q e) (λ k q e. g (suc k) q e)),
+)
+
+connection_each : (outer inner : List Net) (ports : List Port) (nets : List ℕ) → length nets ≡ length ports → length (map (connection_tree outer inner) (zip ports nets)) ≡ length ports
+connection_each outer inner [] nets same = refl
+connection_each outer inner (p ∷ ports) [] same = absurd (omega arith)
+connection_each outer inner (p ∷ ports) (n ∷ nets) same = ap suc (connection_each outer inner ports nets (omega arith))
+
+instance_is : (d : Design) (m : Module) (i : Instance) (earlier : List Module) → InnerOf d.modules i → IsFormedInstance earlier m i → InstanceIs d m (named_instance d.modules m i) i
+unfolding named_instance instance_tree
+instance_is d m i earlier o f =
+    subst (λ inner. InstanceIs d m (instance_tree m.nets i inner) i) (sym o.of)
+    (record { inner = o.inner; of = o.of; module_named = refl; named = refl; joined = joined_each m o.inner o.inner.ports i.nets o.nets o.formed.ports f.nets; each_once = connection_each m.nets o.inner.nets o.inner.ports i.nets o.nets })
+
+instances_are : (d : Design) (m : Module) (instances : List Instance) (earlier : List Module) → ((k : ℕ) (i : Instance) → slice_get instances k ≡ Some i → InnerOf d.modules i)
+    → ((k : ℕ) (i : Instance) → slice_get instances k ≡ Some i → IsFormedInstance earlier m i) → Pairwise (InstanceIs d m) (map (named_instance d.modules m) instances) instances
+instances_are d m [] earlier o f = tt
+instances_are d m (i ∷ instances) earlier o f = (instance_is d m i earlier (o 0 i refl) (f 0 i refl), instances_are d m instances earlier (λ k x e. o (suc k) x e) (λ k x e. f (suc k) x e))
+
+module_is : (d : Design) (m : Module) → IsPart d.modules m → ModuleIs d (module_tree d.modules m) m
 unfolding module_tree items_of
-module_is d earlier m f s =
+module_is d m part =
+    let f : IsFormedModule part.earlier m = part.formed in
     let us : List ItemTree = always_items m m.updates ++ [] in
-    let bs : List ItemTree = map (assign_item m) m.assigns ++ us in
+    let is : List ItemTree = map (instance_item d.modules m) m.instances ++ us in
+    let bs : List ItemTree = map (assign_item m) m.assigns ++ is in
     let ms : List ItemTree = map memory_item m.mems ++ bs in
     let n = nets_declare m.ports 0 m.nets in
     let x = memories_declare m.mems in
     let a = assigns_declare m m.assigns in
+    let i = instances_declare d.modules m m.instances in
     let u = always_declare m m.updates in
     let j = joined (net_items m.ports 0 m.nets) ms in
     let k = joined (map memory_item m.mems) bs in
-    let l = joined (map (assign_item m) m.assigns) us in
+    let l = joined (map (assign_item m) m.assigns) is in
+    let o = joined (map (instance_item d.modules m) m.instances) us in
     let e = append-nil (always_items m m.updates) in
     let wires : wires_in (net_items m.ports 0 m.nets ++ ms) ≡ wires_from m.ports 0 m.nets =
-    kept_first _ _ _ j.wires n.wires (empty_both _ _ _ k.wires x.wires (empty_both _ _ _ l.wires a.wires (ap wires_in e ∙ u.wires))) in
+    kept_first _ _ _ j.wires n.wires (empty_both _ _ _ k.wires x.wires (empty_both _ _ _ l.wires a.wires (empty_both _ _ _ o.wires i.wires (ap wires_in e ∙ u.wires)))) in
     let registers : registers_in (net_items m.ports 0 m.nets ++ ms) ≡ registers_of m.nets =
-    kept_first _ _ _ j.registers n.registers (empty_both _ _ _ k.registers x.registers (empty_both _ _ _ l.registers a.registers (ap registers_in e ∙ u.registers))) in
+    kept_first _ _ _ j.registers n.registers (empty_both _ _ _ k.registers x.registers (empty_both _ _ _ l.registers a.registers (empty_both _ _ _ o.registers i.registers (ap registers_in e ∙ u.registers)))) in
     let memories : memories_in (net_items m.ports 0 m.nets ++ ms) ≡ memories_of m.mems =
-    kept_last _ _ _ j.memories n.memories (kept_first _ _ _ k.memories x.memories (empty_both _ _ _ l.memories a.memories (ap memories_in e ∙ u.memories))) in
+    kept_last _ _ _ j.memories n.memories (kept_first _ _ _ k.memories x.memories (empty_both _ _ _ l.memories a.memories (empty_both _ _ _ o.memories i.memories (ap memories_in e ∙ u.memories)))) in
     let assigns : assigns_in (net_items m.ports 0 m.nets ++ ms) ≡ map (named_assign m) m.assigns =
-    kept_last _ _ _ j.assigns n.assigns (kept_last _ _ _ k.assigns x.assigns (kept_first _ _ _ l.assigns a.assigns (ap assigns_in e ∙ u.assigns))) in
+    kept_last _ _ _ j.assigns n.assigns (kept_last _ _ _ k.assigns x.assigns (kept_first _ _ _ l.assigns a.assigns (empty_both _ _ _ o.assigns i.assigns (ap assigns_in e ∙ u.assigns)))) in
     let updates : updates_in (net_items m.ports 0 m.nets ++ ms) ≡ map (update_tree m) m.updates =
-    kept_last _ _ _ j.updates n.updates (kept_last _ _ _ k.updates x.updates (kept_last _ _ _ l.updates a.updates (ap updates_in e ∙ u.updates))) in
-    let instances : instances_in (net_items m.ports 0 m.nets ++ ms) ≡ [] =
-    empty_both _ _ _ j.instances n.instances (empty_both _ _ _ k.instances x.instances (empty_both _ _ _ l.instances a.instances (ap instances_in e ∙ u.instances))) in
+    kept_last _ _ _ j.updates n.updates (kept_last _ _ _ k.updates x.updates (kept_last _ _ _ l.updates a.updates (kept_last _ _ _ o.updates i.updates (ap updates_in e ∙ u.updates)))) in
+    let instances : instances_in (net_items m.ports 0 m.nets ++ ms) ≡ map (named_instance d.modules m) m.instances =
+    kept_last _ _ _ j.instances n.instances (kept_last _ _ _ k.instances x.instances (kept_last _ _ _ l.instances a.instances (kept_first _ _ _ o.instances i.instances (ap instances_in e ∙ u.instances)))) in
     record {
       named = refl;
       ports = ports_are m m.ports f.ports;
@@ -188,12 +237,13 @@ module_is d earlier m f s =
       memories = memories;
       assigns = subst (λ l. Pairwise (AssignIs m) l m.assigns) (sym assigns) (assigns_are m m.assigns f.assigns);
       updates = subst (λ l. Pairwise (UpdateIs m) l m.updates) (sym updates) (updates_are m m.updates f.updates);
-      instances = subst (λ l. Pairwise (InstanceIs d m) l m.instances) (sym instances) (subst (λ l. Pairwise (InstanceIs d m) [] l) (sym s.instances) tt);
+      instances = subst (λ l. Pairwise (InstanceIs d m) l m.instances) (sym instances) (instances_are d m m.instances part.earlier part.inner f.instances);
     }
 
-pub modules_are : (d : Design) (modules : List Module) → ((k : ℕ) (m : Module) → slice_get modules k ≡ Some m → (before : List Module) × IsFormedModule before m) → ((k : ℕ) (m : Module) → slice_get modules k ≡ Some m → IsStraightModule m)
-    → Pairwise (ModuleIs d) (map module_tree modules) modules
-modules_are d [] f s = tt
-modules_are d (m ∷ modules) f s =
-    let (before, g) = f 0 m refl in
-    (module_is d before m g (s 0 m refl), modules_are d modules (λ k x e. f (suc k) x e) (λ k x e. s (suc k) x e))
+-- some of the modules of the design
+some_are : (d : Design) (some : List Module) → ((k : ℕ) (m : Module) → slice_get some k ≡ Some m → IsPart d.modules m) → Pairwise (ModuleIs d) (map (module_tree d.modules) some) some
+some_are d [] f = tt
+some_are d (m ∷ some) f = (module_is d m (f 0 m refl), some_are d some (λ k x e. f (suc k) x e))
+
+pub modules_are : (d : Design) → IsFormed d.modules → Pairwise (ModuleIs d) (map (module_tree d.modules) d.modules) d.modules
+modules_are d f = some_are d d.modules (parts d.modules f)

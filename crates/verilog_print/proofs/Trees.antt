@@ -1,8 +1,7 @@
 -- The tree of a module, and that its printed bytes spell it.
-use Rattle.std.proofs.Common.{◌≡◌, ℕ, suc, ◌+◌, ◌-◌, ◌<◌, ◌≤◌, Bool, true, false, List, [], ◌∷◌, ◌++◌, length, refl, sym, subst, arith, ◌⊎◌, inl, inr, get_or, Some, None, append_assoc, if◌then◌else◌}
+use Rattle.std.proofs.Common.{◌≡◌, ℕ, zero, suc, ◌+◌, ◌-◌, ◌<◌, ◌≤◌, Bool, true, false, List, [], ◌∷◌, ◌++◌, length, refl, sym, subst, arith, Some, append_assoc, if◌then◌else◌}
 use Rattle.std.specs.Prelude.{codes, map, slice_get}
-use Rattle.std.specs.List.{flat_map, list_any}
-use Rattle.std.proofs.lemmas.Option.{slice_get_cases}
+use Rattle.std.specs.List.{flat_map}
 use Rattle.rtl_ir.specs.declared.design.Net.{Net}
 use Rattle.rtl_ir.specs.declared.design.Mem.{Mem}
 use Rattle.rtl_ir.specs.declared.design.Port.{Port}
@@ -18,12 +17,12 @@ use Rattle.rtl_ir.specs.declared.design.Assign.{Assign}
 use Rattle.rtl_ir.specs.declared.design.Module.{Module}
 use Rattle.rtl_ir.specs.Names.{is_name, continues_name}
 use Rattle.rtl_ir.specs.Value.{net_width}
-use Rattle.rtl_ir.specs.Formed.{IsFormedNet, IsFormedPort, IsFormedExpr, IsFormedAssign, IsFormedMem, IsFormedUpdate, IsFormedModule, is_bit_input, net_name}
-use Rattle.rtl_text.specs.Tree.{Name, PortTree, InputPort, OutputPort, ExprTree, PlainTree, LiteralTree, NotTree, BinaryTree, ConcatTree, RepeatTree, PartTree, ChooseTree, CellTree, ItemTree, WireItem, RegisterItem, MemoryItem, AssignItem, AlwaysItem, UpdateTree, RegisterUpdate, CellUpdate, ModuleTree}
+use Rattle.rtl_ir.specs.Formed.{IsFormedNet, IsFormedPort, IsFormedExpr, IsFormedAssign, IsFormedMem, IsFormedUpdate, IsFormedModule, net_name}
+use Rattle.rtl_text.specs.Tree.{Name, PortTree, InputPort, OutputPort, ExprTree, PlainTree, LiteralTree, NotTree, BinaryTree, ConcatTree, RepeatTree, PartTree, ChooseTree, CellTree, ItemTree, WireItem, RegisterItem, MemoryItem, AssignItem, AlwaysItem, UpdateTree, RegisterUpdate, CellUpdate}
 use Rattle.rtl_text.specs.Productions.{Part, Choice, sign_bytes}
 use Rattle.rtl_text.specs.Text.{is_port}
-use Rattle.verilog_print.specs.Printed.{digits, net_text, declared, mem_name, name_of, direction_text, port_text, ports_text, declaration_text, nets_text, modules_text, expr_text, assign_text, memory_text, update_text, updates_text, target_text, cell_text, module_text}
-use Rattle.verilog_print.proofs.Spelling.{Spells, pick, blank, end, lone, sign, word, id, number, number_then, literal, slash, equal, at_most}
+use Rattle.verilog_print.specs.Printed.{digits, net_text, declared, mem_name, name_of, direction_text, port_text, ports_text, declaration_text, nets_text, expr_text, assign_text, memory_text, update_text, updates_text, target_text, cell_text}
+use Rattle.verilog_print.proofs.Spelling.{Spells, pick, blank, lone, sign, word, id, number, number_then, literal, slash, equal, at_most}
 
 unfoldable pub expr_tree : Module → Expr → ExprTree
 expr_tree m (Plain n) = PlainTree (name_of m.nets n)
@@ -53,10 +52,10 @@ binary_sign Eq r = equal r
 binary_sign Lt r = sign refl refl (λ _. refl) r
 
 -- the brackets and stops
-open_round : {ps : List Part} {rest : List ℕ} → Spells ps rest → Spells (Part.Sign_ (codes "(") ∷ ps) (40 ∷ rest)
+pub open_round : {ps : List Part} {rest : List ℕ} → Spells ps rest → Spells (Part.Sign_ (codes "(") ∷ ps) (40 ∷ rest)
 open_round r = lone refl refl (λ _ _. refl) r
 
-close_round : {ps : List Part} {rest : List ℕ} → Spells ps rest → Spells (Part.Sign_ (codes ")") ∷ ps) (41 ∷ rest)
+pub close_round : {ps : List Part} {rest : List ℕ} → Spells ps rest → Spells (Part.Sign_ (codes ")") ∷ ps) (41 ∷ rest)
 close_round r = lone refl refl (λ _ _. refl) r
 
 open_square : {ps : List Part} {rest : List ℕ} → Spells ps rest → Spells (Part.Sign_ (codes "[") ∷ ps) (91 ∷ rest)
@@ -71,13 +70,13 @@ open_curly r = lone refl refl (λ _ _. refl) r
 close_curly : {ps : List Part} {rest : List ℕ} → Spells ps rest → Spells (Part.Sign_ (codes "}") ∷ ps) (125 ∷ rest)
 close_curly r = lone refl refl (λ _ _. refl) r
 
-semicolon : {ps : List Part} {rest : List ℕ} → Spells ps rest → Spells (Part.Sign_ (codes ";") ∷ ps) (59 ∷ rest)
+pub semicolon : {ps : List Part} {rest : List ℕ} → Spells ps rest → Spells (Part.Sign_ (codes ";") ∷ ps) (59 ∷ rest)
 semicolon r = lone refl refl (λ _ _. refl) r
 
 colon : {ps : List Part} {rest : List ℕ} → Spells ps rest → Spells (Part.Sign_ (codes ":") ∷ ps) (58 ∷ rest)
 colon r = lone refl refl (λ _ _. refl) r
 
-comma : {ps : List Part} {rest : List ℕ} → Spells ps rest → Spells (Part.Sign_ (codes ",") ∷ ps) (44 ∷ rest)
+pub comma : {ps : List Part} {rest : List ℕ} → Spells ps rest → Spells (Part.Sign_ (codes ",") ∷ ps) (44 ∷ rest)
 comma r = lone refl refl (λ _ _. refl) r
 
 expr_spells : (m : Module) (e : Expr) {ps : List Part} {rest : List ℕ} → AllNamed m → IsFormedExpr m e → Spells ps (59 ∷ rest) → Spells (Part.Expr (expr_tree m e) ∷ ps) (expr_text m e ++ 59 ∷ rest)
@@ -120,30 +119,22 @@ unfolding port_of
 port_then true net b f h r = simp append_assoc (pick Choice.output (word (codes "output") 32 refl refl refl (blank refl (word (codes "wire") 32 refl refl refl (blank refl (simp append_assoc at (net_spells net b f h r)))))))
 port_then false net b f h r = simp append_assoc (pick Choice.input (word (codes "input") 32 refl refl refl (blank refl (word (codes "wire") 32 refl refl refl (blank refl (simp append_assoc at (net_spells net b f h r)))))))
 
--- nets and memories by number
-pub net_at : (m : Module) (n : ℕ) → n < length m.nets → (net : Net) × (slice_get m.nets n ≡ Some net)
-net_at m n h = go (slice_get_cases m.nets n).1 where
-  go : ((x : Net) × (n < length m.nets) × (slice_get m.nets n ≡ Some x) × (get_or m.nets n x ≡ x)) ⊎ ((length m.nets ≤ n) × (slice_get m.nets n ≡ None)) → (net : Net) × (slice_get m.nets n ≡ Some net)
-  go (inl (x, k, e, o)) = (x, e)
-  go (inr (k, e)) = absurd (omega arith)
-
-pub mem_at : (m : Module) (k : ℕ) → k < length m.mems → (mem : Mem) × (slice_get m.mems k ≡ Some mem)
-mem_at m k h = go (slice_get_cases m.mems k).1
-  where
-    go : ((x : Mem) × (k < length m.mems) × (slice_get m.mems k ≡ Some x) × (get_or m.mems k x ≡ x)) ⊎ ((length m.mems ≤ k) × (slice_get m.mems k ≡ None)) → (mem : Mem) × (slice_get m.mems k ≡ Some mem)
-    go (inl (x, j, e, o)) = (x, e)
-    go (inr (j, e)) = absurd (omega arith)
+-- the element of this number
+pub element_at : {A : Type 0} (xs : List A) (n : ℕ) → n < length xs → (x : A) × (slice_get xs n ≡ Some x)
+element_at [] n h = absurd (omega arith)
+element_at (x ∷ xs) zero h = (x, refl)
+element_at (x ∷ xs) (suc n) h = element_at xs n (omega arith)
 
 pub all_named : (earlier : List Module) (m : Module) → IsFormedModule earlier m → AllNamed m
 all_named earlier m f = record {
-  net = λ n h. let (net, e) = net_at m n h in rw e (f.nets n net e).name;
-  mem = λ k h. let (mem, e) = mem_at m k h in rw e (f.mems k mem e).name;
+  net = λ n h. let (net, e) = element_at m.nets n h in rw e (f.nets n net e).name;
+  mem = λ k h. let (mem, e) = element_at m.mems k h in rw e (f.mems k mem e).name;
 }
 
 port_spells : (earlier : List Module) (m : Module) (p : Port) {ps : List Part} (b : ℕ) {rest : List ℕ} → IsFormedModule earlier m → IsFormedPort m p → continues_name b ≡ false → Spells ps (b ∷ rest)
     → Spells (Part.Port (port_tree m.nets p) ∷ ps) (port_text m.nets p ++ b ∷ rest)
 unfolding port_tree
-port_spells earlier m p b f g h r = let (net, e) = net_at m p.net g.net in rw e (port_then p.output net b (f.nets p.net net e) h r)
+port_spells earlier m p b f g h r = let (net, e) = element_at m.nets p.net g.net in rw e (port_then p.output net b (f.nets p.net net e) h r)
 
 -- what follows a port begins with a byte of no name
 others_text : Module → List Port → List ℕ
@@ -168,7 +159,7 @@ others_spell earlier m (p ∷ ports) {ps = ps} {rest = rest} f g r =
     rw append_assoc (port_before earlier m p ports rest f (g 0 p refl) left) in
     pick Choice.more_ports (comma (blank refl one))
 
-ports_spell : (earlier : List Module) (m : Module) (ports : List Port) {ps : List Part} {rest : List ℕ} → 0 < length ports → IsFormedModule earlier m → ((k : ℕ) (q : Port) → slice_get ports k ≡ Some q → IsFormedPort m q) → Spells ps (41 ∷ rest)
+pub ports_spell : (earlier : List Module) (m : Module) (ports : List Port) {ps : List Part} {rest : List ℕ} → 0 < length ports → IsFormedModule earlier m → ((k : ℕ) (q : Port) → slice_get ports k ≡ Some q → IsFormedPort m q) → Spells ps (41 ∷ rest)
     → Spells (Part.Ports (map (port_tree m.nets) ports) ∷ ps) (ports_text m.nets ports ++ 41 ∷ rest)
 unfolding others_text
 ports_spell earlier m [] z f g r = absurd (omega arith)
@@ -199,7 +190,7 @@ declared_spells false false n is {ps = ps} {rest = rest} f r =
     let t : Spells (Part.Range n.width ∷ Part.Id n.name ∷ Part.Sign_ (codes ";") ∷ Part.Items is ∷ ps) (net_text (declared n) ++ 59 ∷ 10 ∷ rest) = net_spells n 59 f refl (semicolon (blank refl r)) in
     simp append_assoc (pick Choice.more_items (pick Choice.wire (word (codes "wire") 32 refl refl refl (blank refl (simp append_assoc at t)))))
 
-nets_spell : (ports : List Port) (k : ℕ) (nets : List Net) (is : List ItemTree) {ps : List Part} {rest : List ℕ} → ((j : ℕ) (n : Net) → slice_get nets j ≡ Some n → IsFormedNet n) → Spells (Part.Items is ∷ ps) rest
+pub nets_spell : (ports : List Port) (k : ℕ) (nets : List Net) (is : List ItemTree) {ps : List Part} {rest : List ℕ} → ((j : ℕ) (n : Net) → slice_get nets j ≡ Some n → IsFormedNet n) → Spells (Part.Items is ∷ ps) rest
     → Spells (Part.Items (net_items ports k nets ++ is) ∷ ps) (nets_text ports k nets ++ rest)
 unfolding net_items declaration_text
 nets_spell ports k [] is f r = r
@@ -210,7 +201,7 @@ nets_spell ports k (n ∷ ns) is f r =
 unfoldable pub memory_item : Mem → ItemTree
 memory_item mem = MemoryItem mem.width mem.name mem.depth
 
-memories_spell : (mems : List Mem) (is : List ItemTree) {ps : List Part} {rest : List ℕ} → ((k : ℕ) (mem : Mem) → slice_get mems k ≡ Some mem → IsFormedMem mem) → Spells (Part.Items is ∷ ps) rest
+pub memories_spell : (mems : List Mem) (is : List ItemTree) {ps : List Part} {rest : List ℕ} → ((k : ℕ) (mem : Mem) → slice_get mems k ≡ Some mem → IsFormedMem mem) → Spells (Part.Items is ∷ ps) rest
     → Spells (Part.Items (map memory_item mems ++ is) ∷ ps) (flat_map memory_text mems ++ rest)
 unfolding memory_item
 memories_spell [] is f r = r
@@ -225,7 +216,7 @@ memories_spell (mem ∷ mems) is {ps = ps} {rest = rest} f r =
 unfoldable pub assign_item : Module → Assign → ItemTree
 assign_item m a = AssignItem (name_of m.nets a.target) (expr_tree m a.expr)
 
-assigns_spell : (m : Module) (assigns : List Assign) (is : List ItemTree) {ps : List Part} {rest : List ℕ} → AllNamed m → ((k : ℕ) (a : Assign) → slice_get assigns k ≡ Some a → IsFormedAssign m a) → Spells (Part.Items is ∷ ps) rest
+pub assigns_spell : (m : Module) (assigns : List Assign) (is : List ItemTree) {ps : List Part} {rest : List ℕ} → AllNamed m → ((k : ℕ) (a : Assign) → slice_get assigns k ≡ Some a → IsFormedAssign m a) → Spells (Part.Items is ∷ ps) rest
     → Spells (Part.Items (map (assign_item m) assigns ++ is) ∷ ps) (flat_map (assign_text m) assigns ++ rest)
 unfolding assign_item
 assigns_spell m [] is named f r = r
@@ -275,7 +266,7 @@ always_items m (u ∷ us) = AlwaysItem (map (update_tree m) (u ∷ us)) ∷ []
 three : (a b c rest : List ℕ) → (a ++ b ++ c) ++ rest ≡ a ++ (b ++ (c ++ rest))
 three a b c rest = simp append_assoc
 
-always_spells : (m : Module) (us : List Update) (is : List ItemTree) {ps : List Part} {rest : List ℕ} → AllNamed m → ((k : ℕ) (u : Update) → slice_get us k ≡ Some u → IsFormedUpdate m u) → Spells (Part.Items is ∷ ps) rest
+pub always_spells : (m : Module) (us : List Update) (is : List ItemTree) {ps : List Part} {rest : List ℕ} → AllNamed m → ((k : ℕ) (u : Update) → slice_get us k ≡ Some u → IsFormedUpdate m u) → Spells (Part.Items is ∷ ps) rest
     → Spells (Part.Items (always_items m us ++ is) ∷ ps) (updates_text m us ++ rest)
 unfolding always_items updates_text
 always_spells m [] is named f r = r
@@ -287,51 +278,3 @@ always_spells m (u ∷ us) is {ps = ps} {rest = rest} named f r =
     subst (λ l. Spells (Part.Items (always_items m (u ∷ us) ++ is) ∷ ps) l) (sym e)
     (pick Choice.more_items (pick Choice.always (word (codes "always") 32 refl refl refl (blank refl (lone refl refl (λ _ _. refl) (open_round (word (codes "posedge") 32 refl refl refl (blank refl
     (word (codes "clk") 41 refl refl refl (close_round (blank refl (word (codes "begin") 10 refl refl refl (blank refl updated)))))))))))))
-
--- the items of a module
-unfoldable pub items_of : Module → List ItemTree
-items_of m = net_items m.ports 0 m.nets ++ (map memory_item m.mems ++ (map (assign_item m) m.assigns ++ (always_items m m.updates ++ [])))
-
-unfoldable pub module_tree : Module → ModuleTree
-module_tree m = record { name = m.name; ports = map (port_tree m.nets) m.ports; items = items_of m }
-
-any_some : {A : Type 0} (test : A → Bool) (xs : List A) → list_any test xs ≡ true → 0 < length xs
-any_some test [] h = cc
-any_some test (x ∷ xs) h = omega arith
-
-regrouped : (a b c d e f g h i j rest : List ℕ) → (a ++ b ++ c ++ d ++ e ++ f ++ g ++ h ++ i ++ j) ++ rest ≡ a ++ (b ++ (c ++ (d ++ (e ++ (f ++ (g ++ (h ++ (i ++ (j ++ rest)))))))))
-regrouped a b c d e f g h i j rest = simp append_assoc
-
-items_spell : (earlier : List Module) (m : Module) {ps : List Part} {rest : List ℕ} → IsFormedModule earlier m → Spells (Part.Items [] ∷ ps) rest
-    → Spells (Part.Items (items_of m) ∷ ps) (nets_text m.ports 0 m.nets ++ (flat_map memory_text m.mems ++ (flat_map (assign_text m) m.assigns ++ (updates_text m m.updates ++ rest))))
-unfolding items_of
-items_spell earlier m f r =
-    let named : AllNamed m = all_named earlier m f in
-    nets_spell m.ports 0 m.nets _ f.nets (memories_spell m.mems _ f.mems (assigns_spell m m.assigns _ named f.assigns (always_spells m m.updates [] named f.updates r)))
-
-module_spells : (earlier : List Module) (m : Module) {ps : List Part} {rest : List ℕ} → IsFormedModule earlier m → Spells ps rest → Spells (Part.Module (module_tree m) ∷ ps) (module_text m ++ rest)
-unfolding module_tree module_text
-module_spells earlier m {ps = ps} {rest = rest} f r =
-    let ended : Spells (Part.Items [] ∷ Part.Reserved (codes "endmodule") ∷ ps) (codes "endmodule\n" ++ rest) = pick Choice.no_items (word (codes "endmodule") 10 refl refl refl (blank refl r)) in
-    let text : List ℕ = nets_text m.ports 0 m.nets ++ (flat_map memory_text m.mems ++ (flat_map (assign_text m) m.assigns ++ (updates_text m m.updates ++ (codes "endmodule\n" ++ rest)))) in
-    let items : Spells (Part.Items (items_of m) ∷ Part.Reserved (codes "endmodule") ∷ ps) text = items_spell earlier m f ended in
-    let ported : Spells (Part.Ports (map (port_tree m.nets) m.ports) ∷ Part.Sign_ (codes ")") ∷ Part.Sign_ (codes ";") ∷ Part.Items (items_of m) ∷ Part.Reserved (codes "endmodule") ∷ ps) (ports_text m.nets m.ports ++ 41 ∷ 59 ∷ 10 ∷ text) =
-    ports_spell earlier m m.ports (any_some (is_bit_input m (codes "clk")) m.ports f.clock) f f.ports (close_round (semicolon (blank refl items))) in
-    subst (λ l. Spells (Part.Module (module_tree m) ∷ ps) l)
-    (sym (regrouped (codes "module ") m.name (codes " (\n") (ports_text m.nets m.ports) (codes ");\n") (nets_text m.ports 0 m.nets) (flat_map memory_text m.mems) (flat_map (assign_text m) m.assigns) (updates_text m m.updates) (codes "endmodule\n") rest))
-    (pick Choice.module' (word (codes "module") 32 refl refl refl (blank refl (id f.name refl (blank refl (open_round (blank refl ported)))))))
-
--- modules, each formed after some earlier ones
-modules_spell : (modules : List Module) → ((k : ℕ) (m : Module) → slice_get modules k ≡ Some m → (before : List Module) × IsFormedModule before m)
-    → Spells (Part.Modules (map module_tree modules) ∷ []) (modules_text modules)
-modules_spell [] f = pick Choice.no_modules end
-modules_spell (m ∷ modules) f =
-    let (before, g) = f 0 m refl in
-    pick Choice.more_modules (module_spells before m g (modules_spell modules (λ k x e. f (suc k) x e)))
-
-pub file_spells : (modules : List Module) → 0 < length modules → ((k : ℕ) (m : Module) → slice_get modules k ≡ Some m → (before : List Module) × IsFormedModule before m)
-    → Spells (Part.File (map module_tree modules) ∷ []) (modules_text modules)
-file_spells [] some f = absurd (omega arith)
-file_spells (m ∷ modules) some f =
-    let (before, g) = f 0 m refl in
-    pick Choice.file (module_spells before m g (modules_spell modules (λ k x e. f (suc k) x e)))

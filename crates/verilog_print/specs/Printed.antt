@@ -1,6 +1,6 @@
 -- The bytes that are printed for each part of a design.
 use Rattle.std.specs.Prelude.{ℕ, zero, suc, ◌+◌, ◌-◌, ◌/◌, ◌%◌, Bool, List, [], ◌∷◌, ◌++◌, Option, Some, None, nat_lt, if◌then◌else◌, codes, slice_get}
-use Rattle.std.specs.List.{flat_map, join_by}
+use Rattle.std.specs.List.{flat_map, join_by, zip}
 use Rattle.rtl_ir.specs.declared.design.Net.{Net}
 use Rattle.rtl_ir.specs.declared.design.Mem.{Mem}
 use Rattle.rtl_ir.specs.declared.design.Port.{Port}
@@ -10,6 +10,7 @@ use Rattle.rtl_ir.specs.declared.design.Assign.{Assign}
 use Rattle.rtl_ir.specs.declared.design.Target.{Target}
 use Rattle.rtl_ir.specs.declared.design.Target.TheVariants.{Reg, Cell as Word}
 use Rattle.rtl_ir.specs.declared.design.Update.{Update}
+use Rattle.rtl_ir.specs.declared.design.Instance.{Instance}
 use Rattle.rtl_ir.specs.declared.design.Module.{Module}
 use Rattle.rtl_ir.specs.Formed.{net_name}
 use Rattle.rtl_text.specs.Productions.{sign_bytes}
@@ -104,10 +105,27 @@ unfoldable pub updates_text : Module → List Update → List ℕ
 updates_text m [] = []
 updates_text m (u ∷ us) = codes "always @(posedge clk) begin\n" ++ flat_map (update_text m) (u ∷ us) ++ codes "end\n"
 
-unfoldable pub module_text : Module → List ℕ
-module_text m =
+-- `.port(net)` for a port of an inner module, which has these nets, and the number of a net of the outer one
+abbrev pub connection_text : List Net → List Net → Port × ℕ → List ℕ
+connection_text outer inner joined = codes "." ++ name_of inner joined.0.net ++ codes "(" ++ name_of outer joined.1 ++ codes ")"
+
+abbrev pub connections_text : List Net → List Net → List (Port × ℕ) → List ℕ
+connections_text outer inner joined = join_by (connection_text outer inner) (codes ", ") joined
+
+-- `module name (.port(net), .port(net));` for an instance of this module, and nothing for one of no module
+unfoldable pub instance_line : List Net → Instance → Option Module → List ℕ
+instance_line outer i None = []
+instance_line outer i (Some inner) = inner.name ++ codes " " ++ i.name ++ codes " (" ++ connections_text outer inner.nets (zip inner.ports i.nets) ++ codes ");\n"
+
+-- an instance in a module, of one of these modules
+abbrev pub instance_text : List Module → Module → Instance → List ℕ
+instance_text modules m i = instance_line m.nets i (slice_get modules i.module)
+
+-- a module whose instances are of these modules
+unfoldable pub module_text : List Module → Module → List ℕ
+module_text modules m =
     codes "module " ++ m.name ++ codes " (\n" ++ ports_text m.nets m.ports ++ codes ");\n" ++ nets_text m.ports 0 m.nets
-    ++ flat_map memory_text m.mems ++ flat_map (assign_text m) m.assigns ++ updates_text m m.updates ++ codes "endmodule\n"
+    ++ flat_map memory_text m.mems ++ flat_map (assign_text m) m.assigns ++ flat_map (instance_text modules m) m.instances ++ updates_text m m.updates ++ codes "endmodule\n"
 
 abbrev pub modules_text : List Module → List ℕ
-modules_text modules = flat_map module_text modules
+modules_text modules = flat_map (module_text modules) modules

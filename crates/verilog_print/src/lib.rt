@@ -2,6 +2,7 @@
 #![tactic(auto)]
 
 mod expr;
+mod instance;
 mod module;
 mod printer;
 mod storage;
@@ -11,7 +12,6 @@ mod tests;
 ghost use Rattle.std.specs.Prelude.{◌≡◌, OnOk, OnErr};
 ghost use Rattle.rtl_ir.specs.Formed.{IsFormed};
 ghost use Rattle.verilog_print.specs.Appended.{AppendsText};
-ghost use Rattle.verilog_print.specs.Straight.{IsStraight};
 
 use mx_base::NoMemory;
 use printer::Printer;
@@ -20,10 +20,9 @@ use std::alloc::Global;
 use std::mem;
 
 /// Appends a text of the design: one port, declaration, assignment, update or instance per line.
-/// The design is formed, and no module of it has instances. After want of memory `out` is as it was.
+/// After want of memory `out` is as it was.
 pub fn print(alloc: Global, design: &Design, out: &mut Vec<u8>) -> Result<(), NoMemory>
     requires formed { IsFormed design.now.modules }
-    requires straight { IsStraight design.now }
     ensures ok { OnOk result (AppendsText out.old.items out.new.items design.now) }
     ensures err { OnErr result (out.new.items ≡ out.old.items) }
 {

@@ -16,14 +16,14 @@ impl Printer {
         ensures kept { self.new.before ≡ self.old.before }
     {
         for module in modules {
-            self.module(alloc, module)?;
+            self.module(alloc, modules, module)?;
         }
         Ok(())
     }
 
     #[tactic(auto, unfolding(crate::specs::Printed::module_text))]
-    fn module(&mut self, alloc: Global, module: &Module) -> Result<(), NoMemory>
-        ensures ok { OnOk result (self.new.text ≡ self.old.text ++ module_text «module».now) }
+    fn module(&mut self, alloc: Global, modules: &[Module], module: &Module) -> Result<(), NoMemory>
+        ensures ok { OnOk result (self.new.text ≡ self.old.text ++ module_text modules.now «module».now) }
         ensures kept { self.new.before ≡ self.old.before }
     {
         let ports = module.ports.as_slice();
@@ -36,6 +36,7 @@ impl Printer {
         self.nets(alloc, ports, nets)?;
         self.memories(module.mems.as_slice())?;
         self.assigns(module)?;
+        self.instances(modules, module)?;
         self.updates(module)?;
         self.bytes(b"endmodule\n")
     }

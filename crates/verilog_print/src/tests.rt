@@ -4,7 +4,7 @@ ghost use Rattle.std.specs.Prelude.{◌<◌, length};
 use crate::printer::Printer;
 use mx_base::{List, NoMemory, Text};
 use mx_bits::Word;
-use rtl_ir::{Assign, Expr, Mem, Module, Net, Port, Sign, Target, Update};
+use rtl_ir::{Assign, Expr, Instance, Mem, Module, Net, Port, Sign, Target, Update};
 use std::alloc::Global;
 
 fn text(alloc: Global, name: &str) -> Result<Text, NoMemory> {
@@ -57,9 +57,8 @@ fn assign(target: u32, expr: Expr) -> Assign {
     Assign { target, expr }
 }
 
-fn printed(alloc: Global, module: Module) -> Result<Vec<u8>, NoMemory> {
-    let mut modules = Vec::new(alloc);
-    modules.push(module)?;
+fn printed<const N: usize>(alloc: Global, modules: [Module; N]) -> Result<Vec<u8>, NoMemory> {
+    let modules = Vec::from_array(alloc, modules)?;
     let mut printer = Printer::after(Vec::from_slice(alloc, b"// before\n")?);
     printer.modules(alloc, modules.as_slice())?;
     Ok(printer.into_vec())
@@ -219,13 +218,64 @@ end
 endmodule
 ";
 
+// A module that turns its input, and one that turns its own twice.
+fn turn(alloc: Global) -> Result<Module, NoMemory> {
+    let nets = nets(alloc, &[("clk", 1), ("reset", 1), ("a", 8), ("b", 8)])?;
+    let outputs = [false, false, false, true];
+    module(alloc, "turn", nets, &outputs, &[assign(3, Expr::Not(2))])
+}
+
+fn twice(alloc: Global) -> Result<Module, NoMemory> {
+    let nets = nets(
+        alloc,
+        &[("clk", 1), ("reset", 1), ("x", 8), ("y", 8), ("w0", 8)],
+    )?;
+    let outputs = [false, false, false, true];
+    let mut outer = module(alloc, "twice", nets, &outputs, &[])?;
+    let instances = [
+        instance(alloc, "first", &[0, 1, 2, 4])?,
+        instance(alloc, "second", &[0, 1, 4, 3])?,
+    ];
+    outer.instances = List::from_vec(Vec::from_array(alloc, instances)?);
+    Ok(outer)
+}
+
+// An instance of the first module.
+fn instance(alloc: Global, name: &str, nets: &[u32]) -> Result<Instance, NoMemory> {
+    Ok(Instance {
+        module: 0,
+        name: text(alloc, name)?,
+        nets: List::from_vec(Vec::from_slice(alloc, nets)?),
+    })
+}
+
+const TWICE: &str = "// before
+module turn (
+input wire [0:0] clk,
+input wire [0:0] reset,
+input wire [7:0] a,
+output wire [7:0] b);
+assign b = ~a;
+endmodule
+module twice (
+input wire [0:0] clk,
+input wire [0:0] reset,
+input wire [7:0] x,
+output wire [7:0] y);
+wire [7:0] w0;
+turn first (.clk(clk), .reset(reset), .a(x), .b(w0));
+turn second (.clk(clk), .reset(reset), .a(w0), .b(y));
+endmodule
+";
+
 #[test]
 fn texts_have_a_line_for_each_part(rt: HostRuntime) -> Result<(), NoMemory> {
     let alloc = rt.alloc();
     let rows = [
-        (printed(alloc, double(alloc)?)?, DOUBLE),
-        (printed(alloc, forms(alloc)?)?, FORMS),
-        (printed(alloc, store(alloc)?)?, STORE),
+        (printed(alloc, [double(alloc)?])?, DOUBLE),
+        (printed(alloc, [forms(alloc)?])?, FORMS),
+        (printed(alloc, [store(alloc)?])?, STORE),
+        (printed(alloc, [turn(alloc)?, twice(alloc)?])?, TWICE),
     ];
     for (text, want) in rows {
         assert!(rt; text.as_slice() == want.as_bytes(), "{want}");

@@ -6,4 +6,4 @@ use Rattle.verilog_print.proofs.print.Goals as goal
 
 pub returns-in-Ok-clause-ok : goal.returns-in-Ok-clause-ok
 returns-in-Ok-clause-ok c =
-    record { text = modules_text c.args.design.now.modules; appended = grind (arith, common_steps, c.in-Ok.ensures.ok); of = text_of c.args.design.now c.requires.formed c.requires.straight }
+    record { text = modules_text c.args.design.now.modules; appended = grind (arith, common_steps, c.in-Ok.ensures.ok); of = text_of c.args.design.now c.requires.formed }

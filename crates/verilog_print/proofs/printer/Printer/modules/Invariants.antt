@@ -4,4 +4,4 @@ use Rattle.verilog_print.specs.Printed.{module_text}
 use Rattle.verilog_print.proofs.printer.Printer.modules.Given as goal
 
 abbrev pub invariant-loop-module : goal.invariant-loop-module
-invariant-loop-module l = (l.self.text ≡ l.initial.self.text ++ flat_map module_text (take l.module-index l.modules)) × (l.self.before ≡ l.initial.self.before)
+invariant-loop-module l = (l.self.text ≡ l.initial.self.text ++ flat_map (module_text l.modules) (take l.module-index l.modules)) × (l.self.before ≡ l.initial.self.before)
