@@ -1,4 +1,4 @@
-"""Prints the rows of crates/fix_arith/src/tests.rt, computed by Python's whole numbers.
+"""Prints the rows of the tests of crates/fix_arith, computed by Python's whole numbers.
 
 Run: python3 bench/vectors_arith.py
 """

@@ -48,5 +48,6 @@ pub data Reaches (g : List (List ℕ)) (start : ℕ) : ℕ → Type 0 where
 
 -- the marks of the nodes to which there is a way
 pub record IsReached (g : List (List ℕ)) (start : ℕ) (marks : List Bool) : Type 0 where
+  pub size : length marks ≡ length g
   pub sound : (x : ℕ) → x < length g → slice_index_or marks x false ≡ true → Reaches g start x
   pub whole : (x : ℕ) → x < length g → Reaches g start x → slice_index_or marks x false ≡ true

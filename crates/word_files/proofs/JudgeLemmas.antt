@@ -1,11 +1,11 @@
 -- What a line that is taken says of the file's lines.
-use Rattle.std.proofs.Common.{◌≡◌, ◌⊎◌, ℕ, ◌<◌, ◌≤◌, ◌+◌, ◌&&◌, List, [], ◌∷◌, ◌++◌, length, take, drop, Option, Some, None, Bool, true, false, cond, nat_lt, nat_le, inl, inr, refl, sym, ap, ◌∙◌, arith}
+use Rattle.std.proofs.Common.{◌≡◌, ℕ, ◌<◌, ◌+◌, ◌&&◌, List, [], ◌∷◌, ◌++◌, length, take, drop, Some, None, Bool, true, false, cond, nat_lt, nat_le, inl, inr, refl, sym, ap, ◌∙◌, arith}
 use Rattle.std.proofs.lemmas.Bool.Decides.{nat_tests}
 use Rattle.std.proofs.lemmas.Grind.{common_steps}
 use Rattle.std.proofs.lemmas.Option.{slice_get_cases}
 use Rattle.std.specs.List.{slice_get, list_all}
 use Rattle.grammar.specs.Bytes.{is_hex, hexadecimal}
-use Rattle.word_files.specs.Hex.{is_word, word_of}
+use Rattle.word_files.specs.Hex.{word_of}
 use Rattle.word_files.specs.Lines.{lines_from, IsLineTaken}
 use Rattle.word_files.proofs.LineLemmas.{left_none, left_some}
 

@@ -1,7 +1,6 @@
 -- Sets of names.
-use Rattle.std.proofs.Common.{◌≡◌, List, ℕ, [], ◌∷◌, ◌++◌, ◌||◌, ◌&&◌, ◌↔◌, IsTrue, not, Bor, Bool, true, false, cond, bytes_eq, nat_cmp, BTreeSet, suc, take, drop, length, get_or, map, ◌<◌, ◌+◌, add-one, sym, ap, subst, ◌∙◌, refl, arith}
+use Rattle.std.proofs.Common.{◌≡◌, List, ℕ, [], ◌∷◌, ◌++◌, ◌||◌, ◌&&◌, ◌↔◌, IsTrue, not, Bor, Bool, true, false, cond, bytes_eq, nat_cmp, BTreeSet, suc, take, drop, length, get_or, map, ◌<◌, ◌+◌, add-one, sym, ap, subst, ◌∙◌, refl}
 use Rattle.std.specs.BTreeSet as sorted
-use Rattle.std.specs.Cmp.{eq_by_cmp_equiv}
 use Rattle.std.specs.Cmp.Lexicographic.{slice_cmp, nat_list_eq_equiv}
 use Rattle.std.specs.List.{list_any, list_all}
 use Rattle.std.proofs.lemmas.Map.Text.{is_eq-slice_cmp}

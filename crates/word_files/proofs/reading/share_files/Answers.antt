@@ -1,4 +1,4 @@
-use Rattle.std.proofs.Common.{◌≡◌, ◌+◌, ◌∷◌, drop, sym, ap, ◌∙◌, arith}
+use Rattle.std.proofs.Common.{◌+◌, ◌∷◌, drop, sym, ap, ◌∙◌, arith}
 use Rattle.std.proofs.lemmas.List.{take_all}
 use Rattle.word_files.specs.RunFiles.{files, is_shared}
 use Rattle.word_files.proofs.KeyLemmas.{one_more, one_last, mapped_taken, files_left, shared_here, apart_here}

@@ -1,6 +1,4 @@
-use Rattle.std.proofs.Common.{◌≡◌, List, ℕ, Bor, take, drop, map, bytes_eq, nat_cmp}
-use Rattle.std.specs.Cmp.Lexicographic.{slice_cmp}
-use Rattle.std.specs.List.{list_any}
+use Rattle.std.proofs.Common.{◌≡◌, List, ℕ, take, drop}
 use Rattle.word_files.specs.RunFiles.{files, is_shared}
 use Rattle.word_files.specs.Keys.{HasKeys}
 use Rattle.word_files.proofs.reading.share_files.Given as goal

@@ -1,4 +1,4 @@
-use Rattle.std.proofs.Common.{◌≡◌, take, drop, [], inl, inr, sym, ap, ◌∙◌, arith}
+use Rattle.std.proofs.Common.{take, drop, [], inl, inr, sym, ap, ◌∙◌, arith}
 use Rattle.std.proofs.lemmas.List.{length-set}
 use Rattle.word_files.specs.Lines.{lines_from}
 use Rattle.word_files.proofs.LineLemmas.{left_none, goes_on, ends, stops, begins_with, some_taken}

@@ -1,0 +1,4 @@
+pub mod Fed
+pub mod Paths
+pub mod FirstFault
+pub mod Checked

@@ -1,0 +1,83 @@
+-- The graph of what feeds each net of a module, and the ways from its inputs to its outputs.
+use Rattle.std.specs.Prelude.{◌≡◌, ◌⊎◌, ℕ, ◌^◌, ◌<◌, min, true, false, List, length, Some, slice_get}
+use Rattle.rtl_ir.specs.declared.design.Design.{Design}
+use Rattle.rtl_ir.specs.declared.design.Module.{Module}
+use Rattle.rtl_ir.specs.declared.design.Assign.{Assign}
+use Rattle.rtl_ir.specs.declared.design.Instance.{Instance}
+use Rattle.rtl_ir.specs.declared.design.Port.{Port}
+use Rattle.rtl_check.specs.declared.paths.PortPath.{PortPath}
+use Rattle.rtl_ir.specs.Operands.{IsRead}
+use Rattle.rtl_ir.specs.Rules.{Feeds, Way}
+use Rattle.digraph.specs.Graph.{Reads}
+
+-- in the graph of a module a net reads those that feed it
+pub record IsGraphOf (d : Design) (m : Module) (g : List (List ℕ)) : Type 0 where
+  pub fed : (a b : ℕ) → Reads g b a → Feeds d m a b
+  pub reads : (a b : ℕ) → Feeds d m a b → Reads g b a
+
+-- a graph has these edges more, each from a node that is read to its reader, and no other ones
+pub record Adds (Edge : ℕ → ℕ → Type 0) (old new : List (List ℕ)) : Type 0 where
+  pub size : length new ≡ length old
+  pub kept : (a b : ℕ) → Reads old b a → Reads new b a
+  pub added : (a b : ℕ) → Edge a b → Reads new b a
+  pub only : (a b : ℕ) → Reads new b a → Reads old b a ⊎ Edge a b
+
+-- no node that is read has a number of more than 32 bits
+abbrev pub IsSmall : List (List ℕ) → Type 0
+IsSmall g = (a b : ℕ) → Reads g b a → a < 2 ^ 32
+
+-- one of the first assignments reads a net for another one
+abbrev pub IsAssigned : Module → ℕ → ℕ → ℕ → Type 0
+IsAssigned m assigns a b = (j : ℕ) × (x : Assign) × (j < assigns) × (slice_get m.assigns j ≡ Some x) × IsRead x.expr a × (x.target ≡ b)
+
+-- one of the first paths of an instance's module leads from a net to another one
+abbrev pub IsPassed : Instance → List PortPath → ℕ → ℕ → ℕ → Type 0
+IsPassed i paths count a b =
+    (n : ℕ) × (x : PortPath) × (n < count) × (slice_get paths n ≡ Some x)
+    × (slice_get i.nets x.input ≡ Some a) × (slice_get i.nets x.output ≡ Some b)
+
+-- one of the first instances leads from a net to another one
+abbrev pub IsParted : Module → List (List PortPath) → ℕ → ℕ → ℕ → Type 0
+IsParted m tables instances a b =
+    (k : ℕ) × (i : Instance) × (paths : List PortPath) × (k < instances) × (slice_get m.instances k ≡ Some i)
+    × (slice_get tables i.module ≡ Some paths) × IsPassed i paths (length paths) a b
+
+-- the edges of a module's graph are those of its assignments and its instances
+pub record HasEdges (m : Module) (tables : List (List PortPath)) (g : List (List ℕ)) : Type 0 where
+  pub size : length g ≡ min (length m.nets) (2 ^ 32)
+  pub small : IsSmall g
+  pub added : (a b : ℕ) → IsAssigned m (length m.assigns) a b ⊎ IsParted m tables (length m.instances) a b → Reads g b a
+  pub only : (a b : ℕ) → Reads g b a → IsAssigned m (length m.assigns) a b ⊎ IsParted m tables (length m.instances) a b
+
+-- an input and an output of a module between which a relation of nets holds
+pub record IsPath (Leads : ℕ → ℕ → Type 0) (m : Module) (x : PortPath) : Type 0 where
+  pub input : Port
+  pub input_at : slice_get m.ports x.input ≡ Some input
+  pub is_input : input.output ≡ false
+  pub output : Port
+  pub output_at : slice_get m.ports x.output ≡ Some output
+  pub is_output : output.output ≡ true
+  pub leads : Leads input.net output.net
+
+-- these are such paths, and all of those that are seen
+pub record ArePaths (Leads : ℕ → ℕ → Type 0) (m : Module) (Seen : ℕ → ℕ → Type 0) (paths : List PortPath) : Type 0 where
+  pub sound : (n : ℕ) (x : PortPath) → slice_get paths n ≡ Some x → IsPath Leads m x
+  pub whole : (x : PortPath) → Seen x.input x.output → IsPath Leads m x → (n : ℕ) × (slice_get paths n ≡ Some x)
+
+-- the nets, the modules and the ports that a module and the paths of its instances' modules name are there
+pub record IsInRange (m : Module) (tables : List (List PortPath)) : Type 0 where
+  pub targets : (j : ℕ) (a : Assign) → slice_get m.assigns j ≡ Some a → a.target < length m.nets
+  pub reads : (j n : ℕ) (a : Assign) → slice_get m.assigns j ≡ Some a → IsRead a.expr n → n < length m.nets
+  pub ports : (j : ℕ) (p : Port) → slice_get m.ports j ≡ Some p → p.net < length m.nets
+  pub earlier : (k : ℕ) (i : Instance) → slice_get m.instances k ≡ Some i → i.module < length tables
+  pub nets : (k j n : ℕ) (i : Instance) → slice_get m.instances k ≡ Some i → slice_get i.nets j ≡ Some n → n < length m.nets
+  pub paths :
+      (k n : ℕ) (i : Instance) (paths : List PortPath) (x : PortPath)
+      → slice_get m.instances k ≡ Some i
+      → slice_get tables i.module ≡ Some paths
+      → slice_get paths n ≡ Some x
+      → (x.input < length i.nets) × (x.output < length i.nets)
+
+-- the paths of a module: from each input to each output to which there is a way
+abbrev pub ArePathsOf : Design → Module → List PortPath → Type 0
+ArePathsOf d m paths = ArePaths (Way d m) m (λ input output. Unit {0}) paths
