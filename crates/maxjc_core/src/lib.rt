@@ -11,4 +11,6 @@ pub use status::Status;
 pub use top::maxjc;
 
 #[cfg(test)]
+mod design_tests;
+#[cfg(test)]
 mod tests;

@@ -18,3 +18,6 @@ pub use error::RunError;
 pub use reader::WordReader;
 pub use run_file::{PortList, RunFile};
 pub use writer::WordWriter;
+
+#[cfg(test)]
+mod tests;
