@@ -29,28 +29,28 @@ pub struct Split<'a> {
 pub fn is_letter(byte: u8) -> bool
     ensures { result ≡ is_letter byte }
 {
-    65 <= byte && byte <= 90 || 97 <= byte && byte <= 122
+    b'A' <= byte && byte <= b'Z' || b'a' <= byte && byte <= b'z'
 }
 
 /// 0 to 9.
 pub fn is_digit(byte: u8) -> bool
     ensures { result ≡ is_digit byte }
 {
-    48 <= byte && byte <= 57
+    b'0' <= byte && byte <= b'9'
 }
 
 /// A letter or `_`.
 pub fn begins_name(byte: u8) -> bool
     ensures { result ≡ begins_name byte }
 {
-    is_letter(byte) || byte == 95
+    is_letter(byte) || byte == b'_'
 }
 
 /// Blank, tab, line feed, form feed, carriage return.
 pub fn is_blank(byte: u8) -> bool
     ensures { result ≡ is_blank byte }
 {
-    byte == 32 || byte == 9 || byte == 10 || byte == 12 || byte == 13
+    byte == b' ' || byte == b'\t' || byte == b'\n' || byte == 12 || byte == b'\r'
 }
 
 pub fn is_in(class: Class, byte: u8) -> bool
@@ -59,8 +59,10 @@ pub fn is_in(class: Class, byte: u8) -> bool
     match class {
         Class::Name => begins_name(byte) || is_digit(byte) || byte == b'$',
         Class::Digit => is_digit(byte),
-        Class::Hex => is_digit(byte) || 65 <= byte && byte <= 70 || 97 <= byte && byte <= 102,
-        Class::Line => byte != 10,
+        Class::Hex => {
+            is_digit(byte) || b'A' <= byte && byte <= b'F' || b'a' <= byte && byte <= b'f'
+        }
+        Class::Line => byte != b'\n',
     }
 }
 
