@@ -70,7 +70,7 @@ after_here p x xs h = rw h refl
 pub before_later : (p : ℕ → Bool) (x : ℕ) (xs : List ℕ) → p x ≡ false → before_first p (x ∷ xs) ≡ x ∷ before_first p xs
 before_later p x xs h = rw h (take_one _ x xs)
 
-after_later : (p : ℕ → Bool) (x : ℕ) (xs : List ℕ) → p x ≡ false → after_first p (x ∷ xs) ≡ after_first p xs
+pub after_later : (p : ℕ → Bool) (x : ℕ) (xs : List ℕ) → p x ≡ false → after_first p (x ∷ xs) ≡ after_first p xs
 after_later p x xs h = rw h (drop_one _ x xs)
 
 -- the parts of a list round the first item of the class

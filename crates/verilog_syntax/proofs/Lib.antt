@@ -3,3 +3,12 @@ pub mod Words
 pub mod Signs
 pub mod GapLemmas
 pub mod Places
+pub mod Plans
+pub mod Digits
+pub mod Fronts
+pub mod Exits
+pub mod Productions
+pub mod Refusals
+pub mod Opened
+pub mod Loops
+pub mod Whole

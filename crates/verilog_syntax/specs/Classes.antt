@@ -3,13 +3,14 @@ use Rattle.std.specs.Prelude.{◌≡◌, ℕ, Bool, false, not, ◌==◌, List, 
 use Rattle.grammar.specs.Bytes.{is_digit, is_hex}
 use Rattle.rtl_ir.specs.Names.{continues_name}
 use Rattle.verilog_syntax.specs.declared.bytes.Class.{Class}
-use Rattle.verilog_syntax.specs.declared.bytes.Class.TheVariants.{Name, Digit, Hex, Line}
+use Rattle.verilog_syntax.specs.declared.bytes.Class.TheVariants.{Name, Digit, Hex, Line, Unquoted}
 
 abbrev pub is_in : Class → ℕ → Bool
 is_in Name b = continues_name b
 is_in Digit b = is_digit b
 is_in Hex b = is_hex b
 is_in Line b = not (b == 10)
+is_in Unquoted b = not (b == 39)
 
 -- the text is empty or begins with a byte that is not of the class
 abbrev pub BeginsOutside : Class → List ℕ → Type 0

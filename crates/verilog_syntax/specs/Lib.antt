@@ -1,2 +1,6 @@
 pub mod Classes
 pub mod Scanning
+pub mod Parsing
+pub mod Pieces
+pub mod Trees
+pub mod Parsed

@@ -16,6 +16,8 @@ pub enum Class {
     Hex,
     /// Whatever may stand in a line: all but the line feed.
     Line,
+    /// All but the quote.
+    Unquoted,
 }
 
 /// A text in two: the front, and the rest behind it.
@@ -63,6 +65,7 @@ pub fn is_in(class: Class, byte: u8) -> bool
             is_digit(byte) || b'A' <= byte && byte <= b'F' || b'a' <= byte && byte <= b'f'
         }
         Class::Line => byte != b'\n',
+        Class::Unquoted => byte != b'\'',
     }
 }
 

@@ -2,14 +2,25 @@
 #![tactic(auto)]
 
 mod bytes;
+mod cursor;
+mod expr;
 mod gap;
+mod items;
+mod keyword;
 mod mark;
+mod modules;
+mod number;
+mod ports;
 mod scanner;
 mod token;
+mod tree;
+mod updates;
 
 pub use mark::Mark;
+pub use modules::{ParseError, parse};
 pub use scanner::{ScanError, scan};
 pub use token::{Placed, Token};
+pub use tree::{Connection, ExprTree, ItemTree, ModuleTree, PortTree, UpdateTree};
 
 #[cfg(test)]
 mod tests;

@@ -61,3 +61,36 @@ pub fn single(byte: u8) -> Option<Mark>
         _ => return None,
     })
 }
+
+impl Mark {
+    pub fn bytes(self) -> &'static [u8]
+        ensures { result.now ≡ mark_bytes self }
+    {
+        match self {
+            Mark::Open => b"(",
+            Mark::Close => b")",
+            Mark::OpenBracket => b"[",
+            Mark::CloseBracket => b"]",
+            Mark::OpenBrace => b"{",
+            Mark::CloseBrace => b"}",
+            Mark::Semicolon => b";",
+            Mark::Colon => b":",
+            Mark::Comma => b",",
+            Mark::Dot => b".",
+            Mark::At => b"@",
+            Mark::Question => b"?",
+            Mark::Assign => b"=",
+            Mark::LessEqual => b"<=",
+            Mark::Tilde => b"~",
+            Mark::Operator(Sign::Add) => b"+",
+            Mark::Operator(Sign::Sub) => b"-",
+            Mark::Operator(Sign::Mul) => b"*",
+            Mark::Operator(Sign::Div) => b"/",
+            Mark::Operator(Sign::And) => b"&",
+            Mark::Operator(Sign::Or) => b"|",
+            Mark::Operator(Sign::Xor) => b"^",
+            Mark::Operator(Sign::Eq) => b"==",
+            Mark::Operator(Sign::Lt) => b"<",
+        }
+    }
+}

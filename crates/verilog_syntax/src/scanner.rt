@@ -27,13 +27,39 @@ impl From<NoMemory> for ScanError {
     }
 }
 
+/// How many tokens a text has, up to the first place where none begins.
+fn count(text: &[u8]) -> usize {
+    let mut count = 0usize;
+    let mut rest = text;
+    while !rest.is_empty() {
+        if let Some(behind) = skip_gap(rest) {
+            rest = behind;
+        } else {
+            let Some(found) = next_token(rest) else {
+                return count;
+            };
+            count = count.saturating_add(1);
+            rest = found.rest;
+        }
+    }
+    count
+}
+
+/// An empty list with room for the tokens of a text: one that grows would take twice the memory.
+fn room<'a>(alloc: Global, text: &'a [u8]) -> Result<List<Placed<'a>>, NoMemory>
+    ensures { IfOk result (λ tokens. tokens ≡ []) }
+{
+    let tokens = Vec::with_capacity(alloc, count(text))?;
+    Ok(List::from_vec(tokens))
+}
+
 /// The tokens of a text, each with its place. The longest token is taken.
 pub fn scan(alloc: Global, text: &[u8]) -> Result<List<Placed<'_>>, ScanError>
     requires { length text.now < 2 ^ 32 }
     ensures tokens { IfOk result (λ tokens. ReadsAt 0 text.now (map placed_view tokens) []) }
     ensures stuck { IfErr result (λ e. Fails text.now e) }
 {
-    let mut tokens = List::new(alloc);
+    let mut tokens = room(alloc, text)?;
     let mut rest = text;
     while !rest.is_empty() {
         if let Some(behind) = skip_gap(rest) {

@@ -7,7 +7,7 @@ use Rattle.verilog_syntax.proofs.scanner.scan.Goals as goal
 
 pub loop-rest-init : goal.loop-rest-init
 loop-rest-init c = record {
-  read = subst (λ l. ReadsAt 0 c.args.text.now (map placed_view l) c.args.text.now) (sym c.new-tokens.ensures) ReadsAt.end;
+  read = subst (λ l. ReadsAt 0 c.args.text.now (map placed_view l) c.args.text.now) (sym c.in_ok-tokens.ensures) ReadsAt.end;
   within = omega arith;
 }
 
