@@ -24,7 +24,7 @@ keeps_rules d p low sound one = record {
 }
 
 -- what holds of the one module of a design holds of each
-each_module : (P : Module → Type 0) (ms : List Module) (m : Module) → ms ≡ m ∷ [] → P m → (k : ℕ) (n : Module) → slice_get ms k ≡ Some n → P n
+pub each_module : (P : Module → Type 0) (ms : List Module) (m : Module) → ms ≡ m ∷ [] → P m → (k : ℕ) (n : Module) → slice_get ms k ≡ Some n → P n
 each_module P ms m only h k n e = each_at (λ j. P) (m ∷ []) (h, tt) k n (ap (λ xs. slice_get xs k) (sym only) ∙ e)
 
 one_name : (ms : List Module) (m : Module) → ms ≡ m ∷ [] → AllDiffer (map (λ (n : Module). n.name) ms)

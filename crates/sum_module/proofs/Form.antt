@@ -4,6 +4,7 @@ use Rattle.std.specs.Prelude.{bit_and}
 use Rattle.mx_bits.specs.declared.word.Word.{Word}
 use Rattle.rtl_ir.specs.declared.design.Design.{Design}
 use Rattle.rtl_ir.specs.Ports.{outer_of}
+use Rattle.rtl_reading.specs.Reads.{IsPortsFirst}
 use Rattle.sum_source.specs.declared.project.Project.{Project}
 use Rattle.sum_source.specs.Steps.{InOrder, result_of}
 use Rattle.sum_module.specs.Straight.{module_of, shape_of, input, output, step_assigns, last_assigns}
@@ -11,7 +12,7 @@ use Rattle.sum_module.specs.Designs.{IsSound, IsGated, IsDesignOf}
 use Rattle.sum_module.proofs.Sums.{shows, both_assigned}
 use Rattle.sum_module.proofs.Runs.{sum_streams}
 use Rattle.sum_module.proofs.Formed.{none_kept}
-use Rattle.sum_module.proofs.Accepted.{accepted}
+use Rattle.sum_module.proofs.Accepted.{each_module, accepted}
 use Rattle.sum_module.proofs.Wires.{length-steps}
 
 gated : (p : Project) (low : Word) → InOrder 0 p.steps → p.result ≤ length p.steps → low.bits ≡ 0
@@ -40,6 +41,7 @@ straight_form p low d sound zero one only = record {
   no_instances = refl;
   assignments = let e = length-steps 0 p.steps in omega (arith, length-append (step_assigns 0 p.steps) (last_assigns p.result low));
   has_shape = refl;
+  ports_first = each_module IsPortsFirst d.modules (module_of p low) only refl;
   gated = gated p low sound.order sound.within zero;
   streams = sum_streams p low d sound.order sound.within;
 }

@@ -8,6 +8,7 @@ use Rattle.rtl_ir.specs.Rules.{IsAccepted}
 use Rattle.rtl_ir.specs.Run.{Channel, Outer}
 use Rattle.rtl_ir.specs.Ports.{is_plain_name, Shape, HasShape, outer_of}
 use Rattle.rtl_ir.specs.Streams.{StreamsAs}
+use Rattle.rtl_reading.specs.Reads.{ArePortsFirst}
 use Rattle.sum_source.specs.declared.project.Project.{Project}
 use Rattle.sum_source.specs.Steps.{InOrder, result_of}
 use Rattle.sum_module.specs.Straight.{shape_of}
@@ -38,8 +39,8 @@ pub record IsGated (m : Module) (o : Outer) (f : ℕ → ℕ) : Type 0 where
   pub never_done : (c : Contents) (v : Family) → Fits m c v → v o.done ≡ 0
 
 -- The straight form: an accepted design of one module, all assignments, one for each operator beside five, with the ports of
--- this shape, whose every run gives f of the words that it takes. Since no net of an accepted design hangs on itself, each edge
--- has values of the nets, and what is said of every run is said of some.
+-- this shape, which are its first nets, whose every run gives f of the words that it takes. Since no net of an accepted design
+-- hangs on itself, each edge has values of the nets, and what is said of every run is said of some.
 pub record IsStraightForm (shape : Shape) (operators : ℕ) (f : ℕ → ℕ) (d : Design) : Type 0 where
   pub accepted : IsAccepted d
   pub top : Module
@@ -50,6 +51,7 @@ pub record IsStraightForm (shape : Shape) (operators : ℕ) (f : ℕ → ℕ) (d
   pub no_instances : top.instances ≡ []
   pub assignments : length top.assigns ≡ operators + 5
   pub has_shape : HasShape top shape
+  pub ports_first : ArePortsFirst d
   pub gated : IsGated top (outer_of shape top) f
   pub streams : StreamsAs d top (outer_of shape top) f
 

@@ -34,7 +34,8 @@ fn module(alloc: Global, project: &Project, low: Word) -> Result<Module, NoMemor
 /// For the kernel K, its input X and its output Y of w bits, the inputs are `clk`, `reset`, `hold$K`
 /// and `out$Y$ready` of 1 bit, `ticks$K` of 48 bits, and `in$X$data` of w bits with `in$X$valid` of
 /// 1 bit. The outputs are `out$Y$data` of w bits, and `out$Y$valid`, `in$X$ready` and `done` of
-/// 1 bit. While `hold$K` is 1, neither side gives or takes a word. `done` is always 0.
+/// 1 bit. While `hold$K` is 1, neither side gives or takes a word. `done` is always 0. The nets of
+/// the ports are the first ones, in the order of the ports.
 ///
 /// The design is accepted by the rules of `rtl_ir`: each net but the inputs has one driver, widths
 /// agree, names differ, and no net hangs on itself.

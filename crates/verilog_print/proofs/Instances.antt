@@ -42,7 +42,7 @@ pub record IsPart (modules : List Module) (m : Module) : Type 0 where
   pub formed : IsFormedModule earlier m
   pub inner : (k : ℕ) (i : Instance) → slice_get m.instances k ≡ Some i → InnerOf modules i
 
-slice_get_take : (modules : List Module) (k n : ℕ) (m : Module) → slice_get (take k modules) n ≡ Some m → slice_get modules n ≡ Some m
+pub slice_get_take : (modules : List Module) (k n : ℕ) (m : Module) → slice_get (take k modules) n ≡ Some m → slice_get modules n ≡ Some m
 slice_get_take modules zero n m e = cc
 slice_get_take [] (suc k) n m e = cc
 slice_get_take (x ∷ modules) (suc k) zero m e = e

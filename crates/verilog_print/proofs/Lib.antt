@@ -1,7 +1,12 @@
+pub mod Connected
 pub mod Instances
+pub mod Known
+pub mod Knows
 pub mod Letters
 pub mod Marks
 pub mod Modules
+pub mod Names
+pub mod Numbered
 pub mod Numerals
 pub mod Same
 pub mod Spelling

@@ -56,15 +56,15 @@ ports_are m [] f = tt
 ports_are m (p ∷ ports) f = (port_is m p (f 0 p refl), ports_are m ports (λ k q e. f (suc k) q e))
 
 -- the items of a kind in two lists, one behind the other
-record Joined (is js : List ItemTree) : Type 0 where
-  wires : wires_in (is ++ js) ≡ wires_in is ++ wires_in js
-  registers : registers_in (is ++ js) ≡ registers_in is ++ registers_in js
-  memories : memories_in (is ++ js) ≡ memories_in is ++ memories_in js
-  assigns : assigns_in (is ++ js) ≡ assigns_in is ++ assigns_in js
-  updates : updates_in (is ++ js) ≡ updates_in is ++ updates_in js
-  instances : instances_in (is ++ js) ≡ instances_in is ++ instances_in js
+pub record Joined (is js : List ItemTree) : Type 0 where
+  pub wires : wires_in (is ++ js) ≡ wires_in is ++ wires_in js
+  pub registers : registers_in (is ++ js) ≡ registers_in is ++ registers_in js
+  pub memories : memories_in (is ++ js) ≡ memories_in is ++ memories_in js
+  pub assigns : assigns_in (is ++ js) ≡ assigns_in is ++ assigns_in js
+  pub updates : updates_in (is ++ js) ≡ updates_in is ++ updates_in js
+  pub instances : instances_in (is ++ js) ≡ instances_in is ++ instances_in js
 
-joined : (is js : List ItemTree) → Joined is js
+pub joined : (is js : List ItemTree) → Joined is js
 joined [] js = record { wires = refl; registers = refl; memories = refl; assigns = refl; updates = refl; instances = refl }
 joined (WireItem w n ∷ is) js = let r = joined is js in let own : Declared = record { name = n; width = w } in record { wires = ap (λ l. own ∷ l) r.wires; registers = r.registers; memories = r.memories; assigns = r.assigns; updates = r.updates; instances = r.instances }
 joined (RegisterItem w n ∷ is) js = let r = joined is js in record { wires = r.wires; registers = (let own : Declared = record { name = n; width = w } in ap (λ l. own ∷ l) r.registers); memories = r.memories; assigns = r.assigns; updates = r.updates; instances = r.instances }
@@ -74,13 +74,13 @@ joined (AlwaysItem us ∷ is) js = let r = joined is js in record { wires = r.wi
 joined (InstanceItem o n cs ∷ is) js = let r = joined is js in record { wires = r.wires; registers = r.registers; memories = r.memories; assigns = r.assigns; updates = r.updates; instances = (let own : NamedInstance = record { of = o; name = n; connections = cs } in ap (λ l. own ∷ l) r.instances) }
 
 -- what a list of items declares
-record Declares (is : List ItemTree) (ws rs : List Declared) (ms : List DeclaredMemory) (bs : List NamedAssign) (us : List UpdateTree) (ns : List NamedInstance) : Type 0 where
-  wires : wires_in is ≡ ws
-  registers : registers_in is ≡ rs
-  memories : memories_in is ≡ ms
-  assigns : assigns_in is ≡ bs
-  updates : updates_in is ≡ us
-  instances : instances_in is ≡ ns
+pub record Declares (is : List ItemTree) (ws rs : List Declared) (ms : List DeclaredMemory) (bs : List NamedAssign) (us : List UpdateTree) (ns : List NamedInstance) : Type 0 where
+  pub wires : wires_in is ≡ ws
+  pub registers : registers_in is ≡ rs
+  pub memories : memories_in is ≡ ms
+  pub assigns : assigns_in is ≡ bs
+  pub updates : updates_in is ≡ us
+  pub instances : instances_in is ≡ ns
 
 net_declares : (reg port : Bool) (n : Net) → Declares (net_item reg port n) (if reg || port then [] else record { name = n.name; width = n.width } ∷ []) (if reg then record { name = n.name; width = n.width } ∷ [] else []) [] [] [] []
 unfolding net_item
@@ -96,7 +96,7 @@ shift_other : {A : Type 0} (b : Bool) (x : A) (xs : List A) → (if b then x ∷
 shift_other true x xs = refl
 shift_other false x xs = refl
 
-nets_declare : (ports : List Port) (k : ℕ) (nets : List Net) → Declares (net_items ports k nets) (wires_from ports k nets) (registers_of nets) [] [] [] []
+pub nets_declare : (ports : List Port) (k : ℕ) (nets : List Net) → Declares (net_items ports k nets) (wires_from ports k nets) (registers_of nets) [] [] [] []
 unfolding net_items
 nets_declare ports k [] = record { wires = refl; registers = refl; memories = refl; assigns = refl; updates = refl; instances = refl }
 nets_declare ports k (n ∷ ns) =
@@ -113,7 +113,7 @@ nets_declare ports k (n ∷ ns) =
       instances = j.instances ∙ ap (λ l. l ++ instances_in (net_items ports (k + 1) ns)) o.instances ∙ r.instances;
     }
 
-memories_declare : (mems : List Mem) → Declares (map memory_item mems) [] [] (memories_of mems) [] [] []
+pub memories_declare : (mems : List Mem) → Declares (map memory_item mems) [] [] (memories_of mems) [] [] []
 unfolding memory_item
 memories_declare [] = record { wires = refl; registers = refl; memories = refl; assigns = refl; updates = refl; instances = refl }
 memories_declare (x ∷ mems) = let r = memories_declare mems in record { wires = r.wires; registers = r.registers; memories = (let own : DeclaredMemory = record { name = x.name; width = x.width; depth = x.depth } in ap (λ l. own ∷ l) r.memories); assigns = r.assigns; updates = r.updates; instances = r.instances }

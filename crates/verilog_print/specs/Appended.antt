@@ -2,8 +2,15 @@
 use Rattle.std.specs.Prelude.{◌≡◌, ℕ, List, ◌++◌}
 use Rattle.rtl_ir.specs.declared.design.Design.{Design}
 use Rattle.rtl_text.specs.Text.{TextOf}
+use Rattle.rtl_reading.specs.Reads.{ReadsAs}
 
 pub record AppendsText (before after : List ℕ) (d : Design) : Type 0 where
   pub text : List ℕ
   pub appended : after ≡ before ++ text
   pub of : TextOf text d
+
+-- a text that reads as the design
+pub record AppendsReading (before after : List ℕ) (d : Design) : Type 0 where
+  pub text : List ℕ
+  pub appended : after ≡ before ++ text
+  pub reads : ReadsAs text d

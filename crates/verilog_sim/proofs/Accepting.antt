@@ -1,10 +1,9 @@
 -- A module of an accepted design without instances can be simulated.
-use Rattle.std.proofs.Common.{◌≡◌, ℕ, ◌+◌, ◌<◌, ◌≤◌, List, [], length, Some, refl, sym, ap, ◌∙◌, subst, arith}
+use Rattle.std.proofs.Common.{◌≡◌, ℕ, ◌<◌, ◌≤◌, Some, refl, sym, ap, ◌∙◌, arith}
 use Rattle.std.specs.Prelude.{slice_get}
 use Rattle.rtl_ir.specs.declared.design.Design.{Design}
 use Rattle.rtl_ir.specs.declared.design.Module.{Module}
-use Rattle.rtl_ir.specs.declared.design.Assign.{Assign}
-use Rattle.rtl_ir.specs.Rules.{IsAccepted, IsLevelled, Feeds}
+use Rattle.rtl_ir.specs.Rules.{IsAccepted, IsLevelled}
 use Rattle.rtl_ir.specs.Rules.Feeds.{by_assign}
 use Rattle.rtl_ir.specs.Rules.Driver.{ByAssign}
 use Rattle.verilog_sim.specs.Runnable.{Follows, Chain, IsRunnable}

@@ -1,5 +1,5 @@
 -- A module without instances is its whole flat design.
-use Rattle.std.proofs.Common.{◌≡◌, ℕ, ◌<◌, ◌≤◌, List, [], ◌∷◌, length, Option, Some, None, refl, sym, ap, ◌∙◌, subst, arith}
+use Rattle.std.proofs.Common.{◌≡◌, ℕ, [], ◌∷◌, length, Some, None, refl, sym, ap, ◌∙◌, subst, arith}
 use Rattle.std.specs.Prelude.{slice_get, option_and_then}
 use mathlib.Core.Path.{fun_ext}
 use Rattle.std.proofs.lemmas.Option.{slice_get_past}
@@ -8,7 +8,7 @@ use Rattle.rtl_ir.specs.declared.design.Module.{Module}
 use Rattle.rtl_ir.specs.declared.design.Instance.{Instance}
 use Rattle.rtl_ir.specs.Value.{Family, Contents}
 use Rattle.rtl_ir.specs.Edge.{Fits, after_edge}
-use Rattle.rtl_ir.specs.Flat.{Path, AllContents, Families, FitsFlat, part_of, module_at, after_part, after_flat}
+use Rattle.rtl_ir.specs.Flat.{Path, AllContents, Families, FitsFlat, module_at, after_part, after_flat}
 use Rattle.rtl_ir.specs.Rules.{IsAccepted, HoldsWords, AllHold}
 use Rattle.rtl_ir.proofs.Kept.{words_kept}
 
@@ -20,7 +20,7 @@ alone v (k ∷ p) = λ n. 0
 no_instance : (m : Module) (k : ℕ) → length m.instances ≡ 0 → slice_get m.instances k ≡ None
 no_instance m k e = slice_get_past m.instances k (omega (arith, e))
 
-no_part : (d : Design) (m : Module) (k : ℕ) (p : Path) → length m.instances ≡ 0 → module_at d m (k ∷ p) ≡ None
+pub no_part : (d : Design) (m : Module) (k : ℕ) (p : Path) → length m.instances ≡ 0 → module_at d m (k ∷ p) ≡ None
 no_part d m k p e = ap (λ o. option_and_then (λ inner. module_at d inner p) (option_and_then (λ (i : Instance). slice_get d.modules i.module) o)) (no_instance m k e)
 
 pub fits_alone : (d : Design) (m : Module) (c : AllContents) (v : Family) → length m.instances ≡ 0 → Fits m (c []) v → FitsFlat d m c (alone v)

@@ -2,9 +2,8 @@
 use Rattle.std.proofs.Common.{◌≡◌, ℕ, suc, cond, ◌+◌, List, [], ◌∷◌, ◌++◌, Bool, true, false, length, map, refl, sym, ap, ◌∙◌, arith}
 use Rattle.std.proofs.lemmas.List.Sums.{sum_by-append}
 use Rattle.std.specs.Prelude.{count_by, codes}
-use Rattle.rtl_ir.specs.declared.design.Port.{Port}
 use Rattle.rtl_ir.specs.declared.design.Module.{Module}
-use Rattle.rtl_ir.specs.Ports.{Shape, PortView, HasShape, port_view, ports_of, kernel_ports, scalar_ports, host_input_ports, host_output_ports, shape_ports}
+use Rattle.rtl_ir.specs.Ports.{Shape, PortView, HasShape, port_view, kernel_ports, scalar_ports, host_input_ports, host_output_ports, shape_ports}
 use Rattle.verilog_sim.specs.Names.{begins}
 
 abbrev done_port : PortView

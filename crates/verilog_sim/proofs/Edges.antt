@@ -2,17 +2,17 @@
 use Rattle.std.proofs.Common.{◌≡◌, ℕ, zero, suc, eqb, Vec, Global, ◌+◌, ◌-◌, ◌*◌, ◌^◌, ◌<◌, ◌≤◌, Bool, true, false, List, [], ◌∷◌, ◌++◌, length, map, set, get_or, Some, refl, sym, ap, ◌∙◌, subst, ⊎_elim, arith, get_or-set_other, get_or-set_same}
 use Rattle.std.specs.Prelude.{slice_get}
 use Rattle.std.proofs.lemmas.Bool.{cases_eq, cases_lt}
-use Rattle.std.proofs.lemmas.Option.{slice_get-get_or, slice_get_within}
-use Rattle.std.proofs.lemmas.List.{length-set, length-append, length-map, get_or-map, get_or_past, get_or_append_left, get_or-append_right, ext_get_or, with_items_is}
+use Rattle.std.proofs.lemmas.Option.{slice_get-get_or}
+use Rattle.std.proofs.lemmas.List.{length-set, length-append, length-map, get_or-map, get_or_append_left, get_or-append_right, ext_get_or, with_items_is}
 use Rattle.rtl_ir.specs.declared.design.Design.{Design}
 use Rattle.std.specs.Vec.{with_items}
 use Rattle.rtl_ir.specs.declared.design.Port.{Port}
 use Rattle.rtl_ir.specs.Edge.{after_edge}
 use Rattle.rtl_ir.specs.declared.design.Module.{Module}
-use Rattle.rtl_ir.specs.Value.{Family, Contents, width_of}
-use Rattle.rtl_ir.specs.Flat.{Path, top_of, after_flat}
+use Rattle.rtl_ir.specs.Value.{Family, width_of}
+use Rattle.rtl_ir.specs.Flat.{top_of, after_flat}
 use Rattle.rtl_ir.specs.Run.{Channel, Outer}
-use Rattle.rtl_ir.specs.Ports.{Shape, HasShape, port_view, first_input, first_output, done_port, port_net, channels_from, outer_of}
+use Rattle.rtl_ir.specs.Ports.{Shape, HasShape, port_view, first_input, first_output, done_port, port_net, outer_of}
 use Rattle.verilog_sim.specs.declared.offer.Offer.{Offer}
 use Rattle.verilog_sim.specs.declared.offer.Event.{Event}
 use Rattle.verilog_sim.specs.declared.given.Counts.{Counts}
@@ -21,8 +21,8 @@ use Rattle.verilog_sim.specs.Contents.{family_of, contents_of}
 use Rattle.verilog_sim.specs.Channels.{channel_of, first_channel}
 use Rattle.verilog_sim.specs.State.{State, contents}
 use Rattle.verilog_sim.specs.Sources.{port_count}
-use Rattle.verilog_sim.specs.Calls.{nothing, Given, Settled, SettledAlone, event_of, IsEdge, IsResetEdge, IsDone}
-use Rattle.verilog_sim.specs.Simulates.{unnamed, outer_at, AreCounts, IsProgram, IsProgramOf, Simulates, AreKept, IsEvaluated, IsStepped}
+use Rattle.verilog_sim.specs.Calls.{nothing, Given, Settled, event_of, IsEdge, IsResetEdge, IsDone}
+use Rattle.verilog_sim.specs.Simulates.{unnamed, outer_at, AreCounts, IsProgram, Simulates, IsEvaluated, IsStepped}
 use Rattle.verilog_sim.proofs.Shapes.{channel_at, channels_get, length_channels, length_shape}
 use Rattle.verilog_sim.proofs.Outer.{SaysSame, outer_same, given_of}
 use Rattle.verilog_sim.proofs.Alone.{alone, fits_alone, after_alone}

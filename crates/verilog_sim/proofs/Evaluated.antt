@@ -1,21 +1,16 @@
 -- From the registers and inputs to the values of all nets.
-use Rattle.std.proofs.Common.{◌≡◌, ◌≢◌, ℕ, zero, suc, ◌+◌, ◌*◌, ◌^◌, ◌<◌, ◌≤◌, ◌||◌, ◌&&◌, Bool, true, false, not, eqb, List, [], ◌∷◌, length, get_or, Some, refl, sym, ap, ◌∙◌, subst, ⊎_elim, arith}
-use Rattle.std.specs.Prelude.{slice_get, IsTrue}
-use Rattle.std.proofs.lemmas.Bool.{cases_lt, eq-eqb, false≢true}
-use Rattle.std.proofs.lemmas.Nat.{pow_pos}
-use Rattle.std.proofs.lemmas.Option.{slice_get_within, slice_get-get_or, get_or_from_slice_get}
-use Rattle.std.proofs.lemmas.List.{get_or_past}
+use Rattle.std.proofs.Common.{◌≡◌, ◌≢◌, ℕ, zero, suc, ◌^◌, ◌<◌, ◌||◌, ◌&&◌, Bool, true, false, not, eqb, List, [], ◌∷◌, length, get_or, Some, refl, sym, ap, ◌∙◌, subst}
+use Rattle.std.specs.Prelude.{slice_get}
+use Rattle.std.proofs.lemmas.Bool.{eq-eqb, false≢true}
+use Rattle.std.proofs.lemmas.Option.{slice_get_within}
 use Rattle.rtl_ir.specs.declared.design.Port.{Port}
 use Rattle.rtl_ir.specs.declared.design.Module.{Module}
 use Rattle.rtl_ir.specs.declared.design.Assign.{Assign}
-use Rattle.rtl_ir.specs.declared.design.Update.{Update}
 use Rattle.rtl_ir.specs.declared.design.Expr.{Expr}
 use Rattle.rtl_ir.specs.declared.design.Expr.TheVariants.{Net as Plain, Literal, Not, Binary, Concat, Repeat, Part, Choose, Cell}
-use Rattle.rtl_ir.specs.declared.design.Target.TheVariants.{Reg}
-use Rattle.rtl_ir.specs.Value.{Family, Contents, value, width_of, is_reg}
-use Rattle.rtl_ir.specs.Edge.{Fits}
+use Rattle.rtl_ir.specs.Value.{Family, value, width_of, is_reg}
 use Rattle.rtl_ir.specs.Typed.{is_input, is_given}
-use Rattle.rtl_ir.proofs.Ports.{assigned_of, InputAt, input_at}
+use Rattle.rtl_ir.proofs.Ports.{assigned_of, input_at}
 use Rattle.verilog_sim.specs.declared.offer.Offer.{Offer}
 use Rattle.verilog_sim.specs.declared.given.Counts.{Counts}
 use Rattle.verilog_sim.specs.Contents.{family_of, contents_of}

@@ -1,12 +1,12 @@
 -- One line after another, the assignments come to hold.
-use Rattle.std.proofs.Common.{◌≡◌, ◌≢◌, ℕ, ◌+◌, ◌^◌, ◌<◌, ◌≤◌, Bool, true, false, cond, ◌⊎◌, inl, inr, List, [], length, get_or, set, Some, refl, sym, ap, ◌∙◌, subst, ⊎_elim, arith, eqb, get_or-set_other, get_or-set_same}
+use Rattle.std.proofs.Common.{◌≡◌, ◌≢◌, ℕ, ◌+◌, ◌^◌, ◌<◌, ◌≤◌, ◌⊎◌, inl, inr, List, [], length, get_or, set, Some, refl, sym, ap, ◌∙◌, subst, ⊎_elim, arith, get_or-set_other, get_or-set_same}
 use Rattle.std.specs.Prelude.{slice_get}
 use Rattle.std.proofs.lemmas.Bool.{cases_eq, cases_lt}
 use Rattle.std.proofs.lemmas.Option.{slice_get_within, slice_get-get_or}
 use Rattle.std.proofs.lemmas.List.{length-set}
 use Rattle.rtl_ir.specs.declared.design.Module.{Module}
 use Rattle.rtl_ir.specs.declared.design.Assign.{Assign}
-use Rattle.rtl_ir.specs.Value.{Family, Contents, width_of, value}
+use Rattle.rtl_ir.specs.Value.{width_of, value}
 use Rattle.rtl_ir.specs.Operands.{IsRead}
 use Rattle.rtl_ir.proofs.Ports.{value_agrees}
 use Rattle.rtl_ir.proofs.Words.{value_fits}

@@ -1,12 +1,11 @@
 -- One register after another is given the value that it holds.
-use Rattle.std.proofs.Common.{◌≡◌, ◌≢◌, ℕ, ◌+◌, ◌<◌, ◌≤◌, ◌⊎◌, inl, inr, List, [], length, get_or, set, Some, refl, sym, ap, ◌∙◌, subst, ⊎_elim, arith, get_or-set_other, get_or-set_same}
+use Rattle.std.proofs.Common.{◌≡◌, ◌≢◌, ℕ, ◌+◌, ◌<◌, ◌≤◌, ◌⊎◌, inl, inr, List, length, get_or, set, Some, refl, sym, ap, ◌∙◌, subst, ⊎_elim, arith, get_or-set_other, get_or-set_same}
 use Rattle.std.specs.Prelude.{slice_get}
 use Rattle.std.proofs.lemmas.Bool.{cases_eq, cases_lt}
 use Rattle.std.proofs.lemmas.Option.{slice_get_within}
 use Rattle.std.proofs.lemmas.List.{length-set}
 use Rattle.rtl_ir.specs.declared.design.Update.{Update}
-use Rattle.rtl_ir.specs.declared.design.Target.{Target}
-use Rattle.rtl_ir.specs.declared.design.Target.TheVariants.{Reg, Cell}
+use Rattle.rtl_ir.specs.declared.design.Target.TheVariants.{Reg}
 use Rattle.verilog_sim.specs.Updates.{IsLoaded}
 
 -- the first so many updates were seen

@@ -1,5 +1,5 @@
 -- From ranks of the nets to an order of the assignments.
-use Rattle.std.proofs.Common.{◌≡◌, ◌≢◌, ℕ, zero, suc, ◌+◌, ◌-◌, ◌<◌, ◌≤◌, List, [], length, get_or, Option, Some, None, refl, sym, ap, ◌∙◌, subst, ⊎_elim, arith}
+use Rattle.std.proofs.Common.{◌≡◌, ℕ, zero, suc, ◌+◌, ◌-◌, ◌<◌, ◌≤◌, List, length, get_or, Option, Some, None, refl, sym, ap, ◌∙◌, subst, ⊎_elim, arith}
 use Rattle.std.specs.Prelude.{slice_get}
 use Rattle.std.proofs.lemmas.Bool.{cases_lt}
 use Rattle.std.proofs.lemmas.Option.{slice_get_within, slice_get-get_or, get_or_from_slice_get}
@@ -11,8 +11,7 @@ use Rattle.rtl_ir.specs.Operands.{IsRead, reads}
 use Rattle.verilog_sim.specs.Runnable.{Follows, Chain, IsRunnable, IsOrderOf}
 use Rattle.verilog_sim.specs.Runnable.Follows.{by}
 use Rattle.verilog_sim.specs.Runnable.Chain.{stay, on}
-use Rattle.verilog_sim.specs.Settled.{IsInOrder}
-use Rattle.verilog_sim.specs.Drivers.{IsDriver, AreDrivers, AreGathered, IsGathered}
+use Rattle.verilog_sim.specs.Drivers.{AreDrivers, IsGathered}
 
 follows_of : (m : Module) (graph : List (List ℕ)) (drivers : List (Option ℕ)) (count b a : ℕ) → AreDrivers m graph drivers count → Reads graph b a → Follows m a b
 follows_of m graph drivers count b a d r = by_driver (get_or drivers b None) refl

@@ -1,16 +1,14 @@
 -- The ports of a shape by their numbers, and the nets by which a run sees them.
-use Rattle.std.proofs.Common.{◌≡◌, ℕ, zero, suc, ◌+◌, ◌*◌, ◌<◌, ◌≤◌, Bool, true, false, List, [], ◌∷◌, ◌++◌, length, map, replicate, get_or, Option, Some, None, refl, sym, ap, ◌∙◌, subst, arith}
+use Rattle.std.proofs.Common.{◌≡◌, ℕ, zero, suc, ◌+◌, ◌*◌, ◌<◌, Bool, true, false, List, [], ◌∷◌, ◌++◌, length, get_or, Option, Some, None, refl, sym, ap, ◌∙◌, arith}
 use Rattle.std.specs.Prelude.{slice_get}
 use Rattle.std.specs.Option.{option_map}
-use Rattle.std.proofs.lemmas.Option.{slice_get_within, slice_get-map}
-use Rattle.std.proofs.lemmas.List.{length-append, length-map}
+use Rattle.std.proofs.lemmas.Option.{slice_get-map}
+use Rattle.std.proofs.lemmas.List.{length-append}
 use Rattle.rtl_ir.specs.declared.design.Port.{Port}
 use Rattle.rtl_ir.specs.declared.design.Module.{Module}
 use Rattle.rtl_ir.specs.Value.{width_of}
-use Rattle.rtl_ir.specs.Run.{Channel, Outer}
-use Rattle.rtl_ir.specs.Ports.{Shape, PortView, kernel_ports, scalar_ports, host_input_ports, host_output_ports, shape_ports, port_view, ports_of, HasShape, port_net, net_at, nets_from, second_nets_from, channels_from, first_scalar, first_input, first_output, done_port, outer_of}
-use Rattle.verilog_sim.specs.declared.given.Counts.{Counts}
-use Rattle.verilog_sim.specs.Simulates.{unnamed, AreCounts}
+use Rattle.rtl_ir.specs.Run.{Channel}
+use Rattle.rtl_ir.specs.Ports.{Shape, PortView, kernel_ports, scalar_ports, host_input_ports, host_output_ports, shape_ports, port_view, HasShape, port_net, net_at, nets_from, second_nets_from, channels_from, first_scalar, first_input, first_output, done_port, outer_of}
 
 -- a port of this width and direction at a place of a list
 pub record ViewAt (l : List PortView) (i w : ℕ) (out : Bool) : Type 0 where

@@ -1,7 +1,8 @@
 -- What a simulator holds before its first call is words, and the low bits of one word.
-use Rattle.std.proofs.Common.{◌≡◌, ℕ, zero, suc, ◌+◌, ◌%◌, ◌^◌, ◌<◌, ◌≤◌, Bool, true, false, cond, List, [], ◌∷◌, length, map, replicate, get_or, Some, refl, sym, ap, ◌∙◌, subst, ⊎_elim, arith}
-use Rattle.std.specs.Prelude.{slice_get}
-use Rattle.std.proofs.lemmas.Bool.{cases_lt}
+use Rattle.std.proofs.Common.{◌≡◌, ℕ, zero, suc, ◌+◌, ◌%◌, ◌^◌, ◌<◌, ◌≤◌, cond, List, [], ◌∷◌, length, map, replicate, get_or, Some, refl, sym, ap, ◌∙◌, subst, ⊎_elim, arith}
+use Rattle.std.specs.Prelude.{slice_get, nat_lt}
+use mathlib.Core.Path.{fun_ext}
+use Rattle.std.proofs.lemmas.Bool.{cases_lt, lt-ltb, le-ltb}
 use Rattle.std.proofs.lemmas.Nat.{pow_pos, mod_below}
 use Rattle.std.proofs.lemmas.List.{length-map, length-replicate, get_or-replicate, get_or_past}
 use Rattle.rtl_ir.specs.declared.design.Module.{Module}
@@ -12,7 +13,13 @@ use Rattle.rtl_ir.specs.Typed.{word_width, mem_width}
 use Rattle.rtl_ir.specs.Rules.{HoldsWords}
 use Rattle.verilog_sim.specs.declared.given.Counts.{Counts}
 use Rattle.verilog_sim.specs.Contents.{contents_of}
-use Rattle.verilog_sim.specs.Start.{held_at_start, words_at_start, IsFilled}
+use Rattle.rtl_ir.specs.Value.{Contents}
+use Rattle.rtl_ir.specs.Flat.{Path, module_at}
+use Rattle.rtl_ir.specs.declared.design.Design.{Design}
+use Rattle.verilog_sim.specs.State.{State, contents}
+use Rattle.verilog_sim.specs.Start.{held_at_start, words_at_start, IsFilled, filled_part}
+use Rattle.verilog_sim.specs.Start as start
+use Rattle.verilog_sim.proofs.Alone.{no_part}
 use Rattle.verilog_sim.specs.Simulates.{AreKept, unnamed}
 use Rattle.rtl_ir.specs.Ports.{outer_of}
 use Rattle.verilog_sim.proofs.Driving.{same_all}
@@ -79,3 +86,31 @@ start_kept m c fill steady held values memories eh em ev es =
 pub map_zero : (xs : List ℕ) → map {B = ℕ} (λ (n : ℕ). 0) xs ≡ replicate (length xs) 0
 map_zero [] = refl
 map_zero (x ∷ xs) = ap (λ (l : List ℕ). 0 ∷ l) (map_zero xs)
+
+cells_at : (depth x a : ℕ) → get_or (replicate depth x) a 0 ≡ cond (nat_lt a depth) x 0
+cells_at depth x a = ⊎_elim within past (cases_lt a depth)
+  where
+    within : a < depth → get_or (replicate depth x) a 0 ≡ cond (nat_lt a depth) x 0
+    within lt = cell_at depth x a lt ∙ sym (ap (λ b. cond b x 0) (lt-ltb a depth lt))
+
+    past : depth ≤ a → get_or (replicate depth x) a 0 ≡ cond (nat_lt a depth) x 0
+    past ge = get_or_past (replicate depth x) a 0 (omega (arith, length-replicate depth x)) ∙ sym (ap (λ b. cond b x 0) (le-ltb a depth ge))
+
+abbrev made : (ℕ → ℕ) → (ℕ → ℕ → ℕ) → Contents
+made regs cells = record { regs = regs; cells = cells }
+
+filled_alone : (m : Module) (fill : ℕ) (held : List ℕ) (memories : List (List ℕ)) → held ≡ map (held_at_start fill) m.nets → memories ≡ map (words_at_start fill) m.mems → contents_of held memories ≡ filled_part (Some m) fill
+filled_alone m fill held memories eh em =
+    ap (λ (r : ℕ → ℕ). made r (λ k a. get_or (get_or memories k []) a 0)) (fun_ext (λ n. ap (λ (l : List ℕ). get_or l n 0) eh ∙ nets_at fill m.nets n))
+    ∙ ap (made (λ n. cond (is_reg m n) (fill % 2 ^ width_of m n) 0))
+    (fun_ext (λ k. fun_ext (λ a. ap (λ (l : List (List ℕ)). get_or (get_or l k []) a 0) em ∙ ap (λ (l : List ℕ). get_or l a 0) (mems_at fill m.mems k) ∙ cells_at (depth_of m k) (fill % 2 ^ word_width m k) a)))
+
+-- a simulator of a module without instances holds at first what the whole design holds at first
+pub contents_filled :
+    (s : State) (d : Design) (m : Module) (fill : ℕ) → length m.instances ≡ 0
+    → s.held ≡ map (held_at_start fill) m.nets → s.memories ≡ map (words_at_start fill) m.mems → contents s ≡ start.filled d m fill
+contents_filled s d m fill e eh em = fun_ext at
+  where
+    at : (p : Path) → contents s p ≡ filled_part (module_at d m p) fill
+    at [] = filled_alone m fill s.held s.memories eh em
+    at (k ∷ p) = sym (ap (λ o. filled_part o fill) (no_part d m k p e))

@@ -1,5 +1,5 @@
 -- By which ports a module tells how many kernels, scalars and host streams it has.
-use Rattle.std.specs.Prelude.{ℕ, List, [], ◌∷◌, Bool, true, false, ◌&&◌, nat_eq, if◌then◌else◌, not}
+use Rattle.std.specs.Prelude.{ℕ, List, [], ◌∷◌, Bool, true, false, ◌&&◌, nat_eq, not}
 use Rattle.rtl_ir.specs.Ports.{PortView}
 
 -- whether a name begins with a byte

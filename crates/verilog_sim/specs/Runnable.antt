@@ -1,5 +1,5 @@
 -- Modules without instances that can be simulated, and orders in which their assignments are evaluated.
-use Rattle.std.specs.Prelude.{◌≡◌, ℕ, ◌<◌, ◌≤◌, true, false, List, length, Some, slice_get}
+use Rattle.std.specs.Prelude.{◌≡◌, ℕ, true, false, List, Some, slice_get}
 use Rattle.rtl_ir.specs.declared.design.Module.{Module}
 use Rattle.rtl_ir.specs.declared.design.Mem.{Mem}
 use Rattle.rtl_ir.specs.declared.design.Net.{Net}

@@ -1,10 +1,10 @@
 -- When a simulator can go on: what its parts have to do with the design.
-use Rattle.std.specs.Prelude.{◌≡◌, ℕ, ◌+◌, ◌^◌, ◌<◌, true, false, Bool, List, [], length, map, replicate, Option, Some, None, slice_get, slice_index, slice_index_or}
+use Rattle.std.specs.Prelude.{◌≡◌, ℕ, ◌+◌, ◌^◌, ◌<◌, true, false, Bool, List, [], length, replicate, Option, Some, None, slice_get, slice_index, slice_index_or}
 use Rattle.rtl_ir.specs.declared.design.Design.{Design}
 use Rattle.rtl_ir.specs.declared.design.Module.{Module}
 use Rattle.rtl_ir.specs.declared.design.Assign.{Assign}
 use Rattle.rtl_ir.specs.declared.design.Port.{Port}
-use Rattle.rtl_ir.specs.Value.{Family, Contents, width_of, is_reg}
+use Rattle.rtl_ir.specs.Value.{width_of, is_reg}
 use Rattle.rtl_ir.specs.Edge.{Fits, after_edge}
 use Rattle.rtl_ir.specs.Flat.{top_of}
 use Rattle.rtl_ir.specs.Ports.{Shape, HasShape, outer_of}

@@ -1,8 +1,10 @@
 -- What a simulator holds before its first call, and how much there is of it.
-use Rattle.std.specs.Prelude.{◌≡◌, ℕ, ◌+◌, ◌-◌, ◌^◌, ◌%◌, ◌<◌, ◌≤◌, min, true, if◌then◌else◌, List, length, replicate, sum_by}
+use Rattle.std.specs.Prelude.{Option, Some, None, nat_lt, ◌≡◌, ℕ, ◌+◌, ◌-◌, ◌^◌, ◌%◌, ◌<◌, ◌≤◌, min, true, if◌then◌else◌, List, length, replicate, sum_by}
 use Rattle.rtl_ir.specs.declared.design.Net.{Net}
 use Rattle.rtl_ir.specs.declared.design.Mem.{Mem}
 use Rattle.rtl_ir.specs.declared.design.Module.{Module}
+use Rattle.rtl_ir.specs.declared.design.Design.{Design}
+use Rattle.rtl_ir.specs.Flat.{AllContents, module_at}
 use Rattle.rtl_ir.specs.Value.{Contents, width_of, is_reg, depth_of}
 use Rattle.rtl_ir.specs.Typed.{word_width}
 use Rattle.verilog_sim.specs.declared.error.SimError.{SimError}
@@ -22,6 +24,18 @@ words_at_start fill x = replicate x.depth (fill % 2 ^ x.width)
 pub record IsFilled (m : Module) (fill : ℕ) (c : Contents) : Type 0 where
   pub regs : (n : ℕ) → is_reg m n ≡ true → c.regs n ≡ fill % 2 ^ width_of m n
   pub cells : (k a : ℕ) → a < depth_of m k → c.cells k a ≡ fill % 2 ^ word_width m k
+
+-- the same as a function, which is 0 where there is no register and no word of a memory
+abbrev pub filled_part : Option Module → ℕ → Contents
+filled_part None fill = record { regs = λ n. 0; cells = λ k a. 0 }
+filled_part (Some m) fill = record {
+  regs = λ n. if is_reg m n then fill % 2 ^ width_of m n else 0;
+  cells = λ k a. if nat_lt a (depth_of m k) then fill % 2 ^ word_width m k else 0;
+}
+
+-- what the registers and memories of a module and of all its instances hold at first
+abbrev pub filled : Design → Module → ℕ → AllContents
+filled d m fill = λ p. filled_part (module_at d m p) fill
 
 -- which answer there is for so many cells
 abbrev pub IsRefusal : ℕ → SimError → Type 0

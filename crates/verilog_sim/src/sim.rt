@@ -8,7 +8,7 @@ ghost use Rattle.rtl_ir.specs.Rules.{IsAccepted, AllHold};
 ghost use Rattle.verilog_sim.specs.State.{contents};
 ghost use Rattle.verilog_sim.specs.Calls.{IsEdge, IsResetEdge, IsDone};
 ghost use Rattle.verilog_sim.specs.Simulates.{AreOffered};
-ghost use Rattle.verilog_sim.specs.Start.{cells_of, IsFilled, IsRefusal};
+ghost use Rattle.verilog_sim.specs.Start.{cells_of, IsFilled, IsRefusal, filled};
 
 use crate::compile::{Program, compile};
 use crate::counts::counts_of;
@@ -74,6 +74,7 @@ impl<'a> Sim<'a> {
         ensures outer { IfOk result (λ sim. (m : Module) (s : Shape) → top_of design.now ≡ Some m → HasShape m s → sim.outer ≡ outer_of s m) }
         ensures steady { IfOk result (λ sim. sim.steady ≡ map (λ n. 0) sim.outer.steady) }
         ensures filled { IfOk result (λ sim. (m : Module) → top_of design.now ≡ Some m → IsFilled m fill (contents sim [])) }
+        ensures start { IfOk result (λ sim. (m : Module) → top_of design.now ≡ Some m → contents sim ≡ filled design.now m fill) }
         ensures words { IfOk result (λ sim. (m : Module) → top_of design.now ≡ Some m → AllHold design.now m (contents sim)) }
         ensures small { OnOk result ((m : Module) → top_of design.now ≡ Some m → cells_of m ≤ 2 ^ 26) }
         ensures refusal { IfErr result (λ e. (m : Module) → top_of design.now ≡ Some m → IsRefusal (cells_of m) e) }

@@ -90,6 +90,13 @@ more_is_bad r some = first_bad (more_left r some)
 pub whole : {xs ys : List Token} {trees : List ModuleTree} → Reads FileOf xs ys trees → ys ≡ [] → Derives Is Choice (File trees ∷ []) xs
 whole {xs = xs} {trees = trees} r e = subst (λ l. Derives Is Choice (File trees ∷ []) l) (sym (r.split ∙ ap (λ l. r.read ++ l) e ∙ append-nil r.read)) r.derived
 
+-- the trees are the only ones
+pub whole_only : {xs ys : List Token} {trees : List ModuleTree} → Reads FileOf xs ys trees → ys ≡ [] → (others : List ModuleTree) → Derives Is Choice (File others ∷ []) xs → others ≡ trees
+whole_only {xs = xs} {ys = ys} r e others d =
+    let same : xs ≡ r.read = r.split ∙ ap (λ l. r.read ++ l) e ∙ append-nil r.read in
+    (r.only others tt (Sign_ [] ∷ []) end_ends (end_token ∷ []) [] (λ g. cc) (ap ended e)
+    (subst (λ l. Starts Is Choice (File others ∷ Sign_ [] ∷ []) (l ++ end_token ∷ [])) same (starts_then Is Choice (Sign_ [] ∷ []) (end_token ∷ []) d (Starts.eat refl Starts.end)))).0
+
 pub stop_fewer : {xs ys : List Token} → Stops FileOf xs ys → length ys ≤ length xs
 stop_fewer {xs = xs} {ys = ys} r = omega (arith, ap length r.split, length-append r.read ys)
 

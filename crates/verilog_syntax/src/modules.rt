@@ -1,5 +1,6 @@
 // The modules of a text (IEEE 1364-2005, 12.1).
-ghost use Rattle.std.specs.Prelude.{◌≡◌, ◌<◌, ◌∷◌, [], length, map, IfOk, IfErr, MatchResult};
+ghost use Rattle.std.specs.Prelude.{◌≡◌, ◌<◌, ◌∷◌, [], List as Items, length, map, IfOk, IfErr, MatchResult};
+ghost use Rattle.rtl_text.specs.Tree.{ModuleTree as Tree};
 ghost use Rattle.grammar.specs.Grammar.{Derives};
 ghost use Rattle.rtl_text.specs.Productions.{File, Is, Choice};
 ghost use Rattle.verilog_syntax.specs.Parsing.{Reads, ModuleOf, FileOf};
@@ -71,6 +72,8 @@ pub fn parse<'a>(
     length: u32,
 ) -> Result<List<ModuleTree<'a>>, ParseError>
     ensures derived { IfOk result (λ modules. Derives Is Choice (File (map module_view modules) ∷ []) (tokens_of tokens.now)) }
+    ensures only { IfOk result (λ modules. (trees : Items Tree) → Derives Is Choice (File trees ∷ []) (tokens_of tokens.now)
+        → trees ≡ map module_view modules) }
     ensures refused { IfErr result (λ e. IsRefused tokens.now length e) }
 {
     let mut parser = Parser { rest: tokens };

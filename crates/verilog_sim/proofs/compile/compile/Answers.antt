@@ -1,10 +1,7 @@
-use Rattle.std.proofs.Common.{◌≡◌, ℕ, ◌++◌, ◌∷◌, [], ◌+◌, List, Some, length, refl, subst, sym}
-use Rattle.std.specs.Prelude.{slice_get}
+use Rattle.std.proofs.Common.{length, refl}
 use Rattle.std.proofs.lemmas.Option.{slice_get_read}
-use Rattle.rtl_ir.specs.declared.design.Assign.{Assign}
 use Rattle.verilog_sim.specs.declared.line.Line.{Line}
-use Rattle.verilog_sim.specs.Compiled.{AreLines}
-use Rattle.verilog_sim.proofs.Compiling.{none_compiled, one_compiled}
+use Rattle.verilog_sim.proofs.Compiling.{one_compiled}
 use Rattle.verilog_sim.proofs.compile.compile.Goals as goal
 
 pub width_at-width-requires : goal.width_at-width-requires

@@ -1,7 +1,5 @@
 use Rattle.std.proofs.Common.{refl, subst, sym, arith, ◌-◌}
-use Rattle.std.specs.Prelude.{IfOk}
 use Rattle.rtl_ir.specs.declared.design.Expr.{Expr}
-use Rattle.rtl_ir.specs.declared.design.Expr.TheVariants.{Concat, Repeat}
 use Rattle.rtl_ir.specs.Formed.{IsFormedExpr}
 use Rattle.verilog_sim.specs.Compiled.{HasStep}
 use Rattle.verilog_sim.specs.declared.line.Step.TheVariants.{Literal as DoLiteral}

@@ -1,9 +1,7 @@
-use Rattle.std.proofs.Common.{◌≡◌, ℕ, ◌<◌, ◌^◌, List, length, get_or, refl, sym, subst, ap, ◌∙◌, arith}
-use Rattle.std.specs.Prelude.{slice_get}
-use Rattle.std.specs.List.{All}
+use Rattle.std.proofs.Common.{◌≡◌, ℕ, ◌<◌, ◌^◌, List, length, get_or, sym, subst, ap, ◌∙◌, arith}
 use Rattle.std.proofs.lemmas.List.{length-map}
 use Rattle.rtl_ir.specs.declared.design.Port.{Port}
-use Rattle.rtl_ir.specs.Ports.{outer_of, port_view, HasShape, shape_ports}
+use Rattle.rtl_ir.specs.Ports.{port_view}
 use Rattle.rtl_ir.specs.declared.design.Update.{Update}
 use Rattle.rtl_ir.specs.Value.{width_of}
 use Rattle.verilog_sim.specs.Simulates.{AreOffered}

@@ -1,4 +1,4 @@
-use Rattle.std.proofs.Common.{◌≡◌, Some, subst}
+use Rattle.std.proofs.Common.{◌≡◌, subst}
 use Rattle.rtl_ir.specs.declared.design.Module.{Module}
 use Rattle.verilog_sim.specs.Simulates.{IsEvaluated}
 use Rattle.verilog_sim.proofs.evaluate.look.Goals as goal

@@ -1,11 +1,10 @@
-use Rattle.std.proofs.Common.{◌≡◌, ℕ, ◌<◌, ◌-◌, List, Some, length, refl, sym, subst, ap, ◌∙◌, arith}
+use Rattle.std.proofs.Common.{◌≡◌, ◌-◌, List, length, sym, subst, ap, ◌∙◌}
 use Rattle.rtl_ir.specs.declared.design.Module.{Module}
 use Rattle.rtl_ir.specs.declared.design.Update.{Update}
-use Rattle.rtl_ir.specs.Value.{Contents}
 use Rattle.rtl_ir.specs.Edge.{after_edge, updated_all}
 use Rattle.rtl_ir.specs.Rules.{HoldsWords}
 use Rattle.verilog_sim.specs.Contents.{family_of, contents_of}
-use Rattle.verilog_sim.specs.Simulates.{Simulates, IsEvaluated, IsStepped, AreKept}
+use Rattle.verilog_sim.specs.Simulates.{IsEvaluated, IsStepped}
 use Rattle.verilog_sim.proofs.Updating.{update_safe}
 use Rattle.verilog_sim.proofs.Alone.{words_after}
 use Rattle.verilog_sim.proofs.evaluate.step.Goals as goal

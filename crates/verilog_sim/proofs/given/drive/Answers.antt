@@ -1,4 +1,4 @@
-use Rattle.std.proofs.Common.{◌≡◌, ◌+◌, ◌<◌, ℕ, Bool, true, false, not, List, Some, length, get_or, arith, subst, sym}
+use Rattle.std.proofs.Common.{◌≡◌, ◌+◌, ℕ, false, List, Some, get_or, arith, subst, sym}
 use Rattle.std.specs.Prelude.{slice_get}
 use Rattle.std.proofs.lemmas.Option.{slice_get-get_or}
 use Rattle.rtl_ir.specs.declared.design.Port.{Port}

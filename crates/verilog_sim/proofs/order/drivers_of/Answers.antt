@@ -1,8 +1,7 @@
-use Rattle.std.proofs.Common.{◌≡◌, ◌+◌, ◌<◌, ℕ, List, [], Option, None, Some, length, get_or, arith, subst, sym, ◌∙◌, ap, refl}
+use Rattle.std.proofs.Common.{◌≡◌, ◌<◌, ℕ, List, Some, length, get_or, arith, subst, refl}
 use Rattle.std.specs.Prelude.{slice_get}
 use Rattle.std.proofs.lemmas.Option.{slice_get_read}
 use Rattle.rtl_ir.specs.declared.design.Assign.{Assign}
-use Rattle.verilog_sim.specs.Drivers.{AreDrivers}
 use Rattle.verilog_sim.proofs.Driving.{no_drivers, one_driver}
 use Rattle.verilog_sim.proofs.order.drivers_of.Goals as goal
 

@@ -1,4 +1,4 @@
-use Rattle.std.proofs.Common.{rules, ◌+◌, ◌*◌, ◌++◌, ◌∷◌, [], ◌≡◌, ◌<◌, ℕ, List, None, Some, Option, length, get_or, arith, subst, sym, ◌∙◌, ap, refl, Vec, Global}
+use Rattle.std.proofs.Common.{rules, ◌+◌, ◌++◌, ◌∷◌, [], ◌≡◌, ◌<◌, ℕ, List, None, Some, Option, length, get_or, subst, sym, ◌∙◌, ap, refl, Vec, Global}
 use Rattle.std.specs.Prelude.{slice_get}
 use Rattle.std.proofs.lemmas.Option.{slice_get-get_or, slice_get_read}
 use Rattle.rtl_ir.specs.declared.design.Assign.{Assign}

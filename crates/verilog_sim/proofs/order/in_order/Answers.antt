@@ -1,5 +1,4 @@
-use Rattle.std.proofs.Common.{◌<◌, ◌≡◌, ℕ, List, Option, Some, length, arith, subst, sym, ◌∙◌, ap}
-use Rattle.std.specs.Prelude.{slice_get, IfOk}
+use Rattle.std.proofs.Common.{ℕ, List, length, arith, subst, sym, ap}
 use Rattle.digraph.specs.Graph.{IsGraph, RanksOrWalk}
 use Rattle.verilog_sim.specs.Drivers.{AreDrivers}
 use Rattle.std.proofs.lemmas.Result.{IfOk-weaker}

@@ -1,4 +1,4 @@
-use Rattle.std.proofs.Common.{◌≡◌, replicate, [], ℕ, List}
+use Rattle.std.proofs.Common.{◌≡◌, replicate, []}
 use Rattle.verilog_sim.proofs.order.unread.Given as goal
 
 abbrev pub invariant-loop-node : goal.invariant-loop-node

@@ -6,7 +6,7 @@ use Rattle.verilog_syntax.specs.Parsed.{IsFile, tokens_of}
 use Rattle.verilog_syntax.specs.Scanning.{token_view}
 use Rattle.verilog_syntax.specs.declared.token.Placed.{Placed}
 use Rattle.verilog_syntax.proofs.ByteTests.{eq_same}
-use Rattle.verilog_syntax.proofs.Whole.{whole, stop_is_bad, more_is_bad}
+use Rattle.verilog_syntax.proofs.Whole.{whole, whole_only, stop_is_bad, more_is_bad}
 use Rattle.verilog_syntax.proofs.modules.parse.Goals as goal
 
 -- as many tokens as the parser has
@@ -26,6 +26,9 @@ some (x ∷ xs) e f = cc
 
 pub returns-then-is_empty-clause-derived : goal.returns-then-is_empty-clause-derived
 returns-then-is_empty-clause-derived c = whole c.in-Ok.ensures (none c.file-outcome.new.self.rest.now (sym c.is_empty.ensures ∙ c.if-is_empty.true))
+
+pub returns-then-is_empty-clause-only : goal.returns-then-is_empty-clause-only
+returns-then-is_empty-clause-only c = whole_only c.in-Ok.ensures (none c.file-outcome.new.self.rest.now (sym c.is_empty.ensures ∙ c.if-is_empty.true))
 
 pub returns-in-Ok-clause-refused : goal.returns-in-Ok-clause-refused
 returns-in-Ok-clause-refused c = record {

@@ -1,17 +1,14 @@
-use Rattle.std.proofs.Common.{◌≡◌, ℕ, ◌+◌, ◌*◌, ◌<◌, ◌-◌, Bool, true, false, eqb, List, [], Some, length, get_or, refl, subst, sym, ap, ◌∙◌, arith, Vec, Global}
+use Rattle.std.proofs.Common.{◌≡◌, ℕ, ◌-◌, false, eqb, List, [], Some, length, get_or, subst, sym, ap, ◌∙◌}
 use Rattle.std.specs.Prelude.{slice_get}
 use Rattle.std.specs.Vec.{with_items}
 use Rattle.rtl_ir.specs.declared.design.Module.{Module}
 use Rattle.rtl_ir.specs.declared.design.Port.{Port}
 use Rattle.rtl_ir.specs.Flat.{top_of}
 use Rattle.rtl_ir.specs.Ports.{port_net}
-use Rattle.verilog_sim.specs.declared.offer.Event.{Event}
 use Rattle.verilog_sim.specs.State.{State}
-use Rattle.verilog_sim.specs.Contents.{family_of}
-use Rattle.verilog_sim.specs.Channels.{channel_of, first_channel}
-use Rattle.verilog_sim.specs.Calls.{event_of, IsEdge, IsResetEdge, IsDone}
-use Rattle.verilog_sim.specs.Simulates.{Simulates, IsStepped, IsEvaluated}
-use Rattle.verilog_sim.proofs.Edges.{state, outer_top, back, simulates_back, nets_within, done_is}
+use Rattle.verilog_sim.specs.Calls.{IsDone}
+use Rattle.verilog_sim.specs.Simulates.{IsEvaluated}
+use Rattle.verilog_sim.proofs.Edges.{back, simulates_back, nets_within, done_is}
 use Rattle.verilog_sim.proofs.sim.Sim.done.Goals as goal
 
 pub value_at-requires-clause-nets : goal.value_at-requires-clause-nets

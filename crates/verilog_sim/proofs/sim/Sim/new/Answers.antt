@@ -1,6 +1,5 @@
-use Rattle.std.proofs.Common.{rules, ◌≡◌, ℕ, ◌+◌, ◌<◌, ◌-◌, List, [], Some, replicate, length, refl, subst, sym, ap, ◌∙◌, arith}
+use Rattle.std.proofs.Common.{rules, map, ◌≡◌, ◌+◌, ◌-◌, List, replicate, length, subst, sym, ap, ◌∙◌, arith}
 use Rattle.rtl_ir.specs.declared.design.Module.{Module}
-use Rattle.rtl_ir.specs.Flat.{top_of}
 use Rattle.rtl_ir.specs.declared.design.Assign.{Assign}
 use Rattle.rtl_ir.specs.Ports.{HasShape}
 use Rattle.rtl_ir.specs.Run.{Outer}
@@ -8,11 +7,11 @@ use Rattle.rtl_ir.specs.Rules.{HoldsWords}
 use Rattle.verilog_sim.specs.Compiled.{AreLinesOf}
 use Rattle.verilog_sim.specs.Contents.{contents_of}
 use Rattle.verilog_sim.specs.State.{contents}
-use Rattle.verilog_sim.specs.Start.{IsFilled}
+use Rattle.verilog_sim.specs.Start.{IsFilled, held_at_start, words_at_start}
 use Rattle.verilog_sim.proofs.Alone.{hold_alone}
 use Rattle.verilog_sim.proofs.Edges.{state, outer_top, top_outer}
 use Rattle.verilog_sim.proofs.Outer.{length_steady}
-use Rattle.verilog_sim.proofs.Starting.{start_kept, filled, words_held, map_zero}
+use Rattle.verilog_sim.proofs.Starting.{start_kept, contents_filled, filled, words_held, map_zero}
 use Rattle.verilog_sim.proofs.Accepting.{runnable_of}
 use Rattle.verilog_sim.proofs.sim.Sim.new.Goals as goal
 
@@ -81,6 +80,13 @@ pub returns-clause-filled : goal.returns-clause-filled
 returns-clause-filled c = λ m e.
     let same : c.top-top.result.now ≡ m = (let f = c.top-top.ensures in cc) in
     subst (λ (x : Module). IsFilled x c.args.fill (contents_of c.in_ok-registers.field-0.items c.in_ok-memories.field-0.items)) same (filled c.top-top.result.now c.args.fill c.in_ok-registers.field-0.items c.in_ok-memories.field-0.items c.in_ok-registers.ensures c.in_ok-memories.ensures)
+
+pub returns-clause-start : goal.returns-clause-start
+returns-clause-start c = λ m e.
+    let same : c.top-top.result.now ≡ m = (let f = c.top-top.ensures in cc) in
+    contents_filled (state c.args.design.now c.counts_of-counts.result c.in_ok-vec.field-0.items c.in_ok-registers.field-0.items c.in_ok-memories.field-0.items) c.args.design.now m c.args.fill (c.requires.alone m e)
+    (c.in_ok-registers.ensures ∙ ap (λ (x : Module). map (held_at_start c.args.fill) x.nets) same)
+    (c.in_ok-memories.ensures ∙ ap (λ (x : Module). map (words_at_start c.args.fill) x.mems) same)
 
 pub returns-clause-words : goal.returns-clause-words
 returns-clause-words c = λ m e.

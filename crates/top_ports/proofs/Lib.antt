@@ -1,0 +1,11 @@
+pub mod ByKernel
+pub mod CutLemmas
+pub mod FirstWrong
+pub mod KernelPorts
+pub mod Listing
+pub mod PlaceLemmas
+pub mod RoleLemmas
+pub mod RunShapes
+pub mod Runs
+pub mod ShapeLists
+pub mod ShapeRuns

@@ -1,0 +1,4 @@
+pub mod Listed
+pub mod Roles
+pub mod Shapes
+pub mod Stages

@@ -1,0 +1,17 @@
+pub mod Tables
+pub mod FirstUse
+pub mod Grow
+pub mod Seq
+pub mod Updates
+pub mod Twice
+pub mod PortLemmas
+pub mod ItemLemmas
+pub mod ModuleLemmas
+pub mod Good
+pub mod Said
+pub mod Forms
+pub mod Readings
+pub mod SameExpr
+pub mod Unique
+pub mod Whole
+pub mod Joins

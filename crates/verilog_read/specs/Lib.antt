@@ -1,0 +1,6 @@
+pub mod Refused
+pub mod Tables
+pub mod Built
+pub mod Walk
+pub mod Joined
+pub mod Answers
