@@ -1,8 +1,8 @@
 -- The first undeclared use of several lists of uses.
-use Rattle.std.proofs.Common.{◌≡◌, ◌∙◌, Bool, true, false, cond, List, [], ◌∷◌, ◌++◌, Option, Some, None, Result, Ok, Err, refl, ap}
+use Rattle.std.proofs.Common.{◌≡◌, ◌∙◌, Bool, true, false, cond, List, [], ◌∷◌, ◌++◌, Some, None, Result, Ok, Err, refl, ap}
 use Rattle.rtl_text.specs.Tree.{Name}
 use Rattle.rtl_reading.specs.Uses.{Use, first_undeclared}
-use Rattle.verilog_read.specs.Walk.{IsFault, AllDeclared, Gives}
+use Rattle.verilog_read.specs.Walk.{IsFault, Gives}
 use Rattle.verilog_read.specs.declared.fault.Fault.{Fault}
 use Rattle.verilog_read.specs.declared.fault.Fault.TheVariants.{Unknown, NoMemory}
 

@@ -1,5 +1,5 @@
 -- A design that was read is formed.
-use Rattle.std.proofs.Common.{◌≡◌, ◌∙◌, ℕ, zero, suc, ◌+◌, ◌<◌, ◌≤◌, Bool, true, false, ◌&&◌, ◌||◌, not, cond, nat_eq, List, [], ◌∷◌, ◌++◌, length, map, take, Option, Some, None, codes, refl, sym, ap, subst, append_assoc, arith}
+use Rattle.std.proofs.Common.{◌≡◌, ◌∙◌, ℕ, zero, suc, ◌+◌, ◌<◌, ◌≤◌, Bool, true, false, ◌&&◌, ◌||◌, cond, nat_eq, List, [], ◌∷◌, ◌++◌, length, map, take, Some, None, codes, refl, sym, ap, subst, append_assoc, arith}
 use Rattle.std.specs.Prelude.{slice_get, bytes_eq}
 use Rattle.std.specs.List.{list_any}
 use Rattle.std.specs.Option.{option_map}
@@ -12,14 +12,13 @@ use Rattle.rtl_ir.specs.declared.design.Mem.{Mem}
 use Rattle.rtl_ir.specs.declared.design.Port.{Port}
 use Rattle.rtl_ir.specs.declared.design.Expr.{Expr}
 use Rattle.rtl_ir.specs.declared.design.Expr.TheVariants as exprs
-use Rattle.rtl_ir.specs.declared.design.Assign.{Assign}
 use Rattle.rtl_ir.specs.declared.design.Target.{Target}
 use Rattle.rtl_ir.specs.declared.design.Update.{Update}
 use Rattle.rtl_ir.specs.declared.design.Instance.{Instance}
 use Rattle.rtl_ir.specs.declared.design.Module.{Module}
 use Rattle.rtl_ir.specs.Value.{net_kept, is_reg}
 use Rattle.rtl_ir.specs.Operands.{target_net, target_mem}
-use Rattle.rtl_ir.specs.Formed.{is_bit_input, IsFormedNet, IsFormedMem, IsFormedPort, IsFormedExpr, IsFormedAssign, IsFormedUpdate, IsFormedInstance, IsFormedModule, IsFormed}
+use Rattle.rtl_ir.specs.Formed.{is_bit_input, IsFormedNet, IsFormedMem, IsFormedPort, IsFormedExpr, IsFormedUpdate, IsFormedInstance, IsFormedModule, IsFormed}
 use Rattle.rtl_text.specs.Tree.{Name, PortTree, InputPort, OutputPort, ExprTree, PlainTree, LiteralTree, NotTree, BinaryTree, ConcatTree, RepeatTree, PartTree, ChooseTree, CellTree, UpdateTree, RegisterUpdate, CellUpdate, ItemTree, WireItem, RegisterItem, MemoryItem, AssignItem, AlwaysItem, InstanceItem, Connection, ModuleTree}
 use Rattle.rtl_text.specs.Text.{Pairwise, IsNet, IsMem, ExprIs, AssignIs, UpdateIs, DeclaredMemory, NamedAssign, NamedInstance, memories_in, memories_of, assigns_in, updates_in, instances_in}
 use Rattle.rtl_text.specs.Productions.{IsWidth, IsDepth}

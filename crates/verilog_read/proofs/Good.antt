@@ -1,15 +1,15 @@
 -- What the grammar says of names, widths and numbers in trees.
-use Rattle.std.proofs.Common.{◌≡◌, ◌∙◌, ℕ, zero, suc, ◌<◌, ◌≤◌, Bool, true, false, ◌&&◌, not, cond, List, [], ◌∷◌, ◌++◌, length, Option, Some, None, refl, sym, ap, subst, arith}
+use Rattle.std.proofs.Common.{◌≡◌, ℕ, zero, suc, ◌<◌, ◌≤◌, Bool, true, false, ◌&&◌, not, cond, List, [], ◌∷◌, ◌++◌, length, Some, None, refl, subst, arith}
 use Rattle.std.specs.Prelude.{slice_get}
 use Rattle.std.specs.List.{list_all}
 use Rattle.grammar.specs.Grammar.{Derives}
-use Rattle.grammar.specs.Tokens.{Reads, IsNext, Gaps}
+use Rattle.grammar.specs.Tokens.{Reads, Gaps}
 use Rattle.grammar.specs.Bytes.{decimal, hexadecimal}
 use Rattle.std.specs.List.{before_first, after_first}
 use Rattle.rtl_ir.specs.Names.{is_name, is_reserved, begins_name, continues_name}
 use Rattle.rtl_text.specs.Tokens.{Token, token_of, is_word, is_number, is_literal, is_sign, is_quote, hex_digits, Apart}
-use Rattle.rtl_text.specs.Tree.{Name, PortTree, InputPort, OutputPort, ExprTree, PlainTree, LiteralTree, NotTree, BinaryTree, ConcatTree, RepeatTree, PartTree, ChooseTree, CellTree, ItemTree, WireItem, RegisterItem, MemoryItem, AssignItem, AlwaysItem, InstanceItem, ModuleTree}
-use Rattle.rtl_text.specs.Productions.{Part, Sign_, Reserved, Clock, Id, Number, Literal, File, Modules, Module, Ports, MorePorts, Port, Range, Items, Item, Updates, Update, Connections, MoreConnections, Connected, Expr, Is, Choice, IsWidth, IsDepth}
+use Rattle.rtl_text.specs.Tree.{Name, PortTree, InputPort, OutputPort, ExprTree, RepeatTree, PartTree, ItemTree, WireItem, RegisterItem, MemoryItem, AssignItem, AlwaysItem, InstanceItem, ModuleTree}
+use Rattle.rtl_text.specs.Productions.{Part, Sign_, Reserved, Clock, Id, Number, Literal, File, Modules, Module, Ports, MorePorts, Port, Range, Items, Item, Expr, Is, Choice, IsWidth, IsDepth}
 
 -- all items of a list, by place
 abbrev pub AllAt : {A : Type 0} → (A → Type 0) → List A → Type 0

@@ -1,5 +1,5 @@
 -- What is added to a module, and what holds in it still.
-use Rattle.std.proofs.Common.{◌≡◌, ◌∙◌, ℕ, zero, suc, true, false, List, [], ◌∷◌, ◌++◌, map, Option, Some, None, refl, sym, ap, subst, append_assoc}
+use Rattle.std.proofs.Common.{◌≡◌, ◌∙◌, ℕ, zero, suc, true, false, List, [], ◌∷◌, ◌++◌, map, Some, refl, sym, ap, subst, append_assoc}
 use Rattle.std.specs.Prelude.{slice_get}
 use Rattle.std.specs.Option.{option_map}
 use Rattle.rtl_ir.specs.declared.design.Net.{Net}
@@ -11,10 +11,10 @@ use Rattle.rtl_ir.specs.declared.design.Update.{Update}
 use Rattle.rtl_ir.specs.declared.design.Instance.{Instance}
 use Rattle.rtl_ir.specs.declared.design.Module.{Module}
 use Rattle.rtl_text.specs.Tree.{Name, ExprTree, PlainTree, LiteralTree, NotTree, BinaryTree, ConcatTree, RepeatTree, PartTree, ChooseTree, CellTree, UpdateTree, RegisterUpdate, CellUpdate, Connection, ItemTree, WireItem, RegisterItem, MemoryItem, AssignItem, AlwaysItem, InstanceItem, ModuleTree}
-use Rattle.rtl_text.specs.Text.{Pairwise, IsNet, IsMem, DeclaredMemory, NamedAssign, NamedInstance, ExprIs, AssignIs, UpdateIs, memories_in, memories_of, assigns_in, updates_in, instances_in}
+use Rattle.rtl_text.specs.Text.{Pairwise, IsNet, IsMem, NamedAssign, NamedInstance, ExprIs, AssignIs, UpdateIs, memories_in, memories_of, assigns_in, updates_in, instances_in}
 use Rattle.rtl_reading.specs.Uses.{Scope, port_name}
 use Rattle.rtl_reading.specs.Reads.{port_net, item_nets}
-use Rattle.verilog_read.specs.Built.{IsJoinedTo, IsPartOf, HasNets, IsSaid}
+use Rattle.verilog_read.specs.Built.{IsJoinedTo, IsPartOf, IsSaid}
 use Rattle.verilog_read.specs.Walk.{with_item}
 
 pub pairwise_map : {A B : Type 0} {R S : A → B → Type 0} → ((x : A) (y : B) → R x y → S x y) → (xs : List A) (ys : List B) → Pairwise R xs ys → Pairwise S xs ys

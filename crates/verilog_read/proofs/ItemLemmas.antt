@@ -20,39 +20,78 @@ use Rattle.verilog_read.proofs.Seq.{Split, map_more, map_whole}
 module _ (named : Name) (sc : Scope) (m : Module) (s : IsSaid named sc m) (name : Name) (width : ℕ) where
   pub wire_said : IsSaid named (with_item sc (WireItem width name)) (record m { nets = m.nets ++ record { name = name; width = width; reg = false } ∷ [] })
   wire_said = said_more named sc (WireItem width name) m _ s (record {
-    named = refl; ports = refl; nets = refl;
-    mems = []; mems_added = sym (append-nil m.mems); mems_are = refl;
-    assigns = []; assigns_added = sym (append-nil m.assigns); assigns_are = tt;
-    updates = []; updates_added = sym (append-nil m.updates); updates_are = tt;
-    instances = []; instances_added = sym (append-nil m.instances); instances_are = tt;
+    named = refl;
+    ports = refl;
+    nets = refl;
+    mems = [];
+    mems_added = sym (append-nil m.mems);
+    mems_are = refl;
+    assigns = [];
+    assigns_added = sym (append-nil m.assigns);
+    assigns_are = tt;
+    updates = [];
+    updates_added = sym (append-nil m.updates);
+    updates_are = tt;
+    instances = [];
+    instances_added = sym (append-nil m.instances);
+    instances_are = tt;
   })
 
   pub register_said : IsSaid named (with_item sc (RegisterItem width name)) (record m { nets = m.nets ++ record { name = name; width = width; reg = true } ∷ [] })
   register_said = said_more named sc (RegisterItem width name) m _ s (record {
-    named = refl; ports = refl; nets = refl;
-    mems = []; mems_added = sym (append-nil m.mems); mems_are = refl;
-    assigns = []; assigns_added = sym (append-nil m.assigns); assigns_are = tt;
-    updates = []; updates_added = sym (append-nil m.updates); updates_are = tt;
-    instances = []; instances_added = sym (append-nil m.instances); instances_are = tt;
+    named = refl;
+    ports = refl;
+    nets = refl;
+    mems = [];
+    mems_added = sym (append-nil m.mems);
+    mems_are = refl;
+    assigns = [];
+    assigns_added = sym (append-nil m.assigns);
+    assigns_are = tt;
+    updates = [];
+    updates_added = sym (append-nil m.updates);
+    updates_are = tt;
+    instances = [];
+    instances_added = sym (append-nil m.instances);
+    instances_are = tt;
   })
 
   pub memory_said : (depth : ℕ) → IsSaid named (with_item sc (MemoryItem width name depth)) (record m { mems = m.mems ++ record { name = name; width = width; depth = depth } ∷ [] })
   memory_said depth = said_more named sc (MemoryItem width name depth) m _ s (record {
-    named = refl; ports = refl; nets = sym (append-nil m.nets);
-    mems = record { name = name; width = width; depth = depth } ∷ []; mems_added = refl; mems_are = refl;
-    assigns = []; assigns_added = sym (append-nil m.assigns); assigns_are = tt;
-    updates = []; updates_added = sym (append-nil m.updates); updates_are = tt;
-    instances = []; instances_added = sym (append-nil m.instances); instances_are = tt;
+    named = refl;
+    ports = refl;
+    nets = sym (append-nil m.nets);
+    mems = record { name = name; width = width; depth = depth } ∷ [];
+    mems_added = refl;
+    mems_are = refl;
+    assigns = [];
+    assigns_added = sym (append-nil m.assigns);
+    assigns_are = tt;
+    updates = [];
+    updates_added = sym (append-nil m.updates);
+    updates_are = tt;
+    instances = [];
+    instances_added = sym (append-nil m.instances);
+    instances_are = tt;
   })
 
 pub instance_said : (named : Name) (sc : Scope) (m : Module) → IsSaid named sc m → (of name : Name) (cs : List Connection) (i : Instance) (instances : List Instance) → instances ≡ m.instances ++ i ∷ [] → IsPartOf sc.modules m (record { of = of; name = name; connections = cs }) i
     → IsSaid named (with_item sc (InstanceItem of name cs)) (record m { instances = instances })
 instance_said named sc m s of name cs i instances e p = said_more named sc (InstanceItem of name cs) m _ s (record {
-  named = refl; ports = refl; nets = sym (append-nil m.nets);
-  mems = []; mems_added = sym (append-nil m.mems); mems_are = refl;
-  assigns = []; assigns_added = sym (append-nil m.assigns); assigns_are = tt;
-  updates = []; updates_added = sym (append-nil m.updates); updates_are = tt;
-  instances = i ∷ []; instances_added = e;
+  named = refl;
+  ports = refl;
+  nets = sym (append-nil m.nets);
+  mems = [];
+  mems_added = sym (append-nil m.mems);
+  mems_are = refl;
+  assigns = [];
+  assigns_added = sym (append-nil m.assigns);
+  assigns_are = tt;
+  updates = [];
+  updates_added = sym (append-nil m.updates);
+  updates_are = tt;
+  instances = i ∷ [];
+  instances_added = e;
   instances_are = (part_grows (grows_same m (record m { instances = instances }) refl refl) sc.modules (record { of = of; name = name; connections = cs }) i p, tt);
 })
 

@@ -1,10 +1,10 @@
 -- The ports of an instance, joined one by one.
-use Rattle.std.proofs.Common.{◌≡◌, ◌≢◌, ◌∙◌, ℕ, zero, suc, ◌+◌, ◌<◌, ◌≤◌, Bool, true, false, ◌&&◌, ◌||◌, not, cond, List, [], ◌∷◌, ◌++◌, length, map, take, set, replicate, Option, Some, None, is_some, refl, sym, ap, subst, append_assoc, arith, ◌⊎◌, inl, inr, get_or}
+use Rattle.std.proofs.Common.{◌≡◌, ◌≢◌, ◌∙◌, ℕ, zero, suc, ◌+◌, ◌<◌, Bool, true, false, ◌&&◌, ◌||◌, not, cond, List, [], ◌∷◌, ◌++◌, length, map, set, replicate, Option, Some, None, is_some, refl, sym, ap, subst, append_assoc, arith, ◌⊎◌, inl, inr, get_or}
 use Rattle.std.specs.Prelude.{slice_get, Contains, bytes_eq}
 use Rattle.std.specs.List.{list_any}
 use Rattle.std.specs.Option.{option_map}
 use Rattle.std.proofs.lemmas.Bool.{cases_eq}
-use Rattle.std.proofs.lemmas.List.{append-nil, length-append, length-map}
+use Rattle.std.proofs.lemmas.List.{append-nil, length-append, length-map, length-replicate}
 use Rattle.std.proofs.lemmas.Option.{slice_get_within, slice_get-map, slice_get-get_or}
 use Rattle.std.proofs.lemmas.List.Folds.{list_any-append}
 use Rattle.rtl_check.proofs.Places.{at_set, beside_set}
@@ -12,17 +12,22 @@ use Rattle.rtl_ir.specs.declared.design.Module.{Module}
 use Rattle.rtl_text.specs.Tree.{Name, Connection, ModuleTree}
 use Rattle.rtl_text.specs.Text.{Pairwise, IsNet}
 use Rattle.rtl_reading.specs.Uses.{Use, Scope, is_in, net, connection_uses, joined_uses, module_named, first_undeclared}
-use Rattle.verilog_read.specs.Tables.{stands, number_from, number_of}
+use Rattle.verilog_read.specs.Tables.{stands, number_from}
 use Rattle.verilog_read.specs.Built.{IsJoinedTo}
-use Rattle.verilog_read.specs.Walk.{AllDeclared, IsFault, module_name}
+use Rattle.verilog_read.specs.Walk.{AllDeclared, module_name}
 use Rattle.verilog_read.specs.Joined.{some_name, port_number, named_ports, IsSlot, count_joined, AreJoined, IsFree, IsTaken, IsFirstFree}
-use Rattle.verilog_read.proofs.Tables.{same_name, is_itself, turned, map_joined, number_place, number_any}
+use Rattle.verilog_read.proofs.Tables.{same_name, is_itself, turned, map_joined, number_place, number_any, lone_known}
+use Rattle.verilog_read.proofs.FirstUse.{both, later}
 
 some_is : {A : Type 0} {x y : A} → Some x ≡ Some y → x ≡ y
 some_is e = cc
 
+or_parts : (a b : Bool) → (a || b) ≡ false → (a ≡ false) × (b ≡ false)
+or_parts false b e = (refl, e)
+or_parts true b e = absurd (cc)
+
 -- uses of connections
-uses_joined : (sc : Scope) (ports : List Name) (before cs ds : List Connection) → connection_uses sc ports before (cs ++ ds) ≡ connection_uses sc ports before cs ++ connection_uses sc ports (before ++ cs) ds
+pub uses_joined : (sc : Scope) (ports : List Name) (before cs ds : List Connection) → connection_uses sc ports before (cs ++ ds) ≡ connection_uses sc ports before cs ++ connection_uses sc ports (before ++ cs) ds
 uses_joined sc ports before [] ds = ap (λ l. connection_uses sc ports l ds) (sym (append-nil before))
 uses_joined sc ports before (c ∷ cs) ds =
     let own : Use = record { name = c.port; declared = is_in c.port ports && not (is_in c.port (named_ports before)) } in
@@ -31,7 +36,7 @@ uses_joined sc ports before (c ∷ cs) ds =
 -- tests
 and_both : (a b : Bool) → a ≡ true → b ≡ false → (a && not b) ≡ true
 and_both true false e f = refl
-and_both true true e f = f
+and_both true true e f = absurd (cc)
 and_both false b e f = absurd (cc)
 
 and_first : (a b : Bool) → a ≡ false → (a && not b) ≡ false
@@ -162,8 +167,134 @@ module _ (sc : Scope) (m : Module) (ports : List Name) (front : List Connection)
       each j name slot a b (inr ne) = other j name slot ne a (h.each j name slot a (sym (beside_set slots k j (Some n) ne) ∙ b))
 
 -- no connection yet
-length_none : (n : ℕ) → length (replicate n (None {0} {ℕ})) ≡ n
-length_none n = ?
+nothing_at : (n k : ℕ) (s : Option ℕ) → slice_get (replicate n None) k ≡ Some s → None ≡ s
+nothing_at zero k s e = absurd (cc)
+nothing_at (suc n) zero s e = some_is e
+nothing_at (suc n) (suc k) s e = nothing_at n k s e
+
+count_none : (n : ℕ) → count_joined (replicate n None) ≡ 0
+count_none zero = refl
+count_none (suc n) = count_none n
 
 pub none_joined : (m : Module) (ports : List Name) (slots : List (Option ℕ)) → slots ≡ replicate (length ports) None → AreJoined m ports [] slots
-none_joined m ports slots e = ?
+none_joined m ports slots e = record {
+  size = ap length e ∙ length-replicate (length ports) None;
+  each = λ k name slot a b. subst (λ s. IsSlot m ports [] k name s) (nothing_at (length ports) k slot (ap (λ l. slice_get l k) (sym e) ∙ b)) (λ g. refl);
+  count = ap count_joined e ∙ count_none (length ports);
+}
+
+-- the first place of a name
+first_place : (k : ℕ) (before rest : List Name) (p : Name) → is_in p before ≡ false → number_from k (map some_name (before ++ p ∷ rest)) p ≡ Some (k + length before)
+first_place k [] rest p e = let t = is_itself p in let n : k ≡ k + 0 = omega arith in rw t (ap Some n)
+first_place k (x ∷ before) rest p e =
+    let parts = or_parts (bytes_eq p x) (is_in p before) e in
+    let n : k + 1 + length before ≡ k + suc (length before) = omega arith in
+    let f = parts.0 in
+    rw f (first_place (k + 1) before rest p parts.1 ∙ ap Some n)
+
+not_first : (k : ℕ) (before rest : List Name) (p : Name) (n : ℕ) → is_in p before ≡ true → number_from k (map some_name (before ++ rest)) p ≡ Some n → n < k + length before
+not_first k [] rest p n e f = absurd (cc)
+not_first k (x ∷ before) rest p n e f = by_head (bytes_eq p x) refl e f (λ g h. not_first (k + 1) before rest p n g h)
+  where
+    by_head : (b : Bool) → bytes_eq p x ≡ b → (b || is_in p before) ≡ true → cond b (Some k) (number_from (k + 1) (map some_name (before ++ rest)) p) ≡ Some n
+        → (is_in p before ≡ true → number_from (k + 1) (map some_name (before ++ rest)) p ≡ Some n → n < k + 1 + length before) → n < k + suc (length before)
+    by_head true t g h more = let same : k ≡ n = some_is h in omega arith
+    by_head false t g h more = let r = more g h in omega arith
+
+-- at the end of an instance
+module _ (m : Module) (cs : List Connection) (full : List Name) where
+  abbrev Facts : List Name → List Name → List (Option ℕ) → Type 0
+  Facts before rest slots = (j : ℕ) (name : Name) (slot : Option ℕ) → slice_get rest j ≡ Some name → slice_get slots j ≡ Some slot → IsSlot m full cs (length before + j) name slot
+
+  tail_facts : (before rest : List Name) (p : Name) (slot : Option ℕ) (slots : List (Option ℕ)) → Facts before (p ∷ rest) (slot ∷ slots) → Facts (before ++ p ∷ []) rest slots
+  tail_facts before rest p slot slots f j name s a b =
+      let n : length before + suc j ≡ length (before ++ p ∷ []) + j = omega (arith, length-append before (p ∷ [])) in
+      subst (λ k. IsSlot m full cs k name s) n (f (suc j) name s a b)
+
+  declared : (before rest : List Name) (p : Name) (n : ℕ) → full ≡ before ++ p ∷ rest → IsSlot m full cs (length before + 0) p (Some n) → (is_in p (named_ports cs) && not (is_in p before)) ≡ true
+  declared before rest p n e s =
+      and_both (is_in p (named_ports cs)) (is_in p before) (contained cs (record { port = p; net = s.0.net }) s.0.listed) (apart (is_in p before) refl)
+    where
+      apart : (b : Bool) → is_in p before ≡ b → is_in p before ≡ false
+      apart false t = t
+      apart true t = absurd (omega (arith, not_first 0 before (p ∷ rest) p (length before + 0) t (ap (λ l. port_number l p) (sym e) ∙ s.1)))
+
+  undeclared : (before rest : List Name) (p : Name) → full ≡ before ++ p ∷ rest → IsSlot m full cs (length before + 0) p None → (is_in p (named_ports cs) && not (is_in p before)) ≡ false
+  undeclared before rest p e s = by_before (is_in p before) refl
+    where
+      by_before : (b : Bool) → is_in p before ≡ b → (is_in p (named_ports cs) && not (is_in p before)) ≡ false
+      by_before true t = and_second (is_in p (named_ports cs)) (is_in p before) t
+      by_before false t =
+          let n : 0 + length before ≡ length before + 0 = omega arith in
+          and_first (is_in p (named_ports cs)) (is_in p before) (s (ap (λ l. port_number l p) e ∙ first_place 0 before rest p t ∙ ap Some n))
+
+  step : (before rest : List Name) (p : Name) → full ≡ before ++ p ∷ rest → full ≡ (before ++ p ∷ []) ++ rest
+  step before rest p e = e ∙ sym (append_assoc before (p ∷ []) rest)
+
+  pub all_known : (before rest : List Name) (nets : List ℕ) → length nets ≡ length rest → full ≡ before ++ rest → Facts before rest (map (λ n. Some n) nets) → AllDeclared (joined_uses before rest cs) (Pairwise (IsJoinedTo m cs) rest nets)
+  all_known before [] [] l e f = record { known = refl; holds = tt }
+  all_known before [] (n ∷ nets) l e f = absurd (omega arith)
+  all_known before (p ∷ rest) [] l e f = absurd (omega arith)
+  all_known before (p ∷ rest) (n ∷ nets) l e f =
+      let s = f 0 p (Some n) refl refl in
+      let more = all_known (before ++ p ∷ []) rest nets (omega arith) (step before rest p e) (tail_facts before rest p (Some n) (map (λ x. Some x) nets) f) in
+      let own : Use = record { name = p; declared = is_in p (named_ports cs) && not (is_in p before) } in
+      record { known = both (own ∷ []) (joined_uses (before ++ p ∷ []) rest cs) (lone_known p (is_in p (named_ports cs) && not (is_in p before)) (declared before rest p n e s)) more.known; holds = (s.0, more.holds) }
+
+  pub first_missing : (before rest : List Name) (nets : List ℕ) (tail : List (Option ℕ)) (name : Name) → full ≡ before ++ rest → slice_get rest (length nets) ≡ Some name → Facts before rest (map (λ n. Some n) nets ++ None ∷ tail)
+      → first_undeclared (joined_uses before rest cs) ≡ Some name
+  first_missing before [] nets tail name e at f = absurd (cc)
+  first_missing before (p ∷ rest) [] tail name e at f = let d = undeclared before rest p e (f 0 p None refl refl) in rw d at
+  first_missing before (p ∷ rest) (n ∷ nets) tail name e at f =
+      let own : Use = record { name = p; declared = is_in p (named_ports cs) && not (is_in p before) } in
+      later (own ∷ []) (joined_uses (before ++ p ∷ []) rest cs) (lone_known p (is_in p (named_ports cs) && not (is_in p before)) (declared before rest p n e (f 0 p (Some n) refl refl)))
+      ∙ first_missing (before ++ p ∷ []) rest nets tail name (step before rest p e) at (tail_facts before rest p (Some n) (map (λ x. Some x) nets ++ None ∷ tail) f)
+
+facts : (m : Module) (ports : List Name) (cs : List Connection) (slots : List (Option ℕ)) → AreJoined m ports cs slots → Facts m cs ports [] ports slots
+facts m ports cs slots h j name slot a b = let n : j ≡ 0 + j = omega arith in subst (λ k. IsSlot m ports cs k name slot) n (h.each j name slot a b)
+
+count_all : (nets : List ℕ) → count_joined (map (λ n. Some n) nets) ≡ length nets
+count_all [] = refl
+count_all (n ∷ nets) = ap suc (count_all nets)
+
+-- all ports are joined
+pub record Ended (m : Module) (ports : List Name) (cs : List Connection) (nets : List ℕ) : Type 0 where
+  pub joined : Pairwise (IsJoinedTo m cs) ports nets
+  pub each_once : length cs ≡ length ports
+
+pub ended : (m : Module) (ports : List Name) (cs : List Connection) (slots : List (Option ℕ)) (nets : List ℕ) → AreJoined m ports cs slots → slots ≡ map (λ n. Some n) nets → AllDeclared (joined_uses [] ports cs) (Ended m ports cs nets)
+ended m ports cs slots nets h e =
+    let h' = subst (AreJoined m ports cs) e h in
+    let size : length nets ≡ length ports = sym (length-map nets (λ (n : ℕ). Some n)) ∙ h'.size in
+    let r = all_known m cs ports [] ports nets size refl (facts m ports cs (map (λ n. Some n) nets) h') in
+    record { known = r.known; holds = record { joined = r.holds; each_once = sym h'.count ∙ count_all nets ∙ size } }
+
+pub missing : (m : Module) (ports : List Name) (cs : List Connection) (slots : List (Option ℕ)) (name : Name) → AreJoined m ports cs slots → IsFirstFree ports slots name → first_undeclared (joined_uses [] ports cs) ≡ Some name
+missing m ports cs slots name h f = first_missing m cs ports [] ports f.nets f.rest name refl f.at (facts m ports cs (map (λ n. Some n) f.nets ++ None ∷ f.rest) (subst (AreJoined m ports cs) f.are h))
+
+-- the module of an instance
+pub record Found (ms : List ModuleTree) (q : Name) (j : ℕ) : Type 0 where
+  pub tree : ModuleTree
+  pub at : slice_get ms j ≡ Some tree
+  pub found : module_named ms q ≡ Some tree
+  pub named : tree.name ≡ q
+
+pub named_module : (k : ℕ) (ms : List ModuleTree) (q : Name) (n : ℕ) → number_from k (map module_name ms) q ≡ Some n → (j : ℕ) × (n ≡ k + j) × Found ms q j
+named_module k [] q n e = absurd (cc)
+named_module k (t ∷ ms) q n e = by_head (bytes_eq q t.name) refl e (λ h. named_module (k + 1) ms q n h)
+  where
+    by_head : (b : Bool) → bytes_eq q t.name ≡ b → cond b (Some k) (number_from (k + 1) (map module_name ms) q) ≡ Some n → (number_from (k + 1) (map module_name ms) q ≡ Some n → (j : ℕ) × (n ≡ k + 1 + j) × Found ms q j) → (j : ℕ) × (n ≡ k + j) × Found (t ∷ ms) q j
+    by_head true f h more =
+        let same : k ≡ n = some_is h in let g : bytes_eq t.name q ≡ true = turned t.name q ∙ f in
+        (0, omega arith, record { tree = t; at = refl; found = rw g refl; named = same_name t.name q g })
+    by_head false f h more =
+        let (j, p, r) = more h in let g : bytes_eq t.name q ≡ false = turned t.name q ∙ f in
+        (suc j, omega arith, record { tree = r.tree; at = r.at; found = rw g r.found; named = r.named })
+
+pub unnamed_module : (k : ℕ) (ms : List ModuleTree) (q : Name) → number_from k (map module_name ms) q ≡ None → module_named ms q ≡ None
+unnamed_module k [] q e = refl
+unnamed_module k (t ∷ ms) q e = by_head (bytes_eq q t.name) refl e (λ h. unnamed_module (k + 1) ms q h)
+  where
+    by_head : (b : Bool) → bytes_eq q t.name ≡ b → cond b (Some k) (number_from (k + 1) (map module_name ms) q) ≡ None → (number_from (k + 1) (map module_name ms) q ≡ None → module_named ms q ≡ None) → module_named (t ∷ ms) q ≡ None
+    by_head true f h more = absurd (cc)
+    by_head false f h more = let g : bytes_eq t.name q ≡ false = turned t.name q ∙ f in rw g (more h)

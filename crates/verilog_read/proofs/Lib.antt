@@ -15,3 +15,4 @@ pub mod SameExpr
 pub mod Unique
 pub mod Whole
 pub mod Joins
+pub mod JoinSteps

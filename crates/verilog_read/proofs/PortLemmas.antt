@@ -1,13 +1,12 @@
 -- The ports of a module, one by one.
-use Rattle.std.proofs.Common.{◌≡◌, ◌∙◌, ℕ, zero, suc, ◌+◌, Bool, true, false, List, [], ◌∷◌, ◌++◌, length, map, refl, sym, ap, subst, append_assoc, arith}
+use Rattle.std.proofs.Common.{◌≡◌, ◌∙◌, ℕ, suc, ◌+◌, Bool, true, false, List, [], ◌∷◌, ◌++◌, length, map, refl, sym, ap, arith}
 use Rattle.std.proofs.lemmas.List.{append-nil, length-map, length-append}
 use Rattle.rtl_ir.specs.declared.design.Net.{Net}
 use Rattle.rtl_ir.specs.declared.design.Port.{Port}
 use Rattle.rtl_ir.specs.declared.design.Module.{Module}
-use Rattle.rtl_text.specs.Tree.{Name, PortTree, InputPort, OutputPort, ModuleTree}
-use Rattle.rtl_text.specs.Text.{AssignIs, UpdateIs, assigns_in, updates_in, instances_in}
+use Rattle.rtl_text.specs.Tree.{Name, PortTree, ModuleTree}
 use Rattle.rtl_reading.specs.Reads.{port_net, item_nets}
-use Rattle.verilog_read.specs.Built.{IsPartOf, IsSaid, port_of, ports_from}
+use Rattle.verilog_read.specs.Built.{IsSaid, port_of, ports_from}
 use Rattle.verilog_read.specs.Walk.{port_scope, port_tree}
 use Rattle.verilog_read.proofs.Tables.{map_joined}
 use Rattle.verilog_read.proofs.Grow.{grows_by, pairwise_map, assign_grows, update_grows, part_grows}

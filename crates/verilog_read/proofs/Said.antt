@@ -1,19 +1,18 @@
 -- A module that was read is what the tree says.
-use Rattle.std.proofs.Common.{◌≡◌, ◌∙◌, ℕ, zero, suc, ◌+◌, ◌<◌, ◌≤◌, ◌≢◌, Bool, true, false, ◌||◌, ◌==◌, cond, List, [], ◌∷◌, ◌++◌, length, map, Option, Some, None, refl, sym, ap, subst, append_assoc, arith, ◌⊎◌, inl, inr}
+use Rattle.std.proofs.Common.{◌≡◌, ◌∙◌, ℕ, zero, suc, ◌+◌, ◌<◌, ◌≤◌, ◌≢◌, Bool, true, false, ◌||◌, ◌==◌, List, [], ◌∷◌, ◌++◌, length, map, Some, refl, sym, ap, subst, append_assoc, arith, ◌⊎◌, inl, inr}
 use Rattle.std.specs.Prelude.{slice_get, take}
 use Rattle.std.proofs.lemmas.Option.{slice_get_within}
-use Rattle.std.specs.Option.{option_map}
 use Rattle.std.proofs.lemmas.Bool.{cases_lt}
 use Rattle.std.proofs.lemmas.Bool.Decides.{nat_tests}
-use Rattle.std.proofs.lemmas.List.{append-nil, length-append}
+use Rattle.std.proofs.lemmas.List.{length-append}
 use Rattle.rtl_check.proofs.Places.{at_seam}
 use Rattle.rtl_ir.specs.declared.design.Net.{Net}
 use Rattle.rtl_ir.specs.declared.design.Port.{Port}
 use Rattle.rtl_ir.specs.declared.design.Instance.{Instance}
 use Rattle.rtl_ir.specs.declared.design.Module.{Module}
 use Rattle.rtl_ir.specs.declared.design.Design.{Design}
-use Rattle.rtl_text.specs.Tree.{Name, PortTree, InputPort, OutputPort, ItemTree, WireItem, RegisterItem, MemoryItem, AssignItem, AlwaysItem, InstanceItem, Connection, ModuleTree}
-use Rattle.rtl_text.specs.Text.{Pairwise, IsNet, IsPort, PortIs, IsJoined, InstanceIs, ModuleIs, NamedInstance, Declared, is_port, wires_in, wires_from, registers_in, registers_of, instances_in}
+use Rattle.rtl_text.specs.Tree.{PortTree, InputPort, OutputPort, ItemTree, WireItem, RegisterItem, MemoryItem, AssignItem, AlwaysItem, InstanceItem, Connection, ModuleTree}
+use Rattle.rtl_text.specs.Text.{Pairwise, PortIs, IsJoined, InstanceIs, ModuleIs, NamedInstance, is_port, wires_in, wires_from, registers_in, registers_of, instances_in}
 use Rattle.rtl_reading.specs.Uses.{port_name}
 use Rattle.rtl_reading.specs.Reads.{port_net, item_nets, numbers_from, IsNumbered}
 use Rattle.verilog_read.specs.Built.{IsJoinedTo, IsPartOf, IsSaid, port_of, ports_from}

@@ -14,7 +14,7 @@ same_word_by : (b c : ℕ) (w v : ℕ) (p : b ≡ c) (q : w ≡ v) (s : 1 ≤ w)
 same_word_by b c w v p q s s' a a' f f' =
     subst (λ n. (g : 1 ≤ n) (h : n ≤ 128) (k : c < 2 ^ n) → ◌≡◌ {A = Word} (record { bits = b; width = w; some = s; at_most = a; fits = f }) (record { bits = c; width = n; some = g; at_most = h; fits = k })) q
     (λ g h k. subst (λ n. (k : n < 2 ^ w) → ◌≡◌ {A = Word} (record { bits = b; width = w; some = s; at_most = a; fits = f }) (record { bits = n; width = w; some = g; at_most = h; fits = k })) p
-        (λ k. λ i. record { bits = b; width = w; some = le_prop s g i; at_most = le_prop a h i; fits = le_prop f k i }) k) s' a' f'
+    (λ k. λ i. record { bits = b; width = w; some = le_prop s g i; at_most = le_prop a h i; fits = le_prop f k i }) k) s' a' f'
 
 same_word : (x y : Word) → x.bits ≡ y.bits → x.width ≡ y.width → x ≡ y
 same_word x y p q = same_word_by x.bits y.bits x.width y.width p q x.some y.some x.at_most y.at_most x.fits y.fits
@@ -55,7 +55,6 @@ module _ (m : Module) where
   cell_shape : (x a : Name) (e : Expr) → ExprIs m (CellTree x a) e → (k : ℕ) × (i : ℕ) × (e ≡ exprs.Cell k i) × IsMem m x k × IsNet m a i
   cell_shape x a (exprs.Cell k i) h = (k, i, refl, h.0, h.1)
   cell_shape x a _ h = absurd h
-
 
 -- two expressions of one tree, in two modules in which each name is that of one net and one memory
 pub same_expr : (m n : Module) → ((a : Name) (i j : ℕ) → IsNet m a i → IsNet n a j → j ≡ i) → ((a : Name) (i j : ℕ) → IsMem m a i → IsMem n a j → j ≡ i) → (t : ExprTree) (x y : Expr) → ExprIs m t x → ExprIs n t y → y ≡ x

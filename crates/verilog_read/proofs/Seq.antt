@@ -1,5 +1,5 @@
 -- A list as far as a loop has come, and the rest.
-use Rattle.std.proofs.Common.{◌≡◌, ◌∙◌, ℕ, zero, suc, ◌+◌, ◌<◌, List, [], ◌∷◌, ◌++◌, map, take, length, Option, Some, get_or, refl, sym, ap, arith}
+use Rattle.std.proofs.Common.{◌≡◌, ◌∙◌, ℕ, zero, suc, ◌+◌, ◌<◌, List, [], ◌∷◌, ◌++◌, map, take, length, Some, get_or, ap}
 use Rattle.std.specs.Prelude.{slice_get}
 use Rattle.rtl_check.proofs.Places.{take_more_at}
 use Rattle.std.proofs.lemmas.Option.{slice_get-get_or}

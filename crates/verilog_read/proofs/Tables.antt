@@ -1,15 +1,15 @@
 -- What tables say of the nets and memories that are declared.
-use Rattle.std.proofs.Common.{◌≡◌, ◌∙◌, ℕ, zero, suc, ◌+◌, Bool, true, false, ◌||◌, cond, List, [], ◌∷◌, ◌++◌, length, map, Option, Some, None, is_some, refl, sym, ap, subst, arith, nat_eq}
+use Rattle.std.proofs.Common.{◌≡◌, ◌∙◌, ℕ, zero, suc, ◌+◌, Bool, true, false, ◌||◌, cond, List, [], ◌∷◌, ◌++◌, length, map, Option, Some, None, is_some, refl, sym, ap, subst, arith}
 use Rattle.std.specs.Prelude.{slice_get, bytes_eq}
 use Rattle.std.specs.List.{list_any}
-use Rattle.std.specs.Cmp.Lexicographic.{bytes_decides, same_text}
+use Rattle.std.specs.Cmp.Lexicographic.{bytes_decides}
 use Rattle.std.proofs.lemmas.List.Folds.{list_any-append}
 use Rattle.rtl_ir.specs.declared.design.Net.{Net}
 use Rattle.rtl_ir.specs.declared.design.Mem.{Mem}
 use Rattle.rtl_ir.specs.declared.design.Module.{Module}
 use Rattle.rtl_text.specs.Tree.{Name, PortTree, InputPort, OutputPort, ItemTree, WireItem, RegisterItem, MemoryItem, AssignItem, AlwaysItem, InstanceItem}
-use Rattle.rtl_text.specs.Text.{IsNet, IsMem, Declared, DeclaredMemory, wires_in, registers_in, memories_in, memories_of}
-use Rattle.rtl_reading.specs.Uses.{Scope, Use, is_in, port_name, names_of, is_net, is_register, is_memory, net, register, memory, first_undeclared}
+use Rattle.rtl_text.specs.Text.{IsNet, IsMem, DeclaredMemory, wires_in, registers_in, memories_of}
+use Rattle.rtl_reading.specs.Uses.{Scope, is_in, port_name, names_of, is_net, is_register, is_memory, net, register, memory, first_undeclared}
 use Rattle.rtl_reading.specs.Reads.{port_net, item_nets}
 use Rattle.verilog_read.specs.Tables.{stands, number_from, number_of, IsTable}
 use Rattle.verilog_read.specs.declared.table.Table.{Table}
@@ -192,11 +192,11 @@ memory_at [] n q e = absurd (cc)
 memory_at (x ∷ mems) zero q e = (x, refl, (cc))
 memory_at (x ∷ mems) (suc n) q e = memory_at mems n q e
 
-lone_known : (name : Name) (b : Bool) → b ≡ true → first_undeclared (record { name = name; declared = b } ∷ []) ≡ None
+pub lone_known : (name : Name) (b : Bool) → b ≡ true → first_undeclared (record { name = name; declared = b } ∷ []) ≡ None
 lone_known name true e = refl
 lone_known name false e = absurd (cc)
 
-lone_unknown : (name : Name) (b : Bool) → b ≡ false → first_undeclared (record { name = name; declared = b } ∷ []) ≡ Some name
+pub lone_unknown : (name : Name) (b : Bool) → b ≡ false → first_undeclared (record { name = name; declared = b } ∷ []) ≡ Some name
 lone_unknown name true e = absurd (cc)
 lone_unknown name false e = refl
 

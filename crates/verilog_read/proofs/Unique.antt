@@ -1,9 +1,8 @@
 -- A text has one accepted design.
-use Rattle.std.proofs.Common.{◌≡◌, ◌∙◌, ℕ, zero, suc, ◌+◌, ◌<◌, ◌≤◌, Bool, true, false, ◌&&◌, ◌||◌, not, List, [], ◌∷◌, ◌++◌, length, map, take, Option, Some, None, is_some, refl, sym, ap, subst, append_assoc, arith, ◌⊎◌, inl, inr, get_or}
+use Rattle.std.proofs.Common.{◌≡◌, ◌∙◌, ℕ, zero, suc, ◌+◌, Bool, true, false, ◌&&◌, ◌||◌, not, List, [], ◌∷◌, ◌++◌, length, map, take, Some, None, is_some, refl, sym, ap, subst, arith}
 use Rattle.std.specs.Prelude.{slice_get, Contains, bytes_eq}
 use Rattle.std.specs.List.{list_any}
 use Rattle.std.specs.Option.{option_map}
-use Rattle.std.proofs.lemmas.List.{append-nil, length-append, length-map}
 use Rattle.std.proofs.lemmas.Option.{slice_get_within, slice_get-map, slice_get-get_or}
 use Rattle.std.proofs.lemmas.List.Folds.{list_any-append}
 use Rattle.rtl_check.proofs.Places.{in_front, in_back}
@@ -12,17 +11,16 @@ use Rattle.rtl_ir.specs.declared.design.Mem.{Mem}
 use Rattle.rtl_ir.specs.declared.design.Port.{Port}
 use Rattle.rtl_ir.specs.declared.design.Assign.{Assign}
 use Rattle.rtl_ir.specs.declared.design.Update.{Update}
-use Rattle.rtl_ir.specs.declared.design.Target.{Target}
 use Rattle.rtl_ir.specs.declared.design.Target.TheVariants.{Reg, Cell}
 use Rattle.rtl_ir.specs.declared.design.Instance.{Instance}
 use Rattle.rtl_ir.specs.declared.design.Module.{Module}
 use Rattle.rtl_ir.specs.declared.design.Design.{Design}
 use Rattle.rtl_ir.specs.Rules.{names_of, AllDiffer, IsAccepted}
 use Rattle.rtl_text.specs.Tree.{Name, PortTree, InputPort, OutputPort, UpdateTree, RegisterUpdate, CellUpdate, ItemTree, WireItem, RegisterItem, MemoryItem, AssignItem, AlwaysItem, InstanceItem, Connection, ModuleTree}
-use Rattle.rtl_text.specs.Text.{Pairwise, IsNet, IsMem, PortIs, AssignIs, UpdateIs, IsJoined, InstanceIs, ModuleIs, NamedAssign, NamedInstance, DeclaredMemory, memories_of, memories_in, assigns_in, updates_in, instances_in}
-use Rattle.rtl_reading.specs.Uses.{Use, Scope, is_in, port_uses, net, connection_uses, joined_uses, item_uses, items_uses, module_uses, unknown_in, first_undeclared, ports_named, module_named}
+use Rattle.rtl_text.specs.Text.{Pairwise, IsNet, IsMem, PortIs, AssignIs, UpdateIs, IsJoined, InstanceIs, ModuleIs, NamedAssign, NamedInstance, DeclaredMemory, memories_of, assigns_in, updates_in, instances_in}
+use Rattle.rtl_reading.specs.Uses.{Use, Scope, is_in, port_uses, net, connection_uses, joined_uses, item_uses, items_uses, unknown_in, first_undeclared, ports_named, module_named}
 use Rattle.rtl_reading.specs.Reads.{IsNumbered}
-use Rattle.verilog_read.proofs.Tables.{same_name, is_itself, map_joined}
+use Rattle.verilog_read.proofs.Tables.{is_itself, map_joined}
 use Rattle.verilog_read.proofs.Said.{there}
 use Rattle.verilog_read.proofs.Good.{AllAt}
 use Rattle.verilog_read.proofs.Forms.{module_known, front_known, back_known, use_known}
@@ -224,12 +222,12 @@ module _ (d e : Design) (alike : Alike d e) (m n : Module) (nets : n.nets ≡ m.
       let number = alike.numbers x.module y.module h.inner g.inner h.of g.of (h.module_named ∙ sym g.module_named) in
       let same = alike.inner x.module h.inner g.inner h.of (subst (λ k. slice_get e.modules k ≡ Some g.inner) number g.of) in
       let nets_are = pairwise_same (IsJoined m h.inner t.connections) (IsJoined n g.inner t.connections) h.inner.ports x.nets y.nets
-          (λ k p a b at j l.
-              let l' : option_map (λ (z : Net). z.name) (slice_get h.inner.nets p.net) ≡ Some l.port = subst (λ ns. option_map (λ (z : Net). z.name) (slice_get ns p.net) ≡ Some l.port) same.1 l.named in
-              let ports : j.port ≡ l.port = some_is (sym j.named ∙ l') in
-              let one = one_connection known.0 known.1 [] t.connections j.listed.0 l.listed.0 _ _ known.2 (listed_at t.connections _ j.listed) (listed_at t.connections _ l.listed) ports in
-              same_net j.net a b j.joined (subst (λ z. IsNet n z b) (sym (ap (λ (z : Connection). z.net) one)) l.joined))
-          h.joined (subst (λ ps. Pairwise (IsJoined n g.inner t.connections) ps y.nets) same.0 g.joined) in
+      (λ k p a b at j l.
+      let l' : option_map (λ (z : Net). z.name) (slice_get h.inner.nets p.net) ≡ Some l.port = subst (λ ns. option_map (λ (z : Net). z.name) (slice_get ns p.net) ≡ Some l.port) same.1 l.named in
+      let ports : j.port ≡ l.port = some_is (sym j.named ∙ l') in
+      let one = one_connection known.0 known.1 [] t.connections j.listed.0 l.listed.0 _ _ known.2 (listed_at t.connections _ j.listed) (listed_at t.connections _ l.listed) ports in
+      same_net j.net a b j.joined (subst (λ z. IsNet n z b) (sym (ap (λ (z : Connection). z.net) one)) l.joined))
+      h.joined (subst (λ ps. Pairwise (IsJoined n g.inner t.connections) ps y.nets) same.0 g.joined) in
       let name = g.named ∙ sym h.named in
       λ i. record { «module» = number i; name = name i; nets = nets_are i }
 

@@ -1,9 +1,9 @@
 -- Updates one by one.
-use Rattle.std.proofs.Common.{◌≡◌, ◌∙◌, ℕ, ◌+◌, List, [], ◌∷◌, ◌++◌, map, take, length, None, refl, sym, ap, subst, append_assoc}
+use Rattle.std.proofs.Common.{◌≡◌, ◌∙◌, ℕ, ◌+◌, List, [], ◌∷◌, ◌++◌, map, take, None, refl, sym, ap, subst, append_assoc}
 use Rattle.rtl_ir.specs.declared.design.Update.{Update}
 use Rattle.rtl_ir.specs.declared.design.Module.{Module}
 use Rattle.rtl_text.specs.Tree as tree
-use Rattle.rtl_text.specs.Text.{Pairwise, UpdateIs}
+use Rattle.rtl_text.specs.Text.{UpdateIs}
 use Rattle.verilog_syntax.specs.Trees.{update_view}
 use Rattle.verilog_syntax.specs.declared.tree.UpdateTree.{UpdateTree}
 use Rattle.rtl_reading.specs.Uses.{Scope, Use, update_uses, updates_uses, first_undeclared}

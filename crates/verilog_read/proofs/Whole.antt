@@ -10,19 +10,18 @@ use Rattle.rtl_ir.specs.Formed.{IsFormed}
 use Rattle.rtl_ir.specs.Flat.{top_of}
 use Rattle.rtl_ir.specs.Ports.{Shape, ports_of}
 use Rattle.rtl_ir.specs.Rules.{IsAccepted}
-use Rattle.rtl_text.specs.Tokens.{Token, IsTokens}
+use Rattle.rtl_text.specs.Tokens.{IsTokens}
 use Rattle.rtl_text.specs.Tree.{ModuleTree}
 use Rattle.rtl_text.specs.Productions.{Is, Choice, File}
-use Rattle.rtl_check.specs.FirstFault.{IsFirstFault}
 use Rattle.rtl_check.proofs.Sound.{accepted_free}
 use Rattle.top_ports.specs.Shapes.{IsTop, IsFirstWrong}
 use Rattle.verilog_syntax.specs.Scanning.{PlacedToken, placed_view}
-use Rattle.verilog_syntax.specs.Parsed.{IsFile, tokens_of, IsFirstBad}
+use Rattle.verilog_syntax.specs.Parsed.{IsFile, tokens_of}
 use Rattle.verilog_syntax.specs.declared.token.Placed.{Placed}
 use Rattle.rtl_reading.specs.Uses.{unknown_in}
 use Rattle.rtl_text.specs.Text.{Pairwise, ModuleIs}
 use Rattle.rtl_reading.specs.Reads.{IsText, IsNumbered, ReadsAs}
-use Rattle.verilog_read.specs.Refused.{AreNotBuilt, IsNotBuilt, IsSyntaxFault, IsUnknown, IsRuleFault, IsRtlFault, IsPortFault, HasCause, Refuses, IsReadAs}
+use Rattle.verilog_read.specs.Refused.{AreNotBuilt, IsNotBuilt, IsRuleFault, Refuses, IsReadAs}
 use Rattle.verilog_read.specs.Answers.{AreTokens, IsScanFault, AreTrees, IsDesign, IsTreeFault, BreaksRule, CanRun, HasWrongPort}
 use Rattle.verilog_read.specs.declared.error.VerilogError.{VerilogError}
 use Rattle.verilog_read.specs.declared.error.VerilogError.TheVariants.{NoToken, NotBuilt, Syntax, Rtl, PortShape, NoMemory}
@@ -76,13 +75,16 @@ module _ (bytes : List ℕ) (tokens : List Placed) (at : AreTokens bytes tokens)
 
   pub tree_refused : {size : ℕ} {e : VerilogError} → size ≡ length bytes → (AreNotBuilt (tokens_of tokens) → ⊥) → IsTreeFault tokens size e → (e ≡ NoMemory) ⊎ Refuses bytes e
   tree_refused is n IsTreeFault.memory = inl refl
-  tree_refused {size = size} is n (IsTreeFault.syntax_at place b) = inr (record {
-    tokens = map placed_view tokens;
-    read = at;
-    token = b.token;
-    bad = subst (λ l. FirstBad Is Choice IsFile l b.token) (sym (views tokens)) b.bad;
-    at = b.place ∙ ap (λ l. slice_index_or l b.token size) (sym (places tokens)) ∙ ap (λ n. slice_index_or (map (λ (t : PlacedToken). t.place) (map placed_view tokens)) b.token n) is;
-  }, built n)
+  tree_refused {size = size} is n (IsTreeFault.syntax_at place b) = inr (
+    record {
+      tokens = map placed_view tokens;
+      read = at;
+      token = b.token;
+      bad = subst (λ l. FirstBad Is Choice IsFile l b.token) (sym (views tokens)) b.bad;
+      at = b.place ∙ ap (λ l. slice_index_or l b.token size) (sym (places tokens)) ∙ ap (λ n. slice_index_or (map (λ (t : PlacedToken). t.place) (map placed_view tokens)) b.token n) is;
+    },
+    built n,
+  )
   tree_refused is n (IsTreeFault.unknown name trees a u) = inr (record { trees = trees; is = text_of trees a; unknown = u }, built n)
 
   pub tree_excluded : {size : ℕ} {e : VerilogError} (d : Design) → IsReadAs bytes d → IsTreeFault tokens size e → e ≡ NoMemory
@@ -119,6 +121,10 @@ module _ (bytes : List ℕ) (tokens : List Placed) (at : AreTokens bytes tokens)
       let q = one_tree trees s.trees a s.is in
       one_design trees d other (subst (λ l. Pairwise (ModuleIs d) l d.modules) p r.modules) (subst (λ l. Pairwise IsNumbered l d.modules) p r.numbered)
       (subst (λ l. Pairwise (ModuleIs other) l other.modules) q s.modules) (subst (λ l. Pairwise IsNumbered l other.modules) q s.numbered) (ap unknown_in (sym p) ∙ r.known) accepted
+
+  -- and so the design that is read is the only one
+  pub only_design : (d : Design) → IsDesign tokens d → IsAccepted d → (other : Design) → ReadsAs bytes other → other ≡ d
+  only_design d h a other r = same_design h.trees h.are d other (reads d h) r a
 
   pub rule_excluded : {e : VerilogError} (d : Design) → IsDesign tokens d → (other : Design) → IsReadAs bytes other → BreaksRule d e → e ≡ NoMemory
   rule_excluded d h other r BreaksRule.memory = refl

@@ -19,7 +19,7 @@ use Rattle.verilog_read.specs.Walk.{AreSaid}
 use Rattle.verilog_read.specs.declared.fault.Fault.{Fault}
 use Rattle.verilog_read.specs.declared.fault.Fault.TheVariants as faults
 use Rattle.verilog_read.specs.declared.error.VerilogError.{VerilogError}
-use Rattle.verilog_read.specs.declared.error.VerilogError.TheVariants.{NoToken, NotBuilt, Syntax, Rtl, PortShape, NoMemory}
+use Rattle.verilog_read.specs.declared.error.VerilogError.TheVariants.{NoToken, Syntax, Rtl, PortShape, NoMemory}
 
 -- the bytes are these tokens
 abbrev pub AreTokens : List ℕ → List Placed → Type 0

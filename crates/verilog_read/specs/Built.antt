@@ -1,11 +1,9 @@
 -- A module as far as its text was read.
-use Rattle.std.specs.Prelude.{◌≡◌, ℕ, ◌+◌, Bool, true, false, List, [], ◌∷◌, ◌++◌, length, map, Contains, Option, Some, None, slice_get, if◌then◌else◌}
-use Rattle.rtl_ir.specs.declared.design.Net.{Net}
-use Rattle.rtl_ir.specs.declared.design.Mem.{Mem}
+use Rattle.std.specs.Prelude.{◌≡◌, ℕ, ◌+◌, true, false, List, [], ◌∷◌, ◌++◌, length, map, Contains, Some, slice_get}
 use Rattle.rtl_ir.specs.declared.design.Port.{Port}
 use Rattle.rtl_ir.specs.declared.design.Module.{Module}
 use Rattle.rtl_ir.specs.declared.design.Instance.{Instance}
-use Rattle.rtl_text.specs.Tree.{Name, PortTree, InputPort, OutputPort, ItemTree, Connection, ModuleTree}
+use Rattle.rtl_text.specs.Tree.{Name, PortTree, InputPort, OutputPort, Connection, ModuleTree}
 use Rattle.rtl_text.specs.Text.{Pairwise, IsNet, AssignIs, UpdateIs, NamedInstance, memories_in, memories_of, assigns_in, updates_in, instances_in}
 use Rattle.rtl_reading.specs.Uses.{Scope, port_name}
 use Rattle.rtl_reading.specs.Reads.{port_net, item_nets}

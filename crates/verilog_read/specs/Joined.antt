@@ -1,8 +1,8 @@
 -- The nets to which the ports of an instance are joined.
-use Rattle.std.specs.Prelude.{◌≡◌, ℕ, suc, ◌+◌, false, List, [], ◌∷◌, ◌++◌, length, map, Option, Some, None, slice_get}
+use Rattle.std.specs.Prelude.{◌≡◌, ℕ, suc, false, List, [], ◌∷◌, ◌++◌, length, map, Option, Some, None, slice_get}
 use Rattle.rtl_ir.specs.declared.design.Module.{Module}
 use Rattle.rtl_text.specs.Tree.{Name, Connection}
-use Rattle.rtl_reading.specs.Uses.{is_in}
+use Rattle.rtl_reading.specs.Uses.{Use, Scope, is_in, connection_uses, joined_uses}
 use Rattle.verilog_read.specs.Tables.{number_of}
 use Rattle.verilog_read.specs.Built.{IsJoinedTo}
 use Rattle.verilog_read.specs.declared.fault.Fault.{Fault}
@@ -46,9 +46,18 @@ IsTaken ports slots name = (k : ℕ) → port_number ports name ≡ Some k → s
 pub record IsFirstFree (ports : List Name) (slots : List (Option ℕ)) (name : Name) : Type 0 where
   pub nets : List ℕ
   pub rest : List (Option ℕ)
-  pub slots : slots ≡ map (λ n. Some n) nets ++ None ∷ rest
+  pub are : slots ≡ map (λ n. Some n) nets ++ None ∷ rest
   pub at : slice_get ports (length nets) ≡ Some name
 
 abbrev pub IsMissing : List Name → List (Option ℕ) → Fault → Type 0
 IsMissing ports slots (Unknown name) = IsFirstFree ports slots name.now
 IsMissing ports slots NoMemory = Unit {0}
+
+-- the fault names this name
+abbrev pub Says : Fault → Name → Type 0
+Says (Unknown other) name = other.now ≡ name
+Says NoMemory name = ⊥
+
+-- the uses of an instance behind that of its module
+abbrev pub instance_uses : Scope → List Name → List Connection → List Use
+instance_uses sc ports cs = connection_uses sc ports [] cs ++ joined_uses [] ports cs

@@ -1,5 +1,5 @@
 -- What the functions that read a module's parts say: the part with its names made numbers, or the first name that isn't declared.
-use Rattle.std.specs.Prelude.{◌≡◌, ℕ, Bool, true, false, List, [], ◌∷◌, ◌++◌, length, map, Option, Some, None, Result, MatchResult, slice_get, take, if◌then◌else◌}
+use Rattle.std.specs.Prelude.{◌≡◌, ℕ, Bool, List, [], ◌∷◌, ◌++◌, length, map, Option, Some, None, Result, MatchResult, slice_get, take, if◌then◌else◌}
 use Rattle.rtl_ir.specs.declared.design.Net.{Net}
 use Rattle.rtl_ir.specs.declared.design.Mem.{Mem}
 use Rattle.rtl_ir.specs.declared.design.Module.{Module}
@@ -7,7 +7,7 @@ use Rattle.rtl_text.specs.Tree.{Name, PortTree, InputPort, OutputPort, UpdateTre
 use Rattle.rtl_text.specs.Text.{Pairwise, UpdateIs}
 use Rattle.rtl_ir.specs.declared.design.Update.{Update}
 use Rattle.verilog_syntax.specs.Trees.{module_view}
-use Rattle.rtl_reading.specs.Uses.{Use, Scope, first_undeclared, port_name}
+use Rattle.rtl_reading.specs.Uses.{Use, Scope, first_undeclared}
 use Rattle.verilog_read.specs.Tables.{IsTable}
 use Rattle.verilog_read.specs.Built.{IsSaid}
 use Rattle.verilog_read.specs.declared.fault.Fault.{Fault}

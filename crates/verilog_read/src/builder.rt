@@ -65,7 +65,8 @@ impl<'a> Builder<'a> {
     ) -> Result<u32, NoMemory>
         ensures number { IfOk result (λ n. n ≡ length self.old.module.nets) }
         ensures module { IfOk result (λ n. self.new.module ≡ record self.old.module {
-            nets = self.old.module.nets ++ record { name = name.now; width = width; reg = reg } ∷ [] }) }
+          nets = self.old.module.nets ++ record { name = name.now; width = width; reg = reg } ∷ [];
+        }) }
         ensures tables { HasTables self.old.module self.old.declared → IfOk result (λ n. HasTables self.new.module self.new.declared) }
     {
         let number = next_number(self.module.nets.len())?;
@@ -88,7 +89,8 @@ impl<'a> Builder<'a> {
         depth: u32,
     ) -> Result<(), NoMemory>
         ensures module { IfOk result (λ n. self.new.module ≡ record self.old.module {
-            mems = self.old.module.mems ++ record { name = name.now; width = width; depth = depth } ∷ [] }) }
+          mems = self.old.module.mems ++ record { name = name.now; width = width; depth = depth } ∷ [];
+        }) }
         ensures tables { HasTables self.old.module self.old.declared → IfOk result (λ n. HasTables self.new.module self.new.declared) }
     {
         let number = next_number(self.module.mems.len())?;

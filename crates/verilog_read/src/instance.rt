@@ -1,13 +1,13 @@
 // Instances of the modules before.
-ghost use Rattle.std.specs.Prelude.{◌≡◌, ◌<◌, List, [], length, map, MatchResult, IfOk};
+ghost use Rattle.std.specs.Prelude.{◌≡◌, ◌<◌, List, [], length, map, MatchResult, Some, IfOk, slice_get};
 ghost use Rattle.rtl_ir.specs.declared.design.Module.{Module};
 ghost use Rattle.rtl_text.specs.Tree.{Name, InstanceItem};
-ghost use Rattle.verilog_syntax.specs.Trees.{connection_view, port_view};
+ghost use Rattle.verilog_syntax.specs.Trees.{connection_view, port_view, module_view};
 ghost use Rattle.rtl_reading.specs.Uses.{Scope, item_uses, connection_uses, port_name};
 ghost use Rattle.verilog_read.specs.Tables.{IsTable};
 ghost use Rattle.verilog_read.specs.Built.{HasNets, IsPartOf};
 ghost use Rattle.verilog_read.specs.Walk.{Gives, HasTables, AreEarlier};
-ghost use Rattle.verilog_read.specs.Joined.{AreJoined, IsFree, IsTaken, IsMissing, some_name};
+ghost use Rattle.verilog_read.specs.Joined.{AreJoined, IsFree, IsTaken, IsMissing, Says, instance_uses, some_name};
 
 use crate::builder::{next_number, text};
 use crate::declared::Declared;
@@ -53,7 +53,7 @@ fn free_place<'a>(
 ) -> Result<usize, Fault<'a>>
     ensures within { IfOk result (λ k. k < length nets.now) }
     ensures free { (ports : List Name) → IsTable numbers.now (map some_name ports)
-        → MatchResult result (λ k. IsFree ports nets.now port.now k) (λ f. (f ≡ Fault.Unknown port) × IsTaken ports nets.now port.now) }
+        → MatchResult result (λ k. IsFree ports nets.now port.now k) (λ f. Says f port.now × IsTaken ports nets.now port.now) }
 {
     let Some(number) = numbers.number(port) else {
         return Err(Fault::Unknown(port));
@@ -78,10 +78,10 @@ fn all_joined<'a>(
 {
     let mut all = List::new(alloc);
     for place in 0..nets.len() {
-        let Some(net) = nets[place] else {
-            return Err(Fault::Unknown(name_of(ports[place])));
-        };
-        all.push(net)?;
+        match nets[place] {
+            Some(net) => all.push(net)?,
+            None => return Err(Fault::Unknown(name_of(ports[place]))),
+        }
     }
     Ok(all)
 }
@@ -109,6 +109,30 @@ impl<'a> Declared<'a> {
         Ok(nets)
     }
 
+    /// An instance of the module with this number and tree.
+    fn instance_of(
+        &self,
+        alloc: Global,
+        number: u32,
+        tree: &ModuleTree<'a>,
+        name: &'a [u8],
+        connections: &[Connection<'a>],
+    ) -> Result<Instance, Fault<'a>>
+        ensures { (sc : Scope) (m : Module) → HasNets sc m → HasTables m self.now
+            → slice_get sc.modules number ≡ Some (module_view tree.now)
+            → Gives result (instance_uses sc (map port_name (map port_view tree.now.ports)) (map connection_view connections.now))
+            (IsPartOf sc.modules m (record { of = tree.now.name.now; name = name.now; connections = map connection_view connections.now })) }
+    {
+        let joined = self.joined(alloc, tree.ports.as_slice(), connections)?;
+        let nets = all_joined(alloc, tree.ports.as_slice(), joined.as_slice())?;
+        let name = text(alloc, name)?;
+        Ok(Instance {
+            module: number,
+            name,
+            nets,
+        })
+    }
+
     /// An instance of a module before.
     pub(crate) fn instance(
         &self,
@@ -122,19 +146,12 @@ impl<'a> Declared<'a> {
             → Gives result (item_uses sc (InstanceItem of.now name.now (map connection_view connections.now)))
             (IsPartOf sc.modules m (record { of = of.now; name = name.now; connections = map connection_view connections.now })) }
     {
-        let Some(number) = earlier.numbers.number(of) else {
-            return Err(Fault::Unknown(of));
-        };
-        let Some(tree) = earlier.trees.get(number as usize) else {
-            return Err(Fault::Unknown(of));
-        };
-        let joined = self.joined(alloc, tree.ports.as_slice(), connections)?;
-        let nets = all_joined(alloc, tree.ports.as_slice(), joined.as_slice())?;
-        let name = text(alloc, name)?;
-        Ok(Instance {
-            module: number,
-            name,
-            nets,
-        })
+        match earlier.numbers.number(of) {
+            Some(number) => match earlier.trees.get(number as usize) {
+                Some(tree) => self.instance_of(alloc, number, tree, name, connections),
+                None => Err(Fault::Unknown(of)),
+            },
+            None => Err(Fault::Unknown(of)),
+        }
     }
 }

@@ -82,7 +82,9 @@ impl<'a> Builder<'a> {
             ItemTree::Assign(name, expr) => self.assign(name, *expr),
             ItemTree::Always(updates) => self.always(updates.as_slice()),
             ItemTree::Instance(of, name, connections) => {
-                let instance = self.declared.instance(alloc, earlier, of, name, connections.as_slice())?;
+                let instance = self
+                    .declared
+                    .instance(alloc, earlier, of, name, connections.as_slice())?;
                 self.module.instances.push(instance)?;
                 Ok(())
             }

@@ -17,6 +17,7 @@ mod table;
 ghost use Rattle.std.specs.Prelude.{◌≡◌, ◌<◌, ◌^◌, ◌⊎◌, length, IfOk, IfErr};
 ghost use Rattle.rtl_ir.specs.declared.design.Design.{Design};
 ghost use Rattle.verilog_read.specs.declared.error.VerilogError.{VerilogError};
+ghost use Rattle.rtl_reading.specs.Reads.{ReadsAs};
 ghost use Rattle.verilog_read.specs.Refused.{Refuses, IsReadAs};
 
 pub use error::VerilogError;
@@ -31,6 +32,7 @@ use top_ports::one_shape;
 pub fn read(alloc: Global, bytes: &[u8]) -> Result<Design, VerilogError>
     requires { length bytes.now < 2 ^ 32 }
     ensures read { IfOk result (λ d. IsReadAs bytes.now d) }
+    ensures only { IfOk result (λ d. (other : Design) → ReadsAs bytes.now other → other ≡ d) }
     ensures refused { IfErr result (λ e. (e ≡ VerilogError.NoMemory) ⊎ Refuses bytes.now e) }
     ensures every { (d : Design) → IsReadAs bytes.now d → IfErr result (λ e. e ≡ VerilogError.NoMemory) }
     ensures exact { (e : VerilogError) → Refuses bytes.now e → IfOk result (λ _. ⊥) }
@@ -45,3 +47,6 @@ pub fn read(alloc: Global, bytes: &[u8]) -> Result<Design, VerilogError>
     can_run(alloc, &design)?;
     Ok(design)
 }
+
+#[cfg(test)]
+mod tests;

@@ -42,7 +42,11 @@ fn refusal(alloc: Global, fault: Fault<'_>) -> VerilogError
 }
 
 /// The design of the tokens of a text of this length.
-pub(crate) fn design(alloc: Global, tokens: &[Placed<'_>], size: u32) -> Result<Design, VerilogError>
+pub(crate) fn design(
+    alloc: Global,
+    tokens: &[Placed<'_>],
+    size: u32,
+) -> Result<Design, VerilogError>
     ensures ok { IfOk result (λ d. IsDesign tokens.now d) }
     ensures err { IfErr result (λ e. IsTreeFault tokens.now size e) }
 {

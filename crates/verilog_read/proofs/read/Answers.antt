@@ -1,11 +1,11 @@
-use Rattle.std.proofs.Common.{◌≡◌, ◌∙◌, ◌⊎◌, inl, inr, Bool, true, false, List, length, refl, sym, ap, subst, arith}
+use Rattle.std.proofs.Common.{◌≡◌, ◌∙◌, inr, Bool, true, false, List, refl, sym, subst}
 use Rattle.std.proofs.lemmas.Result.{err_from_is_err_and}
 use Rattle.verilog_syntax.specs.Parsed.{tokens_of}
 use Rattle.verilog_syntax.specs.declared.token.Placed.{Placed}
-use Rattle.verilog_read.specs.Refused.{AreNotBuilt, Refuses}
-use Rattle.verilog_read.specs.Answers.{AreTokens, IsDesign, IsTreeFault}
+use Rattle.verilog_read.specs.Refused.{AreNotBuilt}
+use Rattle.verilog_read.specs.Answers.{AreTokens}
 use Rattle.verilog_read.proofs.FirstUse.{err_is}
-use Rattle.verilog_read.proofs.Whole.{scan_refused, scan_excluded, not_built, built, formed, tree_refused, tree_excluded, rule_refused, rule_excluded, port_refused, port_excluded, read_as, excluded}
+use Rattle.verilog_read.proofs.Whole.{scan_refused, scan_excluded, not_built, formed, tree_refused, tree_excluded, rule_refused, rule_excluded, port_refused, port_excluded, read_as, only_design, excluded}
 use Rattle.verilog_read.proofs.read.Goals as goal
 
 unbuilt : {xs ys : List Placed} (b : Bool) → xs ≡ ys → b ≡ false → (AreNotBuilt (tokens_of xs) → b ≡ true) → AreNotBuilt (tokens_of ys) → ⊥
@@ -85,3 +85,9 @@ returns-clause-exact c =
     let at = subst (AreTokens c.args.bytes.now) (sym c.as_slice-2.ensures) c.in_ok-tokens.ensures.ok in
     excluded c.args.bytes.now tokens at c.one_shape.ensures.right c.in_ok-design.design c.in_ok-design.ensures.ok
     (read_as c.args.bytes.now tokens at c.in_ok-design.design c.in_ok-design.ensures.ok c.in_ok-keep_rules.ensures.ok c.in_ok-can_run.ensures.ok (unbuilt c.is_not_built.result (c.as_slice.ensures ∙ sym c.as_slice-2.ensures) c.if-is_not_built.false c.is_not_built.ensures.1))
+
+pub returns-clause-only : goal.returns-clause-only
+returns-clause-only c =
+    let tokens = c.as_slice-2.result.now in
+    let at = subst (AreTokens c.args.bytes.now) (sym c.as_slice-2.ensures) c.in_ok-tokens.ensures.ok in
+    only_design c.args.bytes.now tokens at c.in_ok-design.design c.in_ok-design.ensures.ok c.in_ok-keep_rules.ensures.ok

@@ -1,5 +1,5 @@
-use Rattle.std.proofs.Common.{◌≡◌, [], refl, ap, sym, subst, map, arith}
-use Rattle.std.proofs.lemmas.List.{append-nil, take_all}
+use Rattle.std.proofs.Common.{subst, map, arith}
+use Rattle.std.proofs.lemmas.List.{take_all}
 use Rattle.std.proofs.lemmas.Result.{err_from_is_err_and}
 use Rattle.verilog_syntax.specs.Trees.{update_view}
 use Rattle.rtl_reading.specs.Uses.{updates_uses}

@@ -1,10 +1,10 @@
-use Rattle.std.proofs.Common.{◌≡◌, ◌∙◌, true, refl, map, sym, ap, arith, ◌<◌, ℕ, Bool, List, length, ◌∷◌, ◌++◌, [], take, ◌||◌, false}
+use Rattle.std.proofs.Common.{◌≡◌, ◌∙◌, true, refl, map, sym, ap, arith, ℕ, Bool, List, ◌∷◌, take, ◌||◌, false}
 use Rattle.std.specs.List.{list_any}
 use Rattle.std.proofs.lemmas.List.Folds.{list_any-append}
 use Rattle.verilog_syntax.specs.Trees.{port_view}
 use Rattle.verilog_syntax.specs.declared.tree.PortTree.{PortTree}
 use Rattle.rtl_reading.specs.Uses.{is_bit_input}
-use Rattle.verilog_read.proofs.Seq.{Split, get_split, map_more, map_whole}
+use Rattle.verilog_read.proofs.Seq.{Split, get_split, map_whole}
 use Rattle.verilog_read.proofs.ports.has_input.Goals as goal
 
 found : (name : List ℕ) {ports : List PortTree} {i : ℕ} {x : PortTree} → Split ports i x → is_bit_input name (port_view x) ≡ true → true ≡ list_any (is_bit_input name) (map port_view ports)

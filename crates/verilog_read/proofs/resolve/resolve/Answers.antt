@@ -1,12 +1,11 @@
-use Rattle.std.proofs.Common.{◌≡◌, ◌∙◌, ◌+◌, List, [], ◌∷◌, ◌++◌, map, take, length, Some, refl, sym, ap, subst, arith}
+use Rattle.std.proofs.Common.{◌≡◌, ◌∙◌, [], ◌∷◌, ◌++◌, map, take, length, refl, sym, subst, arith}
 use Rattle.std.proofs.lemmas.List.{length-map, length-take}
 use Rattle.std.proofs.lemmas.Result.{err_from_is_err_and}
 use Rattle.rtl_check.proofs.Places.{item_at}
 use Rattle.verilog_syntax.specs.Trees.{module_view}
-use Rattle.verilog_syntax.specs.declared.tree.ModuleTree.{ModuleTree}
 use Rattle.rtl_reading.specs.Uses.{text_uses}
 use Rattle.verilog_read.specs.Tables.{IsTable}
-use Rattle.verilog_read.specs.Walk.{AllDeclared, AreSaid, IsFault, module_name}
+use Rattle.verilog_read.specs.Walk.{AllDeclared, AreSaid, module_name}
 use Rattle.verilog_read.proofs.FirstUse.{err_is}
 use Rattle.verilog_read.proofs.Tables.{push_named}
 use Rattle.verilog_read.proofs.Seq.{split_at, map_more, map_whole}

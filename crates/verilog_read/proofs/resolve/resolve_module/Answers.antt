@@ -1,4 +1,4 @@
-use Rattle.std.proofs.Common.{◌≡◌, ◌∙◌, [], List, map, None, refl, sym, ap, subst}
+use Rattle.std.proofs.Common.{◌≡◌, [], List, map, None, refl, subst}
 use Rattle.std.proofs.lemmas.Result.{err_from_is_err_and}
 use Rattle.rtl_text.specs.Tree.{PortTree, ModuleTree}
 use Rattle.verilog_syntax.specs.Trees.{port_view, item_view}
@@ -6,8 +6,7 @@ use Rattle.verilog_syntax.specs.declared.tree.PortTree.{PortTree as Port}
 use Rattle.verilog_syntax.specs.declared.tree.ItemTree.{ItemTree as Item}
 use Rattle.rtl_reading.specs.Uses.{port_uses, items_uses, first_undeclared}
 use Rattle.verilog_read.specs.Built.{IsSaid}
-use Rattle.verilog_read.specs.Walk.{AllDeclared, IsBuilt, IsFault, item_scope, port_scope}
-use Rattle.verilog_read.specs.declared.builder.Builder.{Builder}
+use Rattle.verilog_read.specs.Walk.{IsBuilt, IsFault, item_scope, port_scope}
 use Rattle.verilog_read.specs.declared.fault.Fault.{Fault}
 use Rattle.verilog_read.proofs.FirstUse.{err_is, both, fault_later, fault_sooner}
 use Rattle.verilog_read.proofs.resolve.resolve_module.Goals as goal

@@ -1,8 +1,7 @@
-use Rattle.std.proofs.Common.{◌∙◌, inl, inr, ◌⊎◌, ◌≡◌, true, sym, ap, codes, ℕ, ◌+◌, ◌-◌, List, length, take, drop, length-drop, arith}
+use Rattle.std.proofs.Common.{inl, inr, ◌≡◌, true, codes, ℕ, ◌+◌, ◌-◌, List, length, take, drop, length-drop, arith}
 use Rattle.std.proofs.lemmas.List.{take_all}
-use Rattle.rtl_text.specs.Tokens.{Token}
 use Rattle.verilog_syntax.specs.Parsed.{tokens_of}
-use Rattle.verilog_read.specs.Refused.{Stands, StandsTwice, AreNotBuilt}
+use Rattle.verilog_read.specs.Refused.{StandsTwice, AreNotBuilt}
 use Rattle.verilog_read.proofs.Twice.{absent, twice, once}
 use Rattle.verilog_read.proofs.stage.is_not_built.Goals as goal
 

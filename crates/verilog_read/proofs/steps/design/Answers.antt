@@ -1,11 +1,10 @@
-use Rattle.std.proofs.Common.{◌≡◌, ◌∙◌, ℕ, List, [], map, Some, inl, inr, ◌⊎◌, sym, ap, subst}
-use Rattle.rtl_ir.specs.declared.error.RtlError.TheVariants as rules
+use Rattle.std.proofs.Common.{◌≡◌, ℕ, List, [], map, inl, inr, sym, ap, subst}
 use Rattle.rtl_text.specs.Tree.{ModuleTree}
 use Rattle.verilog_syntax.specs.Trees.{module_view}
 use Rattle.verilog_syntax.specs.Parsed.{IsRefused}
 use Rattle.verilog_syntax.specs.declared.token.Placed.{Placed}
 use Rattle.rtl_reading.specs.Uses.{text_uses}
-use Rattle.verilog_read.specs.Walk.{IsFault, AllDeclared, AreSaid}
+use Rattle.verilog_read.specs.Walk.{IsFault}
 use Rattle.verilog_read.specs.Answers.{AreTrees, IsTreeFault, IsRefusal}
 use Rattle.verilog_read.specs.declared.error.VerilogError.{VerilogError}
 use Rattle.verilog_read.specs.declared.error.VerilogError.TheVariants as errors

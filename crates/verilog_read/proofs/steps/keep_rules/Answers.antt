@@ -5,7 +5,7 @@ use Rattle.rtl_ir.specs.declared.error.RtlError.TheVariants as rules
 use Rattle.rtl_check.specs.FirstFault.{IsFirstFault}
 use Rattle.verilog_read.specs.Answers.{BreaksRule, SaysBroken}
 use Rattle.verilog_read.specs.declared.error.VerilogError.{VerilogError}
-use Rattle.verilog_read.specs.declared.error.VerilogError.TheVariants.{Rtl, NoMemory}
+use Rattle.verilog_read.specs.declared.error.VerilogError.TheVariants.{Rtl}
 use Rattle.verilog_read.proofs.steps.keep_rules.Goals as goal
 
 said : (d : Design) (e : RtlError) (x : VerilogError) → IsFirstFault d e → x ≡ Rtl e → BreaksRule d x

@@ -1,4 +1,4 @@
-use Rattle.std.proofs.Common.{◌≡◌, ◌∙◌, [], ◌∷◌, ◌++◌, sym, subst, refl}
+use Rattle.std.proofs.Common.{◌∙◌, sym, subst}
 use Rattle.rtl_ir.specs.declared.design.Mem.{Mem}
 use Rattle.verilog_read.specs.Walk.{HasTables}
 use Rattle.verilog_read.proofs.builder.Builder.add_memory.Goals as goal

@@ -1,4 +1,4 @@
-use Rattle.std.proofs.Common.{◌≡◌, ◌∙◌, [], ◌∷◌, ◌++◌, sym, subst, refl}
+use Rattle.std.proofs.Common.{◌∙◌, sym, subst, refl}
 use Rattle.rtl_ir.specs.declared.design.Net.{Net}
 use Rattle.verilog_read.specs.Walk.{HasTables}
 use Rattle.verilog_read.proofs.builder.Builder.add_net.Goals as goal

@@ -1,4 +1,4 @@
-use Rattle.std.proofs.Common.{◌≡◌, [], ◌∷◌, map, refl, sym, subst}
+use Rattle.std.proofs.Common.{[], map, refl, sym, subst}
 use Rattle.std.proofs.lemmas.List.{append-nil}
 use Rattle.rtl_ir.specs.declared.design.Module.{Module}
 use Rattle.rtl_text.specs.Tree.{AlwaysItem}

@@ -1,4 +1,4 @@
-use Rattle.std.proofs.Common.{◌≡◌, ◌∙◌, List, [], ◌∷◌, ◌++◌, map, refl, sym, ap, subst}
+use Rattle.std.proofs.Common.{List, map, refl, sym, ap, subst}
 use Rattle.rtl_ir.specs.declared.design.Module.{Module}
 use Rattle.rtl_text.specs.Tree.{WireItem, RegisterItem, MemoryItem, InstanceItem, Connection}
 use Rattle.verilog_syntax.specs.Trees.{connection_view}

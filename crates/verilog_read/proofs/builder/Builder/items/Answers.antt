@@ -1,6 +1,5 @@
-use Rattle.std.proofs.Common.{◌≡◌, [], map, refl, sym, subst, arith}
+use Rattle.std.proofs.Common.{[], map, refl, subst, arith}
 use Rattle.std.proofs.lemmas.List.{take_all}
-use Rattle.std.proofs.lemmas.Option.{slice_get_read}
 use Rattle.std.proofs.lemmas.Result.{err_from_is_err_and}
 use Rattle.verilog_syntax.specs.Trees.{item_view}
 use Rattle.rtl_reading.specs.Uses.{items_uses}

@@ -1,4 +1,4 @@
-use Rattle.std.proofs.Common.{◌≡◌, List, [], map, take}
+use Rattle.std.proofs.Common.{◌≡◌, [], map, take}
 use Rattle.rtl_text.specs.Tree.{Name}
 use Rattle.verilog_syntax.specs.Trees.{item_view}
 use Rattle.rtl_reading.specs.Uses.{Scope, items_uses}

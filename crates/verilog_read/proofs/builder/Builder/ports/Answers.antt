@@ -1,4 +1,4 @@
-use Rattle.std.proofs.Common.{◌≡◌, map, sym, subst, arith}
+use Rattle.std.proofs.Common.{map, sym, subst, arith}
 use Rattle.std.proofs.lemmas.List.{take_all}
 use Rattle.verilog_syntax.specs.Trees.{port_view}
 use Rattle.verilog_read.specs.Walk.{IsBuilt, port_scope}

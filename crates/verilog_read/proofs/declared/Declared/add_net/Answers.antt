@@ -1,4 +1,4 @@
-use Rattle.std.proofs.Common.{◌≡◌, ◌∙◌, [], ◌∷◌, ◌++◌, map, Some, refl, sym, subst}
+use Rattle.std.proofs.Common.{◌∙◌, [], ◌∷◌, ◌++◌, map, Some, refl, sym, subst}
 use Rattle.std.proofs.lemmas.List.{length-map}
 use Rattle.verilog_read.specs.Tables.{IsTable}
 use Rattle.verilog_read.specs.Walk.{net_name, register_name}

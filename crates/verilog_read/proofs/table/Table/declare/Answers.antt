@@ -1,5 +1,4 @@
-use Rattle.std.proofs.Common.{◌≡◌, ◌∙◌, ℕ, Bool, true, false, not, Option, Some, None, is_some, refl, sym, ap}
-use Rattle.verilog_read.specs.Tables.{number_of}
+use Rattle.std.proofs.Common.{◌≡◌, ◌∙◌, ℕ, Bool, false, Option, Some, None, is_some, refl, sym, ap}
 use Rattle.verilog_read.proofs.Tables.{declared_more, declared_again}
 use Rattle.verilog_read.proofs.table.Table.declare.Goals as goal
 
