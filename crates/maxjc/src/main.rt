@@ -1,9 +1,10 @@
-//! The compiler as a program: `maxjc` on the words after its own name, the files of the system and
-//! the standard output. It ends with the status as its exit status.
+//! The compiler as a program: `maxjc` on the words after its own name, the files of the system, the
+//! standard output and the program's pattern of stalls. It ends with the status as its exit status.
 #![tactic(auto)]
 
 use maxjc_core::{Status, maxjc};
 use mx_base::{RealFiles, StdSay, Text};
+use stall_source::{Pattern, program_stalls};
 use std::io::ErrorKind;
 use std::process::ExitCode;
 use std::rt::Env;
@@ -34,6 +35,7 @@ fn main(rt: HostRuntime) -> ExitCode {
     };
     let mut files = RealFiles::new(&rt);
     let mut say = StdSay::new(&rt);
-    let status = maxjc(rt.alloc(), &words, &mut files, &mut say);
+    let stalls = Pattern::new(|pick: u64, edge: u64, port: u32| program_stalls(pick, edge, port));
+    let status = maxjc(rt.alloc(), &words, &mut files, &mut say, &stalls);
     ExitCode::from(status.code())
 }

@@ -1,9 +1,10 @@
 -- A project that is built has no cause of a refusal.
-use Rattle.std.proofs.Common.{◌≡◌, ◌<◌, ◌≤◌, ℕ, List, Some, None, length, arith, refl, sym, subst, ◌∙◌}
+use Rattle.std.proofs.Common.{◌≡◌, ◌<◌, ℕ, List, Some, None, length, arith, refl, subst}
 use Rattle.std.specs.Prelude.{IsSome}
 use Rattle.mx_base.specs.Files.{Held, Name, Holds}
 use Rattle.maxjc_core.specs.Command.{Names}
-use Rattle.maxjc_core.specs.Causes.{Cause, file_limit, IsWithin, IsPast, Stands, IsBuilt, IsOfNoForm}
+use Rattle.maxjc_core.specs.Lines.{Cause}
+use Rattle.maxjc_core.specs.Causes.{file_limit, IsWithin, IsPast, Stands, IsBuilt, IsOfNoForm}
 use Rattle.maxjc_core.specs.Stops.{IsCompiled}
 
 -- a file that is held is told
@@ -11,10 +12,10 @@ pub told : (held : Held) (name : Name) (bytes : List ℕ) → Holds held name by
 told None name bytes h = absurd (cc)
 told (Some m) name bytes h = refl
 
-same_bytes : (held : Held) (name : Name) (a b : List ℕ) → Holds held name a → Holds held name b → a ≡ b
+pub same_bytes : (held : Held) (name : Name) (a b : List ℕ) → Holds held name a → Holds held name b → a ≡ b
 same_bytes held name a b h k = cc
 
-not_past : (held : Held) (name : Name) (bytes : List ℕ) → IsPast held name → IsWithin held name bytes → ⊥
+not_past : (held : Held) (name : Name) (bytes : List ℕ) → IsPast file_limit held name → IsWithin file_limit held name bytes → ⊥
 not_past held name bytes past within =
     let same = same_bytes held name past.bytes bytes past.holds within.holds in
     let large : file_limit < length bytes = subst (λ (b : List ℕ). file_limit < length b) same past.past in

@@ -1,3 +1,12 @@
 pub mod Reading
+pub mod RunReading
+pub mod RuleLines
+pub mod RunExclusion
+pub mod RunLoading
+pub mod RunEnding
+pub mod RunClauses
+pub mod OneCommand
+pub mod OneModule
 pub mod Sources
 pub mod Exclusion
+pub mod Summing

@@ -1,14 +1,14 @@
 -- What reading the files of a project says of what they hold.
-use Rattle.std.proofs.Common.{◌≡◌, ◌⊎◌, inl, inr, ◌<◌, ◌≤◌, ℕ, List, Option, Some, None, length, arith, refl, sym, ap, subst, ◌∙◌}
+use Rattle.std.proofs.Common.{◌≡◌, ◌⊎◌, inl, inr, ◌<◌, ◌≤◌, ℕ, List, Option, Some, None, length, arith, refl, sym, subst}
 use Rattle.std.specs.Prelude.{IsSome}
 use Rattle.std.specs.FinMap.{get}
 use Rattle.mx_base.specs.Files.{Held, Name, Holds, Lacks}
-use Rattle.maxjc_core.specs.Causes.{Cause, TooLarge, file_limit, IsWithin, IsPast, AfterSource, IsMissing}
+use Rattle.maxjc_core.specs.Causes.{file_limit, IsWithin, IsPast, IsMissing}
+use Rattle.maxjc_core.specs.Lines.{Cause, TooLarge}
 use Rattle.maxjc_core.specs.Command.{Names}
-use Rattle.maxjc_core.specs.Refusals.{cause_told}
 use Rattle.maxjc_core.specs.Stops.{IfRefused}
-use Rattle.maxjc_core.specs.declared.compile.Stop.{Stop}
-use Rattle.maxjc_core.specs.declared.compile.Stop.TheVariants as stops
+use Rattle.maxjc_core.specs.declared.stop.Stop.{Stop}
+use Rattle.maxjc_core.specs.declared.stop.Stop.TheVariants as stops
 
 -- a file that is told is held or not
 found_in : (held : Held) (name : Name) (f : Option (List ℕ)) → IsSome held → (Lacks held name → ⊥) → Some f ≡ (let told : Option (Option (List ℕ)) = elim held [ None ↦ None | Some m ↦ Some (get m name) ] in told) → (bytes : List ℕ) × Holds held name bytes
@@ -21,24 +21,24 @@ found None name told held = absurd (cc)
 found (Some m) name told held = found_in (Some m) name (get m name) told held refl
 
 -- a file that was read is within the limit
-pub within : (held : Held) (name : Name) (bytes : List ℕ) → IsSome held → (Lacks held name → ⊥) → ((file : List ℕ) → Holds held name file → bytes ≡ file) → length bytes ≤ file_limit → IsWithin held name bytes
-within held name bytes told lacks whole fits =
+pub within : {limit : ℕ} (held : Held) (name : Name) (bytes : List ℕ) → IsSome held → (Lacks held name → ⊥) → ((file : List ℕ) → Holds held name file → bytes ≡ file) → length bytes ≤ limit → IsWithin limit held name bytes
+within {limit} held name bytes told lacks whole fits =
     let f = found held name told lacks in
     record { holds = subst (λ b. Holds held name b) (sym (whole f.0 f.1)) f.1; within = fits }
 
 -- a file past the limit is held
-past : (held : Held) (name : Name) → IsSome held → (Lacks held name → ⊥) → ((file : List ℕ) → Holds held name file → file_limit < length file) → IsPast held name
-past held name told lacks large =
+past : (limit : ℕ) (held : Held) (name : Name) → IsSome held → (Lacks held name → ⊥) → ((file : List ℕ) → Holds held name file → limit < length file) → IsPast limit held name
+past limit held name told lacks large =
     let f = found held name told lacks in
     record { bytes = f.0; holds = f.1; past = large f.0 f.1 }
 
 -- a read that stops, by what it stops with
-pub read_stops : (held : Held) (name : Name) (stop : Stop) (G : Cause → Type 0) → IfRefused stop (λ c. c ≡ TooLarge name) → ((file : List ℕ) → Holds held name file → IfRefused stop (λ _. file_limit < length file)) → (Lacks held name → stop ≡ stops.ReadFault)
-    → (IsSome held → IsPast held name → G (TooLarge name)) → IfRefused stop (λ c. IsSome held → G c)
-read_stops held name (stops.Refused r) G named large lacks g =
-    λ told. subst G (sym named) (g told (past held name told (λ l. let e = lacks l in cc) large))
-read_stops held name stops.ReadFault G named large lacks g = tt
-read_stops held name stops.NoMemory G named large lacks g = tt
+pub read_stops : (limit : ℕ) (held : Held) (name : Name) (stop : Stop) (G : Cause → Type 0) → IfRefused stop (λ c. c ≡ TooLarge name) → ((file : List ℕ) → Holds held name file → IfRefused stop (λ _. limit < length file)) → (Lacks held name → stop ≡ stops.ReadFault)
+    → (IsSome held → IsPast limit held name → G (TooLarge name)) → IfRefused stop (λ c. IsSome held → G c)
+read_stops limit held name (stops.Refused r) G named large lacks g =
+    λ told. subst G (sym named) (g told (past limit held name told (λ l. let e = lacks l in cc) large))
+read_stops limit held name stops.ReadFault G named large lacks g = tt
+read_stops limit held name stops.NoMemory G named large lacks g = tt
 
 -- where a file is missing, the first read that stops is a read fault or want of memory
 pub missing_stops : (names : Names) (held : Held) (stop : Stop) → ((file : List ℕ) → Holds held names.source file → IfRefused stop (λ _. file_limit < length file)) → (Lacks held names.source → stop ≡ stops.ReadFault) → IsMissing names held → (stop ≡ stops.ReadFault) ⊎ (stop ≡ stops.NoMemory)

@@ -1,19 +1,18 @@
 -- From a source to what is made of it.
-use Rattle.std.proofs.Common.{◌≡◌, ℕ, ◌+◌, ◌≤◌, List, [], ◌∷◌, ◌++◌, length, arith, refl, sym, ap, subst, ◌∙◌}
+use Rattle.std.proofs.Common.{◌≡◌, ℕ, ◌≤◌, List, [], ◌∷◌, ◌++◌, length, refl, sym, ap, subst, ◌∙◌}
 use Rattle.std.specs.Prelude.{Bool, true, false, ◌&&◌, ◌||◌, codes}
 use Rattle.std.specs.List.{list_all}
 use mathlib.Core.Path.{fun_ext}
-use Rattle.grammar.specs.Bytes.{decimal, is_letter, is_digit}
+use Rattle.grammar.specs.Bytes.{is_letter, is_digit}
 use Rattle.rtl_ir.specs.Ports as ports
 use Rattle.rtl_ir.specs.Ports.{Shape}
-use Rattle.rtl_ir.specs.declared.design.Design.{Design}
 use Rattle.sum_source.specs.Tokens.{is_plain_name, is_name_start, is_name_byte, is_word}
-use Rattle.sum_source.specs.Source.{Source, IsSource, output_of}
+use Rattle.sum_source.specs.Source.{Source, output_of}
 use Rattle.sum_source.specs.Steps.{result_of}
 use Rattle.sum_source.specs.Projects.{Says, IsProject}
 use Rattle.sum_source.specs.declared.project.Project.{Project}
 use Rattle.sum_module.specs.Straight.{shape_of}
-use Rattle.sum_module.specs.Designs.{IsSound, IsStraightForm, IsDesignOf}
+use Rattle.sum_module.specs.Designs.{IsSound, IsStraightForm}
 use Rattle.maxjc_core.specs.Compiling.{kernel_shape, operators_in, Compiles}
 use Rattle.maxjc_core.specs.Emitting.{Emits}
 use Rattle.maxjc_core.specs.declared.compile.Compiled.{Compiled}
@@ -70,6 +69,7 @@ compiles bytes p c is emits =
       is = is.is;
       design = emits.design;
       text_of = emits.text_of;
+      reads = emits.reads;
       straight =
           subst (λ (shape : Shape). IsStraightForm shape (operators_in s) (output_of s) emits.design) (same_shape s p says)
           (subst (λ (n : ℕ). IsStraightForm (shape_of p) n (output_of s) emits.design) says.operators

@@ -1,32 +1,24 @@
 -- Why `compile` refuses a project, by what its files hold.
-use Rattle.std.specs.Prelude.{ℕ, ◌≡◌, ◌⊎◌, ◌≤◌, ◌<◌, List, [], ◌∷◌, ◌++◌, length, codes}
+use Rattle.std.specs.Prelude.{ℕ, ◌⊎◌, ◌≤◌, ◌<◌, List, length}
 use Rattle.mx_base.specs.Files.{Held, Holds, Lacks}
 use Rattle.sum_source.specs.Source.{Source, IsSource}
 use Rattle.maxjc_core.specs.Command.{Name, Names}
+use Rattle.maxjc_core.specs.Lines.{Cause, TooLarge, NotBuilt}
 
 -- the most bytes of a file that is read whole: 2 ^ 24
 abbrev pub file_limit : ℕ
 file_limit = 16777216
 
-pub data Cause : Type 0 where
-  TooLarge : Name → Cause  -- F1: this file has more bytes than its limit
-  NotBuilt : Cause  -- N0: the source is of no form that is built
-
--- the line that is said
-abbrev pub line_of : Cause → List ℕ
-line_of (TooLarge name) = codes "refused F1 " ++ name ++ 10 ∷ []
-line_of NotBuilt = codes "refused N0\n"
-
 -- a file is held and within the limit, with these bytes
-pub record IsWithin (held : Held) (name : Name) (bytes : List ℕ) : Type 0 where
+pub record IsWithin (limit : ℕ) (held : Held) (name : Name) (bytes : List ℕ) : Type 0 where
   pub holds : Holds held name bytes
-  pub within : length bytes ≤ file_limit
+  pub within : length bytes ≤ limit
 
 -- a file is held and past the limit
-pub record IsPast (held : Held) (name : Name) : Type 0 where
+pub record IsPast (limit : ℕ) (held : Held) (name : Name) : Type 0 where
   pub bytes : List ℕ
   pub holds : Holds held name bytes
-  pub past : file_limit < length bytes
+  pub past : limit < length bytes
 
 -- the bytes are of no form that is built
 abbrev pub IsOfNoForm : List ℕ → Type 0
@@ -35,20 +27,20 @@ IsOfNoForm bytes = (s : Source) → IsSource bytes s → ⊥
 -- the table is read after a source within the limit, and the form is looked for after both
 pub record IsReadable (names : Names) (held : Held) : Type 0 where
   pub source : List ℕ
-  pub source_is : IsWithin held names.source source
+  pub source_is : IsWithin file_limit held names.source source
   pub table : List ℕ
-  pub table_is : IsWithin held names.table table
+  pub table_is : IsWithin file_limit held names.table table
 
 -- a source within the limit, and what holds of the table after it
 pub record AfterSource (names : Names) (held : Held) (P : Type 0) : Type 0 where
   pub source : List ℕ
-  pub source_is : IsWithin held names.source source
+  pub source_is : IsWithin file_limit held names.source source
   pub then_table : P
 
 -- the cause stands, and none before it
 pub data Stands (names : Names) (held : Held) : Cause → Type 0 where
-  source_too_large : IsPast held names.source → Stands names held (TooLarge names.source)
-  table_too_large : AfterSource names held (IsPast held names.table) → Stands names held (TooLarge names.table)
+  source_too_large : IsPast file_limit held names.source → Stands names held (TooLarge names.source)
+  table_too_large : AfterSource names held (IsPast file_limit held names.table) → Stands names held (TooLarge names.table)
   not_built : (files : IsReadable names held) → IsOfNoForm files.source → Stands names held NotBuilt
 
 -- a file that is to be read isn't held

@@ -1,5 +1,5 @@
 -- The words of a command.
-use Rattle.std.specs.Prelude.{◌≡◌, ℕ, List, [], ◌∷◌, Option, Some, None, ◌&&◌, not, if◌then◌else◌, codes, ◌++◌}
+use Rattle.std.specs.Prelude.{ℕ, List, [], ◌∷◌, Option, Some, None, ◌&&◌, not, if◌then◌else◌, codes, ◌++◌}
 use Rattle.std.specs.Str.{bytes_eq}
 use Rattle.std.specs.Option.{option_map}
 
@@ -13,11 +13,25 @@ pub record Names : Type 0 where
   pub output : Name
   pub report : Name
 
--- `compile SRC TABLE OUT REPORT`, where OUT and REPORT are different texts. Every other list of words is no command.
-abbrev pub command_of : List Name → Option Names
+-- the names of the files of `simulate`
+pub record RunNames : Type 0 where
+  pub text : Name
+  pub run : Name
+
+pub data Command : Type 0 where
+  Compile : Names → Command
+  Simulate : RunNames → Command
+
+-- `compile SRC TABLE OUT REPORT`, where OUT and REPORT are different texts, and `simulate TEXT RUN`. Every other list of words is
+-- no command.
+abbrev pub command_of : List Name → Option Command
 command_of (word ∷ source ∷ table ∷ output ∷ report ∷ []) =
     if bytes_eq word (codes "compile") && not (bytes_eq output report)
-    then Some (record { source = source; table = table; output = output; report = report })
+    then Some (Compile (record { source = source; table = table; output = output; report = report }))
+    else None
+command_of (word ∷ text ∷ run ∷ []) =
+    if bytes_eq word (codes "simulate")
+    then Some (Simulate (record { text = text; run = run }))
     else None
 command_of _ = None
 

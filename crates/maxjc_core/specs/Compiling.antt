@@ -4,6 +4,7 @@ use Rattle.grammar.specs.Bytes.{decimal}
 use Rattle.rtl_ir.specs.declared.design.Design.{Design}
 use Rattle.rtl_ir.specs.Ports.{Shape}
 use Rattle.rtl_text.specs.Text.{TextOf}
+use Rattle.rtl_reading.specs.Reads.{ReadsAs}
 use Rattle.sum_source.specs.Source.{Source, IsSource, Local, operators_of, output_of}
 use Rattle.sum_module.specs.Designs.{IsStraightForm}
 
@@ -25,11 +26,12 @@ abbrev pub summary_of : Source → List ℕ
 summary_of s = codes "kernel " ++ s.name ++ codes " fifo 0\n"
 
 -- The bytes of a source, the text made of them, and the line said: the text is a text of a design of the straight form of
--- that kernel, and every run of this design agrees with a prefix of the sums.
+-- that kernel, reading it gives that design back, and every run of this design agrees with a prefix of the sums.
 pub record Compiles (source text line : List ℕ) : Type 0 where
   pub kernel : Source
   pub is : IsSource source kernel
   pub design : Design
   pub text_of : TextOf text design
+  pub reads : ReadsAs text design
   pub straight : IsStraightForm (kernel_shape kernel) (operators_in kernel) (output_of kernel) design
   pub summary : line ≡ summary_of kernel

@@ -1,4 +1,5 @@
 pub mod Command
+pub mod Lines
 pub mod Causes
 pub mod Compiling
 pub mod Ends
@@ -7,3 +8,9 @@ pub mod Named
 pub mod Refusals
 pub mod Emitting
 pub mod Stops
+pub mod Loading
+pub mod RunCauses
+pub mod RunEnds
+pub mod LoadStops
+pub mod RunStops
+pub mod Summing

@@ -1,6 +1,16 @@
--- The names that a command of the code has.
-use Rattle.maxjc_core.specs.Command.{Names}
-use Rattle.maxjc_core.specs.declared.command.Compile.{Compile}
+-- The command that the code has, with the names of its files.
+use Rattle.maxjc_core.specs.Command.{Names, RunNames, Command, Compile, Simulate}
+use Rattle.maxjc_core.specs.declared.command.Compile.{Compile as Compiling}
+use Rattle.maxjc_core.specs.declared.command.Simulate.{Simulate as Simulating}
+use Rattle.maxjc_core.specs.declared.command.Command.{Command as Commanded}
+use Rattle.maxjc_core.specs.declared.command.Command.TheVariants as commands
 
-abbrev pub names_told : Compile → Names
+abbrev pub names_told : Compiling → Names
 names_told c = record { source = c.source.now; table = c.table.now; output = c.output.now; report = c.report.now }
+
+abbrev pub run_told : Simulating → RunNames
+run_told c = record { text = c.text.now; run = c.run.now }
+
+abbrev pub command_told : Commanded → Command
+command_told (commands.Compile c) = Compile (names_told c)
+command_told (commands.Simulate c) = Simulate (run_told c)

@@ -2,11 +2,12 @@
 use Rattle.std.specs.Prelude.{ℕ, List, IsSome, Result, Ok, Err}
 use Rattle.mx_base.specs.Files.{Held}
 use Rattle.maxjc_core.specs.Command.{Names}
-use Rattle.maxjc_core.specs.Causes.{Cause, IsReadable, Stands}
+use Rattle.maxjc_core.specs.Causes.{IsReadable, Stands}
+use Rattle.maxjc_core.specs.Lines.{Cause}
 use Rattle.maxjc_core.specs.Refusals.{cause_told}
 use Rattle.maxjc_core.specs.Compiling.{Compiles}
-use Rattle.maxjc_core.specs.declared.compile.Stop.{Stop}
-use Rattle.maxjc_core.specs.declared.compile.Stop.TheVariants as stops
+use Rattle.maxjc_core.specs.declared.stop.Stop.{Stop}
+use Rattle.maxjc_core.specs.declared.stop.Stop.TheVariants as stops
 use Rattle.maxjc_core.specs.declared.compile.Compiled.{Compiled}
 
 -- this holds of the cause of a refusal

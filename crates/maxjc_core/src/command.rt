@@ -1,6 +1,7 @@
 // The words of a command.
 ghost use Rattle.std.specs.Prelude.{◌≡◌, IfSome, IfNone, Some, None};
 ghost use Rattle.maxjc_core.specs.Command.{command_of};
+ghost use Rattle.maxjc_core.specs.Named.{command_told};
 
 use mx_base::Text;
 
@@ -13,20 +14,41 @@ pub struct Compile<'a> {
     pub report: &'a Text,
 }
 
+/// The files of `simulate`.
+#[derive(Clone, Copy)]
+pub struct Simulate<'a> {
+    pub text: &'a Text,
+    pub run: &'a Text,
+}
+
+/// A command.
+#[derive(Clone, Copy)]
+pub enum Command<'a> {
+    Compile(Compile<'a>),
+    Simulate(Simulate<'a>),
+}
+
 /// The command that a list of words is, if it is one.
-pub fn parse_command(words: &[Text]) -> Option<Compile<'_>>
-    ensures some { IfSome result (λ c. command_of words.now ≡ Some (record { source = c.source.now; table = c.table.now; output = c.output.now; report = c.report.now })) }
+pub fn parse_command(words: &[Text]) -> Option<Command<'_>>
+    ensures some { IfSome result (λ c. command_of words.now ≡ Some (command_told c)) }
     ensures none { IfNone result (command_of words.now ≡ None) }
 {
     match words {
         [word, source, table, output, report] => {
             if word.is(b"compile") && !output.is(report.as_bytes()) {
-                Some(Compile {
+                Some(Command::Compile(Compile {
                     source,
                     table,
                     output,
                     report,
-                })
+                }))
+            } else {
+                None
+            }
+        }
+        [word, text, run] => {
+            if word.is(b"simulate") {
+                Some(Command::Simulate(Simulate { text, run }))
             } else {
                 None
             }

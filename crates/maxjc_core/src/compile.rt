@@ -2,7 +2,8 @@
 ghost use Rattle.std.specs.Prelude.{◌≡◌, ◌≤◌, ◌<◌, ◌⊎◌, ◌++◌, ◌∷◌, List, ℕ, Err, IfOk, IfErr, IfSome, IfNone, length, codes, OnOk};
 ghost use Rattle.mx_base.specs.Counts.{Rose};
 ghost use Rattle.mx_base.specs.Files.{Holds, Lacks};
-ghost use Rattle.maxjc_core.specs.Causes.{file_limit, IsMissing, IsOfNoForm, TooLarge};
+ghost use Rattle.maxjc_core.specs.Causes.{file_limit, IsMissing, IsOfNoForm};
+ghost use Rattle.maxjc_core.specs.Lines.{TooLarge};
 ghost use Rattle.maxjc_core.specs.Compiling.{Compiles};
 ghost use Rattle.maxjc_core.specs.Stops.{IfRefused, Answers};
 ghost use Rattle.maxjc_core.specs.Named.{names_told};
@@ -10,28 +11,20 @@ ghost use Rattle.maxjc_core.specs.Emitting.{Emits};
 ghost use Rattle.sum_module.specs.Designs.{IsSound};
 
 use crate::command::Compile;
+use crate::files::{FILE_LIMIT, read_file};
 use crate::refusal::Refusal;
-use mx_base::{Files, NoMemory, ReadError, Text, read_whole};
+use crate::stop::Stop;
+use mx_base::{Files, NoMemory, Text};
 use std::alloc::Global;
 use sum_module::sum_design;
 use sum_source::{Project, read_sum};
 use verilog_print::print;
-
-const FILE_LIMIT: u64 = 1 << 24;
 
 /// The text of a project, and the line that sums it up.
 #[derive(Drop)]
 pub struct Compiled {
     pub text: Vec<u8>,
     pub summary: Vec<u8>,
-}
-
-/// Why a command stops before it writes.
-#[derive(Clone, Copy)]
-pub enum Stop<'a> {
-    Refused(Refusal<'a>),
-    ReadFault,
-    NoMemory,
 }
 
 // The line `kernel NAME fifo 0`.
@@ -67,27 +60,6 @@ fn build(alloc: Global, source: &[u8]) -> Result<Option<Compiled>, NoMemory>
     }
 }
 
-// Reads one file of the project.
-fn read<'a, F: Files>(alloc: Global, files: &mut F, name: &'a Text) -> Result<Vec<u8>, Stop<'a>>
-    ensures same { F.held files.new ≡ F.held files.old }
-    ensures quiet { (result ≡ Err Stop.ReadFault → ⊥) → F.read_faults files.new ≡ F.read_faults files.old }
-    ensures write_quiet { F.write_faults files.new ≡ F.write_faults files.old }
-    ensures fault { result ≡ Err Stop.ReadFault → Rose (F.read_faults files.old) (F.read_faults files.new) ⊎ Lacks (F.held files.old) name.entry.now }
-    ensures lacking { Lacks (F.held files.old) name.entry.now → result ≡ Err Stop.ReadFault }
-    ensures lacking_quiet { Lacks (F.held files.old) name.entry.now → F.read_faults files.new ≡ F.read_faults files.old }
-    ensures refused { IfErr result (λ stop. IfRefused stop (λ cause. cause ≡ TooLarge name.entry.now)) }
-    ensures too_large { (file : List ℕ) → Holds (F.held files.old) name.entry.now file → IfErr result (λ stop. IfRefused stop (λ _. file_limit < length file)) }
-    ensures whole { (file : List ℕ) → Holds (F.held files.old) name.entry.now file → IfOk result (λ bytes. bytes.items ≡ file) }
-    ensures fits { IfOk result (λ bytes. length bytes.items ≤ file_limit) }
-{
-    match read_whole(alloc, files, name, FILE_LIMIT) {
-        Ok(bytes) => Ok(bytes),
-        Err(ReadError::ReadFault) => Err(Stop::ReadFault),
-        Err(ReadError::TooLarge) => Err(Stop::Refused(Refusal::TooLarge(name))),
-        Err(ReadError::NoMemory) => Err(Stop::NoMemory),
-    }
-}
-
 // Reads the table, whose bytes have no effect yet.
 fn skip_table<'a, F: Files>(alloc: Global, files: &mut F, name: &'a Text) -> Result<(), Stop<'a>>
     ensures same { F.held files.new ≡ F.held files.old }
@@ -100,7 +72,7 @@ fn skip_table<'a, F: Files>(alloc: Global, files: &mut F, name: &'a Text) -> Res
     ensures too_large { (file : List ℕ) → Holds (F.held files.old) name.entry.now file → IfErr result (λ stop. IfRefused stop (λ _. file_limit < length file)) }
     ensures fits { (file : List ℕ) → Holds (F.held files.old) name.entry.now file → OnOk result (length file ≤ file_limit) }
 {
-    match read(alloc, files, name) {
+    match read_file(alloc, files, name, FILE_LIMIT) {
         Ok(_table) => Ok(()),
         Err(stop) => Err(stop),
     }
@@ -123,7 +95,7 @@ pub fn compile<'a, F: Files>(
 
     ensures answers { Answers (names_told names.entry) (F.held files.old) result }
 {
-    match read(alloc, files, names.source) {
+    match read_file(alloc, files, names.source, FILE_LIMIT) {
         Ok(source) => match skip_table(alloc, files, names.table) {
             Ok(()) => match build(alloc, source.as_slice()) {
                 Ok(Some(compiled)) => Ok(compiled),

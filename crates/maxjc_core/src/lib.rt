@@ -3,8 +3,15 @@
 
 mod command;
 mod compile;
+mod compile_command;
+mod files;
+mod load;
 mod refusal;
+mod refusal_line;
+mod saying;
+mod simulate_command;
 mod status;
+mod stop;
 mod top;
 
 pub use status::Status;
@@ -12,5 +19,7 @@ pub use top::maxjc;
 
 #[cfg(test)]
 mod design_tests;
+#[cfg(test)]
+mod simulate_tests;
 #[cfg(test)]
 mod tests;

@@ -1,5 +1,6 @@
 use crate::{Status, maxjc};
 use mx_base::{MemFiles, MemSay, Text, read_whole};
+use stall_source::{Pattern, program_stalls};
 use std::alloc::Global;
 use std::process::Abort;
 use std::test::Fail;
@@ -76,6 +77,12 @@ fn compile_words(alloc: Global) -> Result<Vec<Text>, Fail> {
     )
 }
 
+// Runs a command under the program's pattern of stalls.
+fn run(alloc: Global, words: &Vec<Text>, files: &mut MemFiles, say: &mut MemSay) -> Status {
+    let stalls = Pattern::new(|pick: u64, edge: u64, port: u32| program_stalls(pick, edge, port));
+    maxjc(alloc, words, files, say, &stalls)
+}
+
 // What a source leads to: the status, and what is said.
 fn expect_end(
     rt: &impl Abort,
@@ -86,7 +93,7 @@ fn expect_end(
 ) -> Result<(), Fail> {
     let mut files = project(alloc, source, &[])?;
     let mut say = MemSay::new(alloc, Vec::new(alloc))?;
-    let ended = maxjc(alloc, &compile_words(alloc)?, &mut files, &mut say);
+    let ended = run(alloc, &compile_words(alloc)?, &mut files, &mut say);
     assert_eq!(rt; ended, status, "{:?}", text(alloc, source)?);
     assert_eq!(rt; say.bytes(), said);
     Ok(())
@@ -97,7 +104,7 @@ fn a_kernel_of_one_sum_is_compiled(rt: HostRuntime) -> Result<(), Fail> {
     let alloc = rt.alloc();
     let mut files = project(alloc, DOUBLE, &[])?;
     let mut say = MemSay::new(alloc, Vec::new(alloc))?;
-    let ended = maxjc(alloc, &compile_words(alloc)?, &mut files, &mut say);
+    let ended = run(alloc, &compile_words(alloc)?, &mut files, &mut say);
     assert_eq!(rt; ended, Status::Done);
     assert_eq!(rt; say.bytes(), b"kernel Double fifo 0\n".as_slice());
     let held = read_whole(alloc, &mut files, &text(alloc, b"text")?, 10_000)?;
@@ -124,8 +131,10 @@ fn what_is_of_no_form_is_refused(rt: HostRuntime) -> Result<(), Fail> {
 #[test]
 fn words_that_are_no_command(rt: HostRuntime) -> Result<(), Fail> {
     let alloc = rt.alloc();
-    let lines: [&[&[u8]]; 4] = [
+    let lines: [&[&[u8]]; 6] = [
         &[],
+        &[b"simulate", b"a"],
+        &[b"simulate", b"a", b"b", b"c"],
         &[b"compile", b"a", b"b", b"c", b"c"],
         &[b"compile", b"a", b"b", b"c"],
         &[b"generate", b"4294967296"],
@@ -133,7 +142,7 @@ fn words_that_are_no_command(rt: HostRuntime) -> Result<(), Fail> {
     for line in lines {
         let mut files = project(alloc, DOUBLE, &[])?;
         let mut say = MemSay::new(alloc, Vec::new(alloc))?;
-        let ended = maxjc(alloc, &words(alloc, line)?, &mut files, &mut say);
+        let ended = run(alloc, &words(alloc, line)?, &mut files, &mut say);
         assert_eq!(rt; ended, Status::Usage);
         assert_eq!(rt; say.bytes(), USAGE);
     }
@@ -155,7 +164,7 @@ fn the_first_call_that_fails_ends_the_command(rt: HostRuntime) -> Result<(), Fai
     ] {
         let mut files = project(alloc, DOUBLE, &[call])?;
         let mut say = MemSay::new(alloc, Vec::new(alloc))?;
-        let ended = maxjc(alloc, &compile_words(alloc)?, &mut files, &mut say);
+        let ended = run(alloc, &compile_words(alloc)?, &mut files, &mut say);
         assert_eq!(rt; ended, status, "call {call}");
         if status != Status::Done {
             assert_eq!(rt; say.bytes(), b"".as_slice());
@@ -163,7 +172,7 @@ fn the_first_call_that_fails_ends_the_command(rt: HostRuntime) -> Result<(), Fai
     }
     let mut files = project(alloc, DOUBLE, &[])?;
     let mut say = MemSay::new(alloc, [1u64].to_vec(alloc)?)?;
-    let ended = maxjc(alloc, &compile_words(alloc)?, &mut files, &mut say);
+    let ended = run(alloc, &compile_words(alloc)?, &mut files, &mut say);
     assert_eq!(rt; ended, Status::WriteFault);
     Ok(())
 }
@@ -173,7 +182,7 @@ fn a_source_that_is_not_held(rt: HostRuntime) -> Result<(), Fail> {
     let alloc = rt.alloc();
     let mut files = MemFiles::new(alloc, Vec::new(alloc))?;
     let mut say = MemSay::new(alloc, Vec::new(alloc))?;
-    let ended = maxjc(alloc, &compile_words(alloc)?, &mut files, &mut say);
+    let ended = run(alloc, &compile_words(alloc)?, &mut files, &mut say);
     assert_eq!(rt; ended, Status::ReadFault);
     assert_eq!(rt; say.bytes(), b"".as_slice());
     Ok(())
@@ -195,4 +204,21 @@ fn a_source_at_the_limit_and_past_it(rt: HostRuntime) -> Result<(), Fail> {
     expect_end(&rt, alloc, &source, Status::Done, b"kernel Double fifo 0\n")?;
     source.push(b' ')?;
     expect_end(&rt, alloc, &source, Status::Refused, b"refused F1 source\n")
+}
+
+#[test]
+fn a_text_and_a_run_file_that_are_not_held(rt: HostRuntime) -> Result<(), Fail> {
+    let alloc = rt.alloc();
+    let names: [&[&[u8]]; 2] = [
+        &[b"simulate", b"text", b"run"],
+        &[b"simulate", b"source", b"run"],
+    ];
+    for line in names {
+        let mut files = project(alloc, DOUBLE, &[])?;
+        let mut say = MemSay::new(alloc, Vec::new(alloc))?;
+        let ended = run(alloc, &words(alloc, line)?, &mut files, &mut say);
+        assert_eq!(rt; ended, Status::ReadFault);
+        assert_eq!(rt; say.bytes(), b"".as_slice());
+    }
+    Ok(())
 }

@@ -16,6 +16,11 @@ pub record Follows (file : List ℕ) (reader : WordReader) : Type 0 where
   pub ahead : IsAhead file reader.bytes
   pub left : drop reader.lines (lines_of file) ≡ lines_from [] (drop reader.bytes.place file)
 
+-- no byte is read ahead, and nothing was refused
+pub record IsUnread (reader : WordReader) : Type 0 where
+  pub unrefused : reader.refusal ≡ None
+  pub none_ahead : reader.bytes.filled ≡ reader.bytes.from
+
 -- what the line of this number says, if there is one: a word of the width, or its refusal
 abbrev pub IsOfLine : List ℕ → ℕ → ℕ → Option (List ℕ) → Result (Option Word) RunError → Type 0
 IsOfLine name width number line (Ok None) = line ≡ None

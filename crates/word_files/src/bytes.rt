@@ -1,5 +1,5 @@
 // The bytes of a file, one after another.
-ghost use Rattle.std.specs.Prelude.{◌≡◌, ◌⊎◌, ◌≤◌, ◌<◌, ◌+◌, ◌-◌, ◌^◌, ℕ, List, vec_len, slice_get, is_some, Some, if◌then◌else◌, IfOk, OnOk, IsTrue, false, length};
+ghost use Rattle.std.specs.Prelude.{◌≡◌, ◌⊎◌, ◌≤◌, ◌<◌, ◌+◌, ◌-◌, ◌^◌, ℕ, List, vec_len, slice_get, is_some, Some, if◌then◌else◌, IfOk, OnOk, IsTrue, Err, false, length};
 ghost use Rattle.mx_base.specs.Counts.{Rose};
 ghost use Rattle.mx_base.specs.Files.{Holds, Lacks};
 ghost use Rattle.mx_base.specs.declared.error.ReadError.TheVariants.{ReadFault};
@@ -30,6 +30,7 @@ impl FileBytes {
     pub(crate) fn new(alloc: Global) -> Result<Self, NoMemory>
         ensures place { IfOk result (λ made. made.place ≡ 0) }
         ensures ahead { (file : List ℕ) → IfOk result (IsAhead file) }
+        ensures none_ahead { IfOk result (λ made. made.filled ≡ made.from) }
     {
         Ok(FileBytes {
             buffer: vec![in alloc; 0; PIECE]?,
@@ -53,6 +54,7 @@ impl FileBytes {
         ensures write_quiet { F.write_faults files.new ≡ F.write_faults files.old }
         ensures fault { result ≡ Err ReadFault →
             Rose (F.read_faults files.old) (F.read_faults files.new) ⊎ Lacks (F.held files.old) name.now }
+        ensures lacking { Lacks (F.held files.old) name.now → self.old.filled ≡ self.old.from → result ≡ Err ReadFault }
         ensures place { IfOk result (λ byte.
             self.new.place ≡ self.old.place + (if is_some byte then 1 else 0)) }
         ensures later { self.old.place ≤ self.new.place }
@@ -89,6 +91,7 @@ impl FileBytes {
         ensures write_quiet { F.write_faults files.new ≡ F.write_faults files.old }
         ensures fault { result ≡ Err ReadFault →
             Rose (F.read_faults files.old) (F.read_faults files.new) ⊎ Lacks (F.held files.old) name.now }
+        ensures lacking { Lacks (F.held files.old) name.now → self.old.filled ≡ self.old.from → result ≡ Err ReadFault }
         ensures place { self.new.place ≡ self.old.place }
         ensures some { IfOk result (λ more. IsTrue more → self.new.from < self.new.filled) }
         ensures end { (file : List ℕ) → Holds (F.held files.old) name.now file → IsAhead file self.old →

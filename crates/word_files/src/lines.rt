@@ -28,6 +28,7 @@ impl FileBytes {
         ensures write_quiet { F.write_faults files.new ≡ F.write_faults files.old }
         ensures fault { result ≡ Err ReadFault →
             Rose (F.read_faults files.old) (F.read_faults files.new) ⊎ Lacks (F.held files.old) name.now }
+        ensures lacking { Lacks (F.held files.old) name.now → self.old.filled ≡ self.old.from → result ≡ Err ReadFault }
         ensures bound { IfOk result (λ line. IfSome line (λ n. n ≤ 33)) }
         ensures place { IfOk result (λ line.
             MatchOption line (self.new.place ≡ self.old.place) (λ _. self.old.place < self.new.place)) }

@@ -1,5 +1,5 @@
 // Reading a file of words.
-ghost use Rattle.std.specs.Prelude.{◌≡◌, ◌⊎◌, ◌≤◌, ◌<◌, ◌+◌, ◌^◌, ℕ, List, Option, slice_get, is_some, if◌then◌else◌, IfOk, OnOk, IsSome, Some, None};
+ghost use Rattle.std.specs.Prelude.{◌≡◌, ◌⊎◌, ◌≤◌, ◌<◌, ◌+◌, ◌^◌, ℕ, List, Option, slice_get, is_some, if◌then◌else◌, IfOk, IfSome, OnOk, IsSome, Some, None};
 ghost use Rattle.mx_base.specs.Counts.{Rose};
 ghost use Rattle.mx_base.specs.Files.{Holds, Lacks};
 
@@ -32,7 +32,7 @@ pub struct WordReader {
 
 impl WordReader {
     ghost use Rattle.word_files.specs.Lines.{lines_of};
-    ghost use Rattle.word_files.specs.WordFiles.{Follows, IsOfLine, Judges, Keeps, Answers, refusal_of};
+    ghost use Rattle.word_files.specs.WordFiles.{Follows, IsUnread, IsOfLine, Judges, Keeps, Answers, refusal_of};
     ghost use Rattle.word_files.specs.declared.error.RunError.TheVariants.{ReadFault, NoMemory as WantOfMemory};
     ghost use Rattle.word_files.specs.declared.refusal.Refusal.{Refusal};
     ghost use Rattle.word_files.specs.declared.refusal.Refusal.TheVariants as kept;
@@ -46,6 +46,7 @@ impl WordReader {
         ensures lines { IfOk result (λ made. made.lines ≡ 0) }
         ensures unrefused { IfOk result (λ made. made.refusal ≡ None) }
         ensures follows { (file : List ℕ) → IfOk result (Follows file) }
+        ensures unread { IfOk result IsUnread }
     {
         Ok(WordReader {
             alloc,
@@ -77,6 +78,10 @@ impl WordReader {
         ensures kept { Keeps self.old.name self.new.refusal result }
         ensures fault { self.old.refusal ≡ None → result ≡ Err ReadFault →
             Rose (F.read_faults files.old) (F.read_faults files.new) ⊎ Lacks (F.held files.old) self.old.name }
+
+        // Each word has the width. Of a file that isn't held nothing is read.
+        ensures wide { IfOk result (λ word. IfSome word (λ w. w.width ≡ self.old.width)) }
+        ensures lacking { Lacks (F.held files.old) self.old.name → IsUnread self.old → result ≡ Err ReadFault }
 
         // The line after those read decides, where the file is held.
         ensures line { (file : List ℕ) → Holds (F.held files.old) self.old.name file → Follows file self.old →
@@ -129,6 +134,8 @@ impl WordReader {
         ensures refusal { self.new.refusal ≡ self.old.refusal }
         ensures fault { result ≡ Err kept.ReadFault →
             Rose (F.read_faults files.old) (F.read_faults files.new) ⊎ Lacks (F.held files.old) self.old.name }
+        ensures wide { IfOk result (λ word. IfSome word (λ w. w.width ≡ self.old.width)) }
+        ensures lacking { Lacks (F.held files.old) self.old.name → IsUnread self.old → result ≡ Err kept.ReadFault }
         ensures line { (file : List ℕ) → Holds (F.held files.old) self.old.name file → Follows file self.old →
             Judges self.old.width (self.old.lines + 1) (slice_get (lines_of file) self.old.lines) result }
         ensures follows { (file : List ℕ) → Holds (F.held files.old) self.old.name file → Follows file self.old →

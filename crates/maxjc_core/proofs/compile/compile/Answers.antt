@@ -1,7 +1,6 @@
-use Rattle.std.proofs.Common.{◌≡◌, inl, inr, ⊎_elim, sym, ◌∙◌, List, ℕ}
-use Rattle.std.specs.Prelude.{IsSome}
-use Rattle.mx_base.specs.Files.{Held, Holds, Lacks}
-use Rattle.maxjc_core.specs.Causes.{IsOfNoForm, IsWithin, Stands, IsReadable}
+use Rattle.std.proofs.Common.{inl, inr, ⊎_elim}
+use Rattle.mx_base.specs.Files.{Held}
+use Rattle.maxjc_core.specs.Causes.{file_limit, IsOfNoForm, Stands}
 use Rattle.maxjc_core.specs.Compiling.{Compiles}
 use Rattle.maxjc_core.specs.Named.{names_told}
 use Rattle.maxjc_core.proofs.Reading.{found, within, read_stops, missing_stops}
@@ -42,7 +41,7 @@ returns-in-Ok-clause-answers g c =
     let names = names_told c.args.names in
     let held : Held = g.F.Files.held c.args.files.now in
     let same = c.in-Ok.ensures.same in
-    read_stops held names.table c.in-Err-skip_table.stop (Stands names held) c.in-Err-skip_table.ensures.refused
+    read_stops file_limit held names.table c.in-Err-skip_table.stop (Stands names held) c.in-Err-skip_table.ensures.refused
     (λ file holds. c.in-Err-skip_table.ensures.too_large file (rw same holds))
     (λ l. let e = c.in-Err-skip_table.ensures.lacking (rw same l) in cc)
     (λ told past. Stands.table_too_large (record {
@@ -60,6 +59,6 @@ pub returns-clause-answers : goal.returns-clause-answers
 returns-clause-answers g c =
     let names = names_told c.args.names in
     let held : Held = g.F.Files.held c.args.files.now in
-    read_stops held names.source c.in-Err.stop (Stands names held) c.in-Err.ensures.refused c.in-Err.ensures.too_large
+    read_stops file_limit held names.source c.in-Err.stop (Stands names held) c.in-Err.ensures.refused c.in-Err.ensures.too_large
     (λ l. let e = c.in-Err.ensures.lacking l in cc)
     (λ told past. Stands.source_too_large past)

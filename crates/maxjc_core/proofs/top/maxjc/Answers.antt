@@ -1,51 +1,85 @@
-use Rattle.std.proofs.Common.{◌≡◌, Some, sym, subst, refl, ap, ℕ, List}
-use Rattle.mx_base.specs.Files.{Held, Holds}
-use Rattle.maxjc_core.specs.Command.{Names, command_of}
-use Rattle.maxjc_core.specs.Causes.{IsBuilt, Stands}
-use Rattle.maxjc_core.specs.Named.{names_told}
-use Rattle.maxjc_core.specs.Ends.{IsDone}
-use Rattle.maxjc_core.specs.Stops.{IsCompiled}
-use Rattle.maxjc_core.specs.Refusals.{cause_told}
-use Rattle.maxjc_core.proofs.Exclusion.{excluded, told, told_from_cause, built_from_compiled}
+use Rattle.std.proofs.Common.{◌≡◌, ◌⊎◌, ℕ, List, Some, sym, subst}
+use Rattle.std.specs.Prelude.{IsSome}
+use Rattle.mx_base.specs.Counts.{Rose}
+use Rattle.mx_base.specs.Files.{Held}
+use Rattle.rtl_ir.specs.Flat.{Families}
+use Rattle.stall_source.specs.Stalls.{Answers}
+use Rattle.simulation.specs.Ends as ends
+use Rattle.simulation.specs.Ends.{Ends}
+use Rattle.maxjc_core.specs.Command.{RunNames, Simulate, command_of}
+use Rattle.maxjc_core.specs.Ends.{IsCutOff}
+use Rattle.maxjc_core.specs.Loading.{IsLoaded, setup}
+use Rattle.maxjc_core.specs.Named.{run_told}
+use Rattle.maxjc_core.specs.RunCauses.{IsSmall, LacksInput}
+use Rattle.maxjc_core.specs.RunEnds.{AreFirstWords}
+use Rattle.maxjc_core.specs.declared.status.Status.TheVariants.{Done, EdgeLimit, Refused, ReadFault}
+use Rattle.maxjc_core.specs.Summing.{WritesAllSums}
+use Rattle.maxjc_core.proofs.OneCommand.{same_run_names}
 use Rattle.maxjc_core.proofs.top.maxjc.Goals as goal
 
--- a list of words is one command
-one_command : (words : List (List ℕ)) (a b : Names) → command_of words ≡ Some a → command_of words ≡ Some b → a ≡ b
-one_command words a b p q = cc
+pub returns-in-Some-Simulate-clause-run_ends_done : goal.returns-in-Some-Simulate-clause-run_ends_done
+returns-in-Some-Simulate-clause-run_ends_done g c = λ names is.
+    let told : command_of c.args.words.now.items ≡ Some (Simulate (run_told c.in-Some-Simulate.names)) = rw (c.deref.ensures.value, c.in-Some-Simulate.field-0-is) at c.in-Some-Simulate.ensures.some in
+    let same = same_run_names c.args.words.now.items (run_told c.in-Some-Simulate.names) names told is in
+    let stalls : Answers = λ pick edge port. g.G.Fn.post c.args.stalls.now.test (pick, (edge, (port, tt))) in
+    let held : Held = g.F.Files.held c.args.files.now in
+    let status = c.run_simulate.result in
+    subst (λ (n : RunNames). (l : IsLoaded n held) → IsSmall l → (restart : Families) (vs : List Families) (edges : ℕ) → Ends stalls (setup l) restart vs (ends.Done edges) → (status ≡ Done) ⊎ IsCutOff status) same c.run_simulate.ensures.ends_done
 
-pub returns-in-Ok-clause-done : goal.returns-in-Ok-clause-done
-returns-in-Ok-clause-done g c names command ended told =
-    let parsed = rw c.deref.ensures.value at c.in-Some.ensures.some in
-    let same : names_told c.in-Some.names ≡ names = one_command c.args.words.now.items _ names parsed command in
-    let before : Held = g.F.Files.held c.args.files.now in
-    let made = c.in-Ok.ensures.answers told in
-    let kept = c.in-Ok.ensures.same in
-    subst (λ (n : Names). IsDone n before (g.F.Files.held c.deliver.new.files) (g.S.Say.said c.args.say.now) (g.S.Say.said c.deliver.new.say)) same
-    (record {
-      files = made.files;
-      text = c.in-Ok.compiled.text.items;
-      line = c.in-Ok.compiled.summary.items;
-      compiles = made.compiles;
-      written = c.deliver.ensures.written ended (rw kept told);
-      said = c.deliver.ensures.said ended;
-    })
+pub returns-in-Some-Simulate-clause-run_ends_limited : goal.returns-in-Some-Simulate-clause-run_ends_limited
+returns-in-Some-Simulate-clause-run_ends_limited g c = λ names is.
+    let told : command_of c.args.words.now.items ≡ Some (Simulate (run_told c.in-Some-Simulate.names)) = rw (c.deref.ensures.value, c.in-Some-Simulate.field-0-is) at c.in-Some-Simulate.ensures.some in
+    let same = same_run_names c.args.words.now.items (run_told c.in-Some-Simulate.names) names told is in
+    let stalls : Answers = λ pick edge port. g.G.Fn.post c.args.stalls.now.test (pick, (edge, (port, tt))) in
+    let held : Held = g.F.Files.held c.args.files.now in
+    let status = c.run_simulate.result in
+    subst (λ (n : RunNames). (l : IsLoaded n held) → IsSmall l → (restart : Families) (vs : List Families) (edges : ℕ) → Ends stalls (setup l) restart vs (ends.Limit edges) → (status ≡ EdgeLimit) ⊎ IsCutOff status) same c.run_simulate.ensures.ends_limited
 
-pub returns-in-Ok-clause-stands : goal.returns-in-Ok-clause-stands
-returns-in-Ok-clause-stands g c names command cause stands =
-    let parsed = rw c.deref.ensures.value at c.in-Some.ensures.some in
-    let same : names ≡ names_told c.in-Some.names = one_command c.args.words.now.items names _ command parsed in
-    let before : Held = g.F.Files.held c.args.files.now in
-    let here = subst (λ (n : Names). Stands n before cause) same stands in
-    let made = c.in-Ok.ensures.answers (told_from_cause (names_told c.in-Some.names) before cause here) in
-    absurd (excluded (names_told c.in-Some.names) before cause here (built_from_compiled _ before _ _ made))
+pub returns-in-Some-Simulate-clause-run_read_fault : goal.returns-in-Some-Simulate-clause-run_read_fault
+returns-in-Some-Simulate-clause-run_read_fault g c = λ names is.
+    let told : command_of c.args.words.now.items ≡ Some (Simulate (run_told c.in-Some-Simulate.names)) = rw (c.deref.ensures.value, c.in-Some-Simulate.field-0-is) at c.in-Some-Simulate.ensures.some in
+    let same = same_run_names c.args.words.now.items (run_told c.in-Some-Simulate.names) names told is in
+    let stalls : Answers = λ pick edge port. g.G.Fn.post c.args.stalls.now.test (pick, (edge, (port, tt))) in
+    let held : Held = g.F.Files.held c.args.files.now in
+    let status = c.run_simulate.result in
+    subst (λ (n : RunNames). status ≡ ReadFault → Rose (g.F.Files.read_faults c.args.files.now) (g.F.Files.read_faults c.run_simulate.new.files) ⊎ LacksInput stalls n held) same c.run_simulate.ensures.read_fault
 
-pub returns-in-Err-Refused-clause-built : goal.returns-in-Err-Refused-clause-built
-returns-in-Err-Refused-clause-built g c names command built =
-    let parsed = rw c.deref.ensures.value at c.in-Some.ensures.some in
-    let same : names ≡ names_told c.in-Some.names = one_command c.args.words.now.items names _ command parsed in
-    let before : Held = g.F.Files.held c.args.files.now in
-    let here = subst (λ (n : Names). IsBuilt n before) same built in
-    let is_told = told before (names_told c.in-Some.names).source _ here.files.source_is.holds in
-    let cause = cause_told c.in-Err-Refused.refusal in
-    let stands : Stands (names_told c.in-Some.names) before cause = (rw c.in-Err-Refused.field-0-is at c.in-Err-Refused.ensures.answers) is_told in
-    absurd (excluded (names_told c.in-Some.names) before cause stands here)
+pub returns-in-Some-Simulate-clause-run_missing : goal.returns-in-Some-Simulate-clause-run_missing
+returns-in-Some-Simulate-clause-run_missing g c = λ names is.
+    let told : command_of c.args.words.now.items ≡ Some (Simulate (run_told c.in-Some-Simulate.names)) = rw (c.deref.ensures.value, c.in-Some-Simulate.field-0-is) at c.in-Some-Simulate.ensures.some in
+    let same = same_run_names c.args.words.now.items (run_told c.in-Some-Simulate.names) names told is in
+    let stalls : Answers = λ pick edge port. g.G.Fn.post c.args.stalls.now.test (pick, (edge, (port, tt))) in
+    let held : Held = g.F.Files.held c.args.files.now in
+    let status = c.run_simulate.result in
+    subst (λ (n : RunNames). LacksInput stalls n held → IsCutOff status) same c.run_simulate.ensures.missing
+
+pub returns-in-Some-Simulate-clause-run_begun : goal.returns-in-Some-Simulate-clause-run_begun
+returns-in-Some-Simulate-clause-run_begun g c = λ names is.
+    let told : command_of c.args.words.now.items ≡ Some (Simulate (run_told c.in-Some-Simulate.names)) = rw (c.deref.ensures.value, c.in-Some-Simulate.field-0-is) at c.in-Some-Simulate.ensures.some in
+    let same = same_run_names c.args.words.now.items (run_told c.in-Some-Simulate.names) names told is in
+    let stalls : Answers = λ pick edge port. g.G.Fn.post c.args.stalls.now.test (pick, (edge, (port, tt))) in
+    let held : Held = g.F.Files.held c.args.files.now in
+    let status = c.run_simulate.result in
+    subst (λ (n : RunNames). (status ≡ Refused) ⊎ (status ≡ ReadFault) → IsSome held → AreFirstWords stalls n held (g.F.Files.held c.run_simulate.new.files)) same c.run_simulate.ensures.begun
+
+pub returns-in-Some-Simulate-clause-run_others : goal.returns-in-Some-Simulate-clause-run_others
+returns-in-Some-Simulate-clause-run_others g c = λ names is.
+    let told : command_of c.args.words.now.items ≡ Some (Simulate (run_told c.in-Some-Simulate.names)) = rw (c.deref.ensures.value, c.in-Some-Simulate.field-0-is) at c.in-Some-Simulate.ensures.some in
+    let same = same_run_names c.args.words.now.items (run_told c.in-Some-Simulate.names) names told is in
+    rw (sym same) c.run_simulate.ensures.others
+
+pub returns-in-Some-Simulate-clause-run_sums_done : goal.returns-in-Some-Simulate-clause-run_sums_done
+returns-in-Some-Simulate-clause-run_sums_done g c = λ names is.
+    let told : command_of c.args.words.now.items ≡ Some (Simulate (run_told c.in-Some-Simulate.names)) = rw (c.deref.ensures.value, c.in-Some-Simulate.field-0-is) at c.in-Some-Simulate.ensures.some in
+    let same = same_run_names c.args.words.now.items (run_told c.in-Some-Simulate.names) names told is in
+    let held : Held = g.F.Files.held c.args.files.now in
+    let status = c.run_simulate.result in
+    subst (λ (n : RunNames). status ≡ Done → IsSome held → WritesAllSums n held (g.F.Files.held c.run_simulate.new.files)) same c.run_simulate.ensures.sums_done
+
+pub returns-in-Some-Simulate-clause-run_sums_limited : goal.returns-in-Some-Simulate-clause-run_sums_limited
+returns-in-Some-Simulate-clause-run_sums_limited g c = λ names is.
+    let told : command_of c.args.words.now.items ≡ Some (Simulate (run_told c.in-Some-Simulate.names)) = rw (c.deref.ensures.value, c.in-Some-Simulate.field-0-is) at c.in-Some-Simulate.ensures.some in
+    let same = same_run_names c.args.words.now.items (run_told c.in-Some-Simulate.names) names told is in
+    let held : Held = g.F.Files.held c.args.files.now in
+    let status = c.run_simulate.result in
+    subst (λ (n : RunNames). status ≡ EdgeLimit → IsSome held → WritesAllSums n held (g.F.Files.held c.run_simulate.new.files)) same c.run_simulate.ensures.sums_limited

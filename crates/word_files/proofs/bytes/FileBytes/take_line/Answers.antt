@@ -1,5 +1,6 @@
 use Rattle.std.proofs.Common.{take, drop, [], inl, inr, sym, ap, ◌∙◌, arith}
 use Rattle.std.proofs.lemmas.List.{length-set}
+use Rattle.std.proofs.lemmas.Result.{err_from_is_err_and}
 use Rattle.word_files.specs.Lines.{lines_from}
 use Rattle.word_files.proofs.LineLemmas.{left_none, goes_on, ends, stops, begins_with, some_taken}
 use Rattle.word_files.proofs.bytes.FileBytes.take_line.Goals as goal
@@ -37,6 +38,8 @@ loop-count-preserved g c =
       write_quiet = c.in_ok-byte.ensures.write_quiet ∙ l.invariant.write_quiet;
       place = omega (arith, place, l.invariant.place);
       ahead = λ file held ahead. c.in_ok-byte.ensures.ahead file (rw l.invariant.same held) (l.invariant.ahead file held ahead);
+      lacking = λ lacks none.
+          absurd (let refused = c.in_ok-byte.ensures.lacking (rw l.invariant.same lacks) (l.invariant.lacking lacks none).1 in cc);
       begun = λ file held ahead.
           let byte = c.in_ok-byte.ensures.byte file (rw l.invariant.same held) (l.invariant.ahead file held ahead) in
           l.invariant.begun file held ahead ∙ goes_on file l.piece l.count l.self.place c.next_byte.new.self.place c.in-Some.byte (sym byte ∙ c.in-Some.is) c.if-byte-eq10.false (omega arith) place;
@@ -48,3 +51,28 @@ returns-clause-line g c = λ file held ahead.
     let some = some_taken l.piece l.count (omega arith) (omega arith) in
     let begins = begins_with (take l.count l.piece) (drop l.self.place file) some in
     inr (omega (arith, l.invariant.bound), (begins.0, begins.1, l.invariant.begun file held ahead ∙ begins.2))
+
+pub returns-then-count-eq0-clause-lacking : goal.returns-then-count-eq0-clause-lacking
+returns-then-count-eq0-clause-lacking g c = λ lacks none.
+    let l = c.loop-count in
+    absurd (let refused = c.in_ok-byte.ensures.lacking (rw l.invariant.same lacks) (l.invariant.lacking lacks none).1 in cc)
+
+pub returns-in_default-clause-lacking : goal.returns-in_default-clause-lacking
+returns-in_default-clause-lacking g c = λ lacks none.
+    let l = c.loop-count in
+    absurd (let refused = c.in_ok-byte.ensures.lacking (rw l.invariant.same lacks) (l.invariant.lacking lacks none).1 in cc)
+
+pub returns-then-byte-eq10-clause-lacking : goal.returns-then-byte-eq10-clause-lacking
+returns-then-byte-eq10-clause-lacking g c = λ lacks none.
+    let l = c.loop-count in
+    absurd (let refused = c.in_ok-byte.ensures.lacking (rw l.invariant.same lacks) (l.invariant.lacking lacks none).1 in cc)
+
+pub returns-in_err-byte-clause-lacking : goal.returns-in_err-byte-clause-lacking
+returns-in_err-byte-clause-lacking g c = λ lacks none.
+    let l = c.loop-count in
+    let refused = c.in_err-byte.ensures.lacking (rw l.invariant.same lacks) (l.invariant.lacking lacks none).1 in
+    let p = err_from_is_err_and c.from_residual.result c.from_residual.ensures.1 in rw (p.1, p.2) refused
+
+pub returns-clause-lacking : goal.returns-clause-lacking
+returns-clause-lacking g c = λ lacks none.
+    absurd (let at = (c.loop-count.invariant.lacking lacks none).0 in omega arith)

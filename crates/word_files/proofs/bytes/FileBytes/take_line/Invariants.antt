@@ -1,5 +1,5 @@
 use Rattle.std.proofs.Common.{◌≡◌, ◌≤◌, ◌+◌, ◌-◌, ℕ, List, [], length, take, drop}
-use Rattle.mx_base.specs.Files.{Holds}
+use Rattle.mx_base.specs.Files.{Holds, Lacks}
 use Rattle.word_files.specs.Ahead.{IsAhead}
 use Rattle.word_files.specs.Lines.{lines_from}
 use Rattle.word_files.proofs.bytes.FileBytes.take_line.Given as goal
@@ -14,6 +14,7 @@ invariant-loop-count g l = record {
   write_quiet : g.F.Files.write_faults l.files ≡ g.F.Files.write_faults l.fn.files;
   place : l.self.place ≡ l.fn.self.place + l.count;
   ahead : (file : List ℕ) → Holds (g.F.Files.held l.fn.files) l.name file → IsAhead file l.fn.self → IsAhead file l.self;
+  lacking : Lacks (g.F.Files.held l.fn.files) l.name → l.fn.self.filled ≡ l.fn.self.from → (l.count ≡ 0) × (l.self.filled ≡ l.self.from);
   begun : (file : List ℕ) → Holds (g.F.Files.held l.fn.files) l.name file → IsAhead file l.fn.self →
       lines_from [] (drop l.fn.self.place file) ≡ lines_from (take l.count l.piece) (drop l.self.place file);
 }

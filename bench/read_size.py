@@ -1,0 +1,79 @@
+#!/usr/bin/env python3
+"""Time and memory of reading Verilog texts.
+
+Texts of growing size up to 2^26 bytes are read by `maxjc simulate` with a run file that is no JSON, so
+that the command ends with `refused U1` once the text is read. One text is of assignments as they are
+printed, one is of the shortest assignments that there are, which has the most tokens and nets a byte.
+Memory is the greatest resident set of the program; the bar is 40 bytes a byte of text.
+
+    bench/read_size.py [EXPONENT]
+"""
+import pathlib
+import sys
+import tempfile
+
+import compile_size
+import simulate_speed
+import os
+import subprocess
+import time
+
+TOP = pathlib.Path(__file__).resolve().parent.parent
+BAR = 40
+
+
+def printed(size):
+    lines = [simulate_speed.HEAD, "assign out$y$data = in$x$data;\n"]
+    length, number = sum(map(len, lines)) + len("endmodule\n"), 0
+    while True:
+        line = f"wire [31:0] w{number};\nassign w{number} = in$x$data + in$x$data;\n"
+        if length + len(line) > size:
+            break
+        lines.append(line)
+        length, number = length + len(line), number + 1
+    return "".join(lines) + "endmodule\n" + " " * (size - length)
+
+
+def dense(size):
+    lines = [simulate_speed.HEAD, "assign out$y$data=in$x$data;"]
+    length, number = sum(map(len, lines)) + len("endmodule"), 0
+    while True:
+        name = compile_size.name_of(number)
+        line = f"wire[0:0]{name};assign {name}=go;"
+        if length + len(line) > size:
+            break
+        lines.append(line)
+        length, number = length + len(line), number + 1
+    return "".join(lines) + "endmodule" + " " * (size - length)
+
+
+def measure(text):
+    with tempfile.TemporaryDirectory() as work:
+        path = os.path.join(work, "text.v")
+        pathlib.Path(path).write_text(text)
+        run = os.path.join(work, "run.json")
+        pathlib.Path(run).write_text("[")
+        before = time.time()
+        process = subprocess.Popen([str(TOP / "crates/maxjc/out/maxjc"), "simulate", path, run], stdout=subprocess.PIPE)
+        memory = 0
+        while process.poll() is None:
+            memory = max(memory, compile_size.high_water(process.pid))
+            time.sleep(0.001)
+        return process.stdout.read().decode().strip(), time.time() - before, memory
+
+
+def main():
+    top = int(sys.argv[1]) if len(sys.argv) > 1 else 26
+    subprocess.run([str(TOP / "maxjc")], stdout=subprocess.DEVNULL)
+    bad = False
+    for kind, make in [("printed", printed), ("dense", dense)]:
+        for exponent in (top - 4, top - 2, top):
+            size = 1 << exponent
+            said, seconds, memory = measure(make(size))
+            bad |= said != "refused U1" or memory > BAR * size + 2**26
+            print(f"{kind}, {size} bytes: {said}, {seconds:.2f} s, {memory / 2**20:.0f} MiB, {memory / size:.1f} bytes a byte")
+    return 1 if bad else 0
+
+
+if __name__ == "__main__":
+    sys.exit(main())

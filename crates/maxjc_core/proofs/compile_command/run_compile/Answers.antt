@@ -1,0 +1,35 @@
+use Rattle.mx_base.specs.Files.{Held}
+use Rattle.maxjc_core.specs.Causes.{Stands}
+use Rattle.maxjc_core.specs.Named.{names_told}
+use Rattle.maxjc_core.specs.Refusals.{cause_told}
+use Rattle.maxjc_core.proofs.Exclusion.{excluded, told, told_from_cause, built_from_compiled}
+use Rattle.maxjc_core.proofs.compile_command.run_compile.Goals as goal
+
+pub returns-in-Ok-clause-done : goal.returns-in-Ok-clause-done
+returns-in-Ok-clause-done g c = λ ended told.
+    let made = c.in-Ok.ensures.answers told in
+    let kept = c.in-Ok.ensures.same in
+    record {
+      files = made.files;
+      text = c.in-Ok.compiled.text.items;
+      line = c.in-Ok.compiled.summary.items;
+      compiles = made.compiles;
+      written = c.deliver.ensures.written ended (rw kept told);
+      said = c.deliver.ensures.said ended;
+    }
+
+pub returns-in-Ok-clause-stands : goal.returns-in-Ok-clause-stands
+returns-in-Ok-clause-stands g c = λ cause stands.
+    let before : Held = g.F.Files.held c.args.files.now in
+    let names = names_told c.args.names in
+    let made = c.in-Ok.ensures.answers (told_from_cause names before cause stands) in
+    absurd (excluded names before cause stands (built_from_compiled _ before _ _ made))
+
+pub returns-in-Err-Refused-clause-built : goal.returns-in-Err-Refused-clause-built
+returns-in-Err-Refused-clause-built g c = λ built.
+    let before : Held = g.F.Files.held c.args.files.now in
+    let names = names_told c.args.names in
+    let is_told = told before names.source _ built.files.source_is.holds in
+    let cause = cause_told c.in-Err-Refused.refusal in
+    let stands : Stands names before cause = (rw c.in-Err-Refused.field-0-is at c.in-Err-Refused.ensures.answers) is_told in
+    absurd (excluded names before cause stands built)

@@ -1,0 +1,15 @@
+use Rattle.std.proofs.Common.{ℕ, List, map, sym, subst}
+use Rattle.mx_base.specs.Files.{Name}
+use Rattle.rtl_ir.specs.Rules.{AllDiffer}
+use Rattle.maxjc_core.specs.LoadStops.{IsUnfit, IsUnfitFor}
+use Rattle.maxjc_core.proofs.RunReading.{refused_so}
+use Rattle.maxjc_core.proofs.load.plan_for.Goals as goal
+
+pub returns-in-Ok-clause-apart : goal.returns-in-Ok-clause-apart
+returns-in-Ok-clause-apart c = λ s is d run differ.
+    c.in_ok-plan_of-in-Ok.ensures.apart d run (subst (λ (ys : List (Name × ℕ)). AllDiffer (map (λ (y : Name × ℕ). y.0) ys)) (sym (c.in_ok-ports.ensures s is).outputs) differ)
+
+pub returns-clause-unfit : goal.returns-clause-unfit
+returns-clause-unfit c = λ s is.
+    refused_so c.in-Err.stop (IsUnfitFor c.args.run.now c.in_ok-ports.ports) (IsUnfit c.args.run.now s)
+    (λ cause u. record { ports = c.in_ok-ports.ports; are = c.in_ok-ports.ensures s is; unfit = u }) c.in-Err.ensures.unfit

@@ -1,0 +1,173 @@
+use Rattle.std.proofs.Common.{◌∙◌, Ok, Err, inr, ⊎_elim}
+use Rattle.std.specs.Prelude.{IsSome}
+use Rattle.mx_base.specs.Files.{Held}
+use Rattle.maxjc_core.specs.Named.{run_told}
+use Rattle.maxjc_core.specs.Refusals.{cause_told}
+use Rattle.maxjc_core.specs.RunCauses.{StandsIn, IsFaulty}
+use Rattle.maxjc_core.specs.RunStops.{stop_cause}
+use Rattle.maxjc_core.proofs.OneModule.{alone}
+use Rattle.maxjc_core.proofs.RunEnding.{IsMade, IsSimulated, simulated, ends_so}
+use Rattle.maxjc_core.proofs.RunClauses.{stopped_not_done, stopped_not_limited, run_done, run_limited, answers_done, answers_limited, fails_done, fails_limited, stands_not, lacks_not, lacks_cut_off, others_so, refused_stands, read_fault_so, begun_stopped, fault_told, failed_so, reads_no_other, writes_no_other, quiet_reads, quiet_writes}
+use Rattle.maxjc_core.proofs.Summing.{sums_so}
+use Rattle.maxjc_core.proofs.simulate_command.run_simulate.Goals as goal
+
+pub simulate-requires-clause-alone : goal.simulate-requires-clause-alone
+simulate-requires-clause-alone g c = alone c.in-Ok.ensures.can_run.bytes c.in-Ok.field-0.design c.in-Ok.ensures.can_run.is
+
+pub returns-in-Ok-simulate-clause-done : goal.returns-in-Ok-simulate-clause-done
+returns-in-Ok-simulate-clause-done g c =
+    let held : Held = g.F.Files.held c.args.files.now in
+    let made : IsMade (run_told c.args.names) held c.in-Ok.field-0.design c.in-Ok.field-0.plan = record { can = c.in-Ok.ensures.can_run; loaded = c.in-Ok.ensures.answers } in
+    let sim : IsSimulated (λ pick edge port. g.G.Fn.post c.args.stalls.now.test (pick, (edge, (port, tt)))) c.in-Ok.field-0.design c.in-Ok.field-0.plan held (g.F.Files.held c.simulate.new.files) (Ok c.in-Ok-simulate.outcome) =
+    simulated c.in-Ok.ensures.same c.in-Ok-simulate.ensures.tells c.in-Ok-simulate.ensures.exact c.in-Ok-simulate.ensures.cells c.in-Ok-simulate.ensures.too_many in
+    run_done c.in-Ok-simulate.outcome c.report.result _ _ made sim c.report.ensures.ends c.report.ensures.said
+
+pub returns-in-Ok-simulate-clause-limited : goal.returns-in-Ok-simulate-clause-limited
+returns-in-Ok-simulate-clause-limited g c =
+    let held : Held = g.F.Files.held c.args.files.now in
+    let made : IsMade (run_told c.args.names) held c.in-Ok.field-0.design c.in-Ok.field-0.plan = record { can = c.in-Ok.ensures.can_run; loaded = c.in-Ok.ensures.answers } in
+    let sim : IsSimulated (λ pick edge port. g.G.Fn.post c.args.stalls.now.test (pick, (edge, (port, tt)))) c.in-Ok.field-0.design c.in-Ok.field-0.plan held (g.F.Files.held c.simulate.new.files) (Ok c.in-Ok-simulate.outcome) =
+    simulated c.in-Ok.ensures.same c.in-Ok-simulate.ensures.tells c.in-Ok-simulate.ensures.exact c.in-Ok-simulate.ensures.cells c.in-Ok-simulate.ensures.too_many in
+    run_limited c.in-Ok-simulate.outcome c.report.result _ _ made sim c.report.ensures.ends c.report.ensures.said
+
+pub returns-in-Ok-simulate-clause-ends_done : goal.returns-in-Ok-simulate-clause-ends_done
+returns-in-Ok-simulate-clause-ends_done g c =
+    let held : Held = g.F.Files.held c.args.files.now in
+    let made : IsMade (run_told c.args.names) held c.in-Ok.field-0.design c.in-Ok.field-0.plan = record { can = c.in-Ok.ensures.can_run; loaded = c.in-Ok.ensures.answers } in
+    let sim : IsSimulated (λ pick edge port. g.G.Fn.post c.args.stalls.now.test (pick, (edge, (port, tt)))) c.in-Ok.field-0.design c.in-Ok.field-0.plan held (g.F.Files.held c.simulate.new.files) (Ok c.in-Ok-simulate.outcome) =
+    simulated c.in-Ok.ensures.same c.in-Ok-simulate.ensures.tells c.in-Ok-simulate.ensures.exact c.in-Ok-simulate.ensures.cells c.in-Ok-simulate.ensures.too_many in
+    λ l small restart vs edges ends. answers_done c.in-Ok-simulate.outcome edges c.report.result (ends_so l made sim small restart vs _ ends) c.report.ensures.ends
+
+pub returns-in-Ok-simulate-clause-ends_limited : goal.returns-in-Ok-simulate-clause-ends_limited
+returns-in-Ok-simulate-clause-ends_limited g c =
+    let held : Held = g.F.Files.held c.args.files.now in
+    let made : IsMade (run_told c.args.names) held c.in-Ok.field-0.design c.in-Ok.field-0.plan = record { can = c.in-Ok.ensures.can_run; loaded = c.in-Ok.ensures.answers } in
+    let sim : IsSimulated (λ pick edge port. g.G.Fn.post c.args.stalls.now.test (pick, (edge, (port, tt)))) c.in-Ok.field-0.design c.in-Ok.field-0.plan held (g.F.Files.held c.simulate.new.files) (Ok c.in-Ok-simulate.outcome) =
+    simulated c.in-Ok.ensures.same c.in-Ok-simulate.ensures.tells c.in-Ok-simulate.ensures.exact c.in-Ok-simulate.ensures.cells c.in-Ok-simulate.ensures.too_many in
+    λ l small restart vs edges ends. answers_limited c.in-Ok-simulate.outcome edges c.report.result (ends_so l made sim small restart vs _ ends) c.report.ensures.ends
+
+pub returns-in-Ok-simulate-clause-stands : goal.returns-in-Ok-simulate-clause-stands
+returns-in-Ok-simulate-clause-stands g c =
+    let held : Held = g.F.Files.held c.args.files.now in
+    let made : IsMade (run_told c.args.names) held c.in-Ok.field-0.design c.in-Ok.field-0.plan = record { can = c.in-Ok.ensures.can_run; loaded = c.in-Ok.ensures.answers } in
+    let sim : IsSimulated (λ pick edge port. g.G.Fn.post c.args.stalls.now.test (pick, (edge, (port, tt)))) c.in-Ok.field-0.design c.in-Ok.field-0.plan held (g.F.Files.held c.simulate.new.files) (Ok c.in-Ok-simulate.outcome) =
+    simulated c.in-Ok.ensures.same c.in-Ok-simulate.ensures.tells c.in-Ok-simulate.ensures.exact c.in-Ok-simulate.ensures.cells c.in-Ok-simulate.ensures.too_many in
+    λ cause stands. absurd (stands_not made sim c.in-Ok.ensures.faulty cause stands)
+
+pub returns-in-Ok-simulate-clause-missing : goal.returns-in-Ok-simulate-clause-missing
+returns-in-Ok-simulate-clause-missing g c =
+    let held : Held = g.F.Files.held c.args.files.now in
+    let made : IsMade (run_told c.args.names) held c.in-Ok.field-0.design c.in-Ok.field-0.plan = record { can = c.in-Ok.ensures.can_run; loaded = c.in-Ok.ensures.answers } in
+    let sim : IsSimulated (λ pick edge port. g.G.Fn.post c.args.stalls.now.test (pick, (edge, (port, tt)))) c.in-Ok.field-0.design c.in-Ok.field-0.plan held (g.F.Files.held c.simulate.new.files) (Ok c.in-Ok-simulate.outcome) =
+    simulated c.in-Ok.ensures.same c.in-Ok-simulate.ensures.tells c.in-Ok-simulate.ensures.exact c.in-Ok-simulate.ensures.cells c.in-Ok-simulate.ensures.too_many in
+    λ lacks. absurd (lacks_not made sim (λ file. ⊎_elim (λ e. cc) (λ e. cc) (c.in-Ok.ensures.missing file)) lacks)
+
+pub returns-in-Ok-simulate-clause-others : goal.returns-in-Ok-simulate-clause-others
+returns-in-Ok-simulate-clause-others g c =
+    let held : Held = g.F.Files.held c.args.files.now in
+    let made : IsMade (run_told c.args.names) held c.in-Ok.field-0.design c.in-Ok.field-0.plan = record { can = c.in-Ok.ensures.can_run; loaded = c.in-Ok.ensures.answers } in
+    others_so made (rw c.in-Ok.ensures.same at c.in-Ok-simulate.ensures.others)
+
+pub returns-in-Ok-clause-ends_done : goal.returns-in-Ok-clause-ends_done
+returns-in-Ok-clause-ends_done g c =
+    let held : Held = g.F.Files.held c.args.files.now in
+    let made : IsMade (run_told c.args.names) held c.in-Ok.field-0.design c.in-Ok.field-0.plan = record { can = c.in-Ok.ensures.can_run; loaded = c.in-Ok.ensures.answers } in
+    let sim : IsSimulated (λ pick edge port. g.G.Fn.post c.args.stalls.now.test (pick, (edge, (port, tt)))) c.in-Ok.field-0.design c.in-Ok.field-0.plan held (g.F.Files.held c.simulate.new.files) (Err c.in-Err.stop) =
+    simulated c.in-Ok.ensures.same c.in-Err.ensures.tells c.in-Err.ensures.exact c.in-Err.ensures.cells c.in-Err.ensures.too_many in
+    λ l small restart vs edges ends. inr (fails_done edges c.in-Err.stop c.stopped.result (ends_so l made sim small restart vs _ ends) c.stopped.ensures.ends)
+
+pub returns-in-Ok-clause-ends_limited : goal.returns-in-Ok-clause-ends_limited
+returns-in-Ok-clause-ends_limited g c =
+    let held : Held = g.F.Files.held c.args.files.now in
+    let made : IsMade (run_told c.args.names) held c.in-Ok.field-0.design c.in-Ok.field-0.plan = record { can = c.in-Ok.ensures.can_run; loaded = c.in-Ok.ensures.answers } in
+    let sim : IsSimulated (λ pick edge port. g.G.Fn.post c.args.stalls.now.test (pick, (edge, (port, tt)))) c.in-Ok.field-0.design c.in-Ok.field-0.plan held (g.F.Files.held c.simulate.new.files) (Err c.in-Err.stop) =
+    simulated c.in-Ok.ensures.same c.in-Err.ensures.tells c.in-Err.ensures.exact c.in-Err.ensures.cells c.in-Err.ensures.too_many in
+    λ l small restart vs edges ends. inr (fails_limited edges c.in-Err.stop c.stopped.result (ends_so l made sim small restart vs _ ends) c.stopped.ensures.ends)
+
+pub returns-in-Ok-clause-refused : goal.returns-in-Ok-clause-refused
+returns-in-Ok-clause-refused g c =
+    let held : Held = g.F.Files.held c.args.files.now in
+    let made : IsMade (run_told c.args.names) held c.in-Ok.field-0.design c.in-Ok.field-0.plan = record { can = c.in-Ok.ensures.can_run; loaded = c.in-Ok.ensures.answers } in
+    let sim : IsSimulated (λ pick edge port. g.G.Fn.post c.args.stalls.now.test (pick, (edge, (port, tt)))) c.in-Ok.field-0.design c.in-Ok.field-0.plan held (g.F.Files.held c.simulate.new.files) (Err c.in-Err.stop) =
+    simulated c.in-Ok.ensures.same c.in-Err.ensures.tells c.in-Err.ensures.exact c.in-Err.ensures.cells c.in-Err.ensures.too_many in
+    λ refused. record {
+      cause = stop_cause c.in-Err.stop;
+      stands = refused_stands c.in-Err.stop c.stopped.result made sim c.stopped.ensures.ends refused;
+      said = c.stopped.ensures.said refused;
+    }
+
+pub returns-in-Ok-clause-read_fault : goal.returns-in-Ok-clause-read_fault
+returns-in-Ok-clause-read_fault g c =
+    let held : Held = g.F.Files.held c.args.files.now in
+    let made : IsMade (run_told c.args.names) held c.in-Ok.field-0.design c.in-Ok.field-0.plan = record { can = c.in-Ok.ensures.can_run; loaded = c.in-Ok.ensures.answers } in
+    let sim : IsSimulated (λ pick edge port. g.G.Fn.post c.args.stalls.now.test (pick, (edge, (port, tt)))) c.in-Ok.field-0.design c.in-Ok.field-0.plan held (g.F.Files.held c.simulate.new.files) (Err c.in-Err.stop) =
+    simulated c.in-Ok.ensures.same c.in-Err.ensures.tells c.in-Err.ensures.exact c.in-Err.ensures.cells c.in-Err.ensures.too_many in
+    let count = c.in-Ok.ensures.quiet (λ e. cc) in
+    read_fault_so c.in-Err.stop c.stopped.result made sim c.stopped.ensures.ends
+    (λ e. fault_told
+    (rw (c.in-Ok.ensures.same, count) at c.in-Err.ensures.read_fault made.can.is.top made.can.is.shape made.can.is.is_top made.can.is.is_run.has (failed_so e))
+    (rw (c.in-Ok.ensures.same, count) at c.in-Err.ensures.read_fault_told (failed_so e)))
+
+pub returns-in-Ok-clause-missing : goal.returns-in-Ok-clause-missing
+returns-in-Ok-clause-missing g c =
+    let held : Held = g.F.Files.held c.args.files.now in
+    let made : IsMade (run_told c.args.names) held c.in-Ok.field-0.design c.in-Ok.field-0.plan = record { can = c.in-Ok.ensures.can_run; loaded = c.in-Ok.ensures.answers } in
+    let sim : IsSimulated (λ pick edge port. g.G.Fn.post c.args.stalls.now.test (pick, (edge, (port, tt)))) c.in-Ok.field-0.design c.in-Ok.field-0.plan held (g.F.Files.held c.simulate.new.files) (Err c.in-Err.stop) =
+    simulated c.in-Ok.ensures.same c.in-Err.ensures.tells c.in-Err.ensures.exact c.in-Err.ensures.cells c.in-Err.ensures.too_many in
+    lacks_cut_off c.stopped.result made sim c.stopped.ensures.ends (λ file. ⊎_elim (λ e. cc) (λ e. cc) (c.in-Ok.ensures.missing file))
+
+pub returns-in-Ok-clause-begun : goal.returns-in-Ok-clause-begun
+returns-in-Ok-clause-begun g c =
+    let held : Held = g.F.Files.held c.args.files.now in
+    let made : IsMade (run_told c.args.names) held c.in-Ok.field-0.design c.in-Ok.field-0.plan = record { can = c.in-Ok.ensures.can_run; loaded = c.in-Ok.ensures.answers } in
+    let sim : IsSimulated (λ pick edge port. g.G.Fn.post c.args.stalls.now.test (pick, (edge, (port, tt)))) c.in-Ok.field-0.design c.in-Ok.field-0.plan held (g.F.Files.held c.simulate.new.files) (Err c.in-Err.stop) =
+    simulated c.in-Ok.ensures.same c.in-Err.ensures.tells c.in-Err.ensures.exact c.in-Err.ensures.cells c.in-Err.ensures.too_many in
+    begun_stopped c.in-Err.stop c.stopped.result made sim c.stopped.ensures.ends
+
+pub returns-in-Ok-clause-others : goal.returns-in-Ok-clause-others
+returns-in-Ok-clause-others g c =
+    let held : Held = g.F.Files.held c.args.files.now in
+    let made : IsMade (run_told c.args.names) held c.in-Ok.field-0.design c.in-Ok.field-0.plan = record { can = c.in-Ok.ensures.can_run; loaded = c.in-Ok.ensures.answers } in
+    others_so made (rw c.in-Ok.ensures.same at c.in-Err.ensures.others)
+
+pub returns-in-Ok-clause-write_fault_reads : goal.returns-in-Ok-clause-write_fault_reads
+returns-in-Ok-clause-write_fault_reads g c = λ fault.
+    let before = c.in-Ok.ensures.quiet (λ e. cc) in
+    let now = c.in-Err.ensures.read_quiet (reads_no_other c.in-Err.stop c.stopped.result c.stopped.ensures.ends (λ e. cc)) in
+    now ∙ before
+
+pub returns-in-Ok-clause-quiet : goal.returns-in-Ok-clause-quiet
+returns-in-Ok-clause-quiet g c = λ quiet.
+    let reads = c.in-Err.ensures.read_quiet (reads_no_other c.in-Err.stop c.stopped.result c.stopped.ensures.ends (quiet_reads c.stopped.result quiet)) in
+    let writes = c.in-Err.ensures.write_quiet (writes_no_other c.in-Err.stop c.stopped.result c.stopped.ensures.ends (quiet_writes c.stopped.result quiet)) in
+    (reads ∙ c.in-Ok.ensures.quiet (λ e. cc), writes ∙ c.in-Ok.ensures.write_quiet, c.stopped.ensures.quiet (quiet_writes c.stopped.result quiet))
+
+pub returns-in-Err-Refused-clause-refused : goal.returns-in-Err-Refused-clause-refused
+returns-in-Err-Refused-clause-refused g c = λ refused.
+    let held : Held = g.F.Files.held c.args.files.now in
+    let names = run_told c.args.names in
+    let cause = cause_told c.in-Err-Refused.refusal in
+    let faulty : IsSome held → IsFaulty names held cause = rw c.in-Err-Refused.field-0-is at c.in-Err-Refused.ensures.answers in
+    record { cause = cause; stands = λ told. StandsIn.before cause (faulty told); said = c.refuse.ensures.said refused }
+
+pub returns-in-Ok-simulate-clause-sums_done : goal.returns-in-Ok-simulate-clause-sums_done
+returns-in-Ok-simulate-clause-sums_done g c =
+    let held : Held = g.F.Files.held c.args.files.now in
+    let made : IsMade (run_told c.args.names) held c.in-Ok.field-0.design c.in-Ok.field-0.plan = record { can = c.in-Ok.ensures.can_run; loaded = c.in-Ok.ensures.answers } in
+    let sim : IsSimulated (λ pick edge port. g.G.Fn.post c.args.stalls.now.test (pick, (edge, (port, tt)))) c.in-Ok.field-0.design c.in-Ok.field-0.plan held (g.F.Files.held c.simulate.new.files) (Ok c.in-Ok-simulate.outcome) =
+    simulated c.in-Ok.ensures.same c.in-Ok-simulate.ensures.tells c.in-Ok-simulate.ensures.exact c.in-Ok-simulate.ensures.cells c.in-Ok-simulate.ensures.too_many in
+    λ ended is. sums_so c.in-Ok-simulate.outcome made sim
+
+pub returns-in-Ok-simulate-clause-sums_limited : goal.returns-in-Ok-simulate-clause-sums_limited
+returns-in-Ok-simulate-clause-sums_limited g c =
+    let held : Held = g.F.Files.held c.args.files.now in
+    let made : IsMade (run_told c.args.names) held c.in-Ok.field-0.design c.in-Ok.field-0.plan = record { can = c.in-Ok.ensures.can_run; loaded = c.in-Ok.ensures.answers } in
+    let sim : IsSimulated (λ pick edge port. g.G.Fn.post c.args.stalls.now.test (pick, (edge, (port, tt)))) c.in-Ok.field-0.design c.in-Ok.field-0.plan held (g.F.Files.held c.simulate.new.files) (Ok c.in-Ok-simulate.outcome) =
+    simulated c.in-Ok.ensures.same c.in-Ok-simulate.ensures.tells c.in-Ok-simulate.ensures.exact c.in-Ok-simulate.ensures.cells c.in-Ok-simulate.ensures.too_many in
+    λ ended is. sums_so c.in-Ok-simulate.outcome made sim
+
+pub returns-in-Ok-clause-sums_done : goal.returns-in-Ok-clause-sums_done
+returns-in-Ok-clause-sums_done g c = λ ended is. absurd (stopped_not_done c.in-Err.stop c.stopped.result c.stopped.ensures.ends ended)
+
+pub returns-in-Ok-clause-sums_limited : goal.returns-in-Ok-clause-sums_limited
+returns-in-Ok-clause-sums_limited g c = λ ended is. absurd (stopped_not_limited c.in-Err.stop c.stopped.result c.stopped.ensures.ends ended)

@@ -1,0 +1,74 @@
+-- What loading a text and a run file answers, as the code has it.
+use Rattle.std.specs.Prelude.{ℕ, ◌≡◌, List, IsSome, Result, Ok, Err}
+use Rattle.mx_base.specs.Files.{Held}
+use Rattle.rtl_ir.specs.declared.design.Design.{Design}
+use Rattle.simulation.specs.declared.plan.Plan.{Plan}
+use Rattle.rtl_reading.specs.Reads.{ReadsAs}
+use Rattle.verilog_read.specs.Refused.{IsReadAs}
+use Rattle.word_files.specs.RunFiles.{Reads, Fits, TicksFit, ScalarsFit, InputsFit, OutputsFit}
+use Rattle.word_files.specs.declared.run_file.RunFile.{RunFile}
+use Rattle.word_files.specs.declared.run_file.PortList.{PortList}
+use Rattle.word_files.specs.declared.error.RunError.TheVariants as run_errors
+use Rattle.top_ports.specs.Shapes.{IsPortList}
+use Rattle.rtl_ir.specs.Ports.{Shape}
+use Rattle.simulation.specs.Plans.{IsPlanOf, FitsShape, AreApart}
+use Rattle.maxjc_core.specs.Command.{RunNames}
+use Rattle.maxjc_core.specs.Lines.{Cause, NotJson, RunShape}
+use Rattle.maxjc_core.specs.Loading.{FitTogether, AreRead}
+use Rattle.maxjc_core.specs.RunCauses.{IsFaulty}
+use Rattle.maxjc_core.specs.Stops.{IfRefused}
+use Rattle.maxjc_core.specs.declared.stop.Stop.{Stop}
+use Rattle.maxjc_core.specs.declared.load.Loaded.{Loaded}
+
+-- the cause of a run file's bytes
+pub data IsRunFault (bytes : List ℕ) : Cause → Type 0 where
+  not_json : Reads bytes (Err run_errors.NotJson) → IsRunFault bytes NotJson
+  shape : (key : List ℕ) → Reads bytes (Err (run_errors.Shape key)) → IsRunFault bytes (RunShape key)
+
+-- a plan of a run file, for the ports of a shape
+pub record IsPlanned (run : RunFile) (s : Shape) (plan : Plan) : Type 0 where
+  pub ports : PortList
+  pub are : IsPortList ports s
+  pub ticks : TicksFit run ports
+  pub scalars : ScalarsFit run ports
+  pub inputs : InputsFit run ports
+  pub outputs : OutputsFit run ports
+  pub planned : IsPlanOf run ports plan
+
+-- the cause of a run file that doesn't fit these ports
+pub data IsUnfitFor (run : RunFile) (ports : PortList) : Cause → Type 0 where
+  at_key : (key : List ℕ) → Fits run ports (Err (run_errors.Shape key)) → IsUnfitFor run ports (RunShape key)
+
+-- or the ports of a shape
+pub record IsUnfit (run : RunFile) (s : Shape) (cause : Cause) : Type 0 where
+  pub ports : PortList
+  pub are : IsPortList ports s
+  pub unfit : IsUnfitFor run ports cause
+
+-- no other design is read from the text
+abbrev pub IsOnlyDesign : List ℕ → Design → Type 0
+IsOnlyDesign text design = (other : Design) → ReadsAs text other → other ≡ design
+
+-- the design and the plan of bytes that fit together
+pub record FitAs (text run : List ℕ) (design : Design) (plan : Plan) : Type 0 where
+  pub fit : FitTogether text run
+  pub design_is : fit.design ≡ design
+  pub plan_is : fit.plan ≡ plan
+  pub only : IsOnlyDesign text design
+
+-- the same of files that were loaded
+pub record IsLoadedAs (names : RunNames) (held : Held) (design : Design) (plan : Plan) : Type 0 where
+  pub files : AreRead names held
+  pub is : FitAs files.text files.run design plan
+
+-- what can be run: the top module has the ports of a shape that the plan fits, and outputs have files of their own
+pub record CanRun (design : Design) (plan : Plan) : Type 0 where
+  pub bytes : List ℕ
+  pub is : IsReadAs bytes design
+  pub fits : FitsShape plan is.shape
+  pub apart : AreApart plan
+
+-- of what the files hold, where they are told
+abbrev pub LoadAnswers : RunNames → Held → Result Loaded Stop → Type 0
+LoadAnswers names held (Ok l) = IsSome held → IsLoadedAs names held l.design l.plan
+LoadAnswers names held (Err stop) = IfRefused stop (λ cause. IsSome held → IsFaulty names held cause)

@@ -1,0 +1,165 @@
+// Reads a text and a run file that fits its design. No file is changed here.
+ghost use Rattle.std.specs.Prelude.{◌≡◌, ◌⊎◌, ◌<◌, ◌^◌, ℕ, List, Some, Ok, Err, IfOk, OnOk, IfErr, length, map};
+ghost use Rattle.mx_base.specs.Counts.{Rose};
+ghost use Rattle.mx_base.specs.Files.{Name, Lacks};
+ghost use Rattle.rtl_ir.specs.declared.design.Design.{Design};
+ghost use Rattle.rtl_ir.specs.declared.design.Module.{Module};
+ghost use Rattle.rtl_ir.specs.Flat.{top_of};
+ghost use Rattle.rtl_ir.specs.Ports.{Shape};
+ghost use Rattle.rtl_ir.specs.Rules.{AllDiffer};
+ghost use Rattle.serde_json.specs.Data.{Data};
+ghost use Rattle.top_ports.specs.Shapes.{IsTop};
+ghost use Rattle.verilog_read.specs.Refused.{Refuses, IsReadAs};
+ghost use Rattle.verilog_read.specs.declared.error.VerilogError.{VerilogError};
+ghost use Rattle.word_files.specs.RunFiles.{Reads, IsRunFile, Fits};
+ghost use Rattle.simulation.specs.Plans.{FitsShape, AreApart};
+ghost use Rattle.maxjc_core.specs.Lines.{Cause};
+ghost use Rattle.maxjc_core.specs.Loading.{IsLoaded, FitTogether};
+ghost use Rattle.maxjc_core.specs.LoadStops.{LoadAnswers, CanRun, FitAs, IsOnlyDesign, IsRunFault, IsPlanned, IsUnfit, IsUnfitFor};
+ghost use Rattle.maxjc_core.specs.Named.{run_told};
+ghost use Rattle.maxjc_core.specs.RunCauses.{IsFaulty, BreaksForm, LacksFile, text_cause};
+ghost use Rattle.maxjc_core.specs.Stops.{IfRefused};
+
+use crate::command::Simulate;
+use crate::files::{FILE_LIMIT, TEXT_LIMIT, read_file};
+use crate::refusal::Refusal;
+use crate::stop::Stop;
+use mx_base::Files;
+use rtl_ir::{Design, Module};
+use simulation::{Plan, plan_of};
+use std::alloc::Global;
+use top_ports::ports;
+use verilog_read::{VerilogError, read};
+use word_files::{PortList, RunError, RunFile};
+
+/// A design, and what its run is handed.
+#[derive(Drop)]
+pub struct Loaded {
+    pub design: Design,
+    pub plan: Plan,
+}
+
+// The design of a text.
+fn design_of<'a>(alloc: Global, text: &[u8]) -> Result<Design, Stop<'a>>
+    requires { length text.now < 2 ^ 32 }
+    ensures read { IfOk result (λ d. IsReadAs text.now d) }
+    ensures only { IfOk result (λ d. IsOnlyDesign text.now d) }
+    ensures every { (d : Design) → IsReadAs text.now d → IfErr result (λ stop. IfRefused stop (λ _. ⊥)) }
+    ensures exact { (e : VerilogError) → Refuses text.now e → IfOk result (λ _. ⊥) }
+    ensures refused { IfErr result (λ stop. IfRefused stop (λ cause. (e : VerilogError) × Refuses text.now e × (cause ≡ text_cause e))) }
+    ensures no_fault { result ≡ Err Stop.ReadFault → ⊥ }
+{
+    match read(alloc, text) {
+        Ok(design) => Ok(design),
+        Err(VerilogError::NoMemory) => Err(Stop::NoMemory),
+        Err(VerilogError::NoToken(place)) => Err(Stop::Refused(Refusal::NoToken(place))),
+        Err(VerilogError::NotBuilt) => Err(Stop::Refused(Refusal::NotBuilt)),
+        Err(VerilogError::Syntax(place)) => Err(Stop::Refused(Refusal::Syntax(place))),
+        Err(VerilogError::Rtl(error)) => Err(Stop::Refused(Refusal::Rule(error))),
+        Err(VerilogError::PortShape(name)) => Err(Stop::Refused(Refusal::PortShape(name))),
+    }
+}
+
+// What the bytes of a run file say.
+fn run_of<'a>(alloc: Global, bytes: &[u8]) -> Result<RunFile, Stop<'a>>
+    ensures read { IfOk result (λ run. Reads bytes.now (Ok run)) }
+    ensures refused { IfErr result (λ stop. IfRefused stop (IsRunFault bytes.now)) }
+    ensures no_fault { result ≡ Err Stop.ReadFault → ⊥ }
+{
+    match RunFile::read(alloc, bytes) {
+        Ok(run) => Ok(run),
+        Err(RunError::NotJson) => Err(Stop::Refused(Refusal::NotJson)),
+        Err(RunError::Shape(key)) => Err(Stop::Refused(Refusal::RunShape(key))),
+        Err(_) => Err(Stop::NoMemory),
+    }
+}
+
+// The top module of a design, which is the last one.
+fn top(design: &Design) -> &Module
+    requires { (m : Module) × (top_of design.now ≡ Some m) }
+    ensures { top_of design.now ≡ Some result.now }
+{
+    design.modules.at(design.modules.len() - 1)
+}
+
+// Tests a run file beside the ports of a design.
+fn fit_for<'a>(alloc: Global, run: &RunFile, ports: &PortList) -> Result<(), Stop<'a>>
+    ensures fits { OnOk result (Fits run.now ports.now (Ok tt)) }
+    ensures unfit { IfErr result (λ stop. IfRefused stop (IsUnfitFor run.now ports.now)) }
+    ensures no_fault { result ≡ Err Stop.ReadFault → ⊥ }
+{
+    match run.fit(alloc, ports) {
+        Ok(()) => Ok(()),
+        Err(RunError::Shape(key)) => Err(Stop::Refused(Refusal::RunShape(key))),
+        Err(_) => Err(Stop::NoMemory),
+    }
+}
+
+// What a run file hands to a run of a design, where it fits the ports.
+fn plan_for<'a>(alloc: Global, module: &Module, run: &RunFile) -> Result<Plan, Stop<'a>>
+    requires shape { (s : Shape) × IsTop «module».now s }
+    ensures planned { (s : Shape) → IsTop «module».now s → IfOk result (λ plan. IsPlanned run.now s plan) }
+    ensures unfit { (s : Shape) → IsTop «module».now s → IfErr result (λ stop. IfRefused stop (IsUnfit run.now s)) }
+    ensures fits { (s : Shape) → IsTop «module».now s → (d : Data) → IsRunFile d run.now → IfOk result (λ plan. FitsShape plan s) }
+    ensures apart { (s : Shape) → IsTop «module».now s → (d : Data) → IsRunFile d run.now → AllDiffer (map (λ (y : Name × ℕ). y.0) s.outputs) → IfOk result (λ plan. AreApart plan) }
+    ensures no_fault { result ≡ Err Stop.ReadFault → ⊥ }
+{
+    let ports = ports(alloc, module)?;
+    match fit_for(alloc, run, &ports) {
+        Ok(()) => Ok(plan_of(alloc, run, &ports)?),
+        Err(stop) => Err(stop),
+    }
+}
+
+// The design of a text and the plan of a run file that fits it.
+fn build<'a>(alloc: Global, text: &[u8], run: &[u8]) -> Result<Loaded, Stop<'a>>
+    requires { length text.now < 2 ^ 32 }
+    ensures fit { IfOk result (λ l. FitAs text.now run.now l.design l.plan) }
+    ensures can_run { IfOk result (λ l. CanRun l.design l.plan) }
+    ensures refused { IfErr result (λ stop. IfRefused stop (BreaksForm text.now run.now)) }
+    ensures faulty { (cause : Cause) → BreaksForm text.now run.now cause → IfOk result (λ _. ⊥) }
+    ensures loads { FitTogether text.now run.now → IfErr result (λ stop. IfRefused stop (λ _. ⊥)) }
+    ensures no_fault { result ≡ Err Stop.ReadFault → ⊥ }
+{
+    let design = match design_of(alloc, text) {
+        Ok(design) => design,
+        Err(stop) => return Err(stop),
+    };
+    let run = match run_of(alloc, run) {
+        Ok(run) => run,
+        Err(stop) => return Err(stop),
+    };
+    match plan_for(alloc, top(&design), &run) {
+        Ok(plan) => Ok(Loaded { design, plan }),
+        Err(stop) => Err(stop),
+    }
+}
+
+/// Reads a text and a run file that fits its design. It changes no file.
+pub fn load<'a, F: Files>(
+    alloc: Global,
+    files: &mut F,
+    names: Simulate<'a>,
+) -> Result<Loaded, Stop<'a>>
+    ensures same { F.held files.new ≡ F.held files.old }
+    ensures quiet { (result ≡ Err Stop.ReadFault → ⊥) → F.read_faults files.new ≡ F.read_faults files.old }
+    ensures write_quiet { F.write_faults files.new ≡ F.write_faults files.old }
+
+    // A read fails only where its count rose or the file isn't held.
+    ensures fault { result ≡ Err Stop.ReadFault → Rose (F.read_faults files.old) (F.read_faults files.new) ⊎ LacksFile (run_told names.entry) (F.held files.old) }
+    ensures missing { LacksFile (run_told names.entry) (F.held files.old) → (result ≡ Err Stop.ReadFault) ⊎ (result ≡ Err Stop.NoMemory) }
+
+    ensures answers { LoadAnswers (run_told names.entry) (F.held files.old) result }
+    ensures can_run { IfOk result (λ l. CanRun l.design l.plan) }
+    ensures faulty { (cause : Cause) → IsFaulty (run_told names.entry) (F.held files.old) cause → IfOk result (λ _. ⊥) }
+    ensures loads { IsLoaded (run_told names.entry) (F.held files.old) → IfErr result (λ stop. IfRefused stop (λ _. ⊥)) }
+{
+    let text = match read_file(alloc, files, names.text, TEXT_LIMIT) {
+        Ok(text) => text,
+        Err(stop) => return Err(stop),
+    };
+    match read_file(alloc, files, names.run, FILE_LIMIT) {
+        Ok(run) => build(alloc, text.as_slice(), run.as_slice()),
+        Err(stop) => Err(stop),
+    }
+}

@@ -1,0 +1,45 @@
+// The lines that a command says.
+ghost use Rattle.std.specs.Prelude.{◌≡◌, ◌⊎◌};
+ghost use Rattle.mx_base.specs.Counts.{Rose};
+ghost use Rattle.maxjc_core.specs.Command.{usage_line, said_more};
+ghost use Rattle.maxjc_core.specs.Lines.{line_of};
+ghost use Rattle.maxjc_core.specs.Refusals.{cause_told};
+
+use crate::Status;
+use crate::refusal::Refusal;
+use crate::refusal_line::refusal_line;
+use mx_base::Say;
+use std::alloc::Global;
+
+const USAGE: &[u8] =
+    b"usage: compile SRC TABLE OUT REPORT | simulate TEXT RUN | expect SRC TABLE REPORT RUN | check SRC TABLE REPORT | generate N\n";
+
+/// Says the usage line.
+pub fn say_usage<S: Say>(say: &mut S) -> Status
+    ensures ends { (result ≡ Status.Usage) ⊎ (result ≡ Status.WriteFault) }
+    ensures said { result ≡ Status.Usage → S.said say.new ≡ said_more (S.said say.old) usage_line }
+    ensures quiet { result ≡ Status.Usage → S.say_faults say.new ≡ S.say_faults say.old }
+    ensures fault { result ≡ Status.WriteFault → Rose (S.say_faults say.old) (S.say_faults say.new) }
+{
+    match say.say(USAGE) {
+        Ok(()) => Status::Usage,
+        Err(_) => Status::WriteFault,
+    }
+}
+
+/// Says why the files of a command are refused.
+pub fn refuse<S: Say>(alloc: Global, say: &mut S, refusal: &Refusal<'_>) -> Status
+    ensures ends { (result ≡ Status.Refused) ⊎ ((result ≡ Status.WriteFault) ⊎ (result ≡ Status.NoMemory)) }
+    ensures said { result ≡ Status.Refused → S.said say.new ≡ said_more (S.said say.old) (line_of (cause_told refusal.now)) }
+    ensures quiet { result ≡ Status.Refused → S.say_faults say.new ≡ S.say_faults say.old }
+    ensures silent { result ≡ Status.NoMemory → (S.said say.new ≡ S.said say.old) × (S.say_faults say.new ≡ S.say_faults say.old) }
+    ensures fault { result ≡ Status.WriteFault → Rose (S.say_faults say.old) (S.say_faults say.new) }
+{
+    match refusal_line(alloc, refusal) {
+        Err(_) => Status::NoMemory,
+        Ok(line) => match say.say(&line) {
+            Ok(()) => Status::Refused,
+            Err(_) => Status::WriteFault,
+        },
+    }
+}

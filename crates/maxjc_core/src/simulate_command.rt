@@ -1,0 +1,132 @@
+// The command `simulate`.
+ghost use Rattle.std.specs.Prelude.{◌≡◌, ◌⊎◌, ℕ, List, Some, IsSome};
+ghost use Rattle.mx_base.specs.Counts.{Rose};
+ghost use Rattle.rtl_ir.specs.Flat.{Families};
+ghost use Rattle.stall_source.specs.Stalls.{IsDecided, IsFreeAtZero};
+ghost use Rattle.simulation.specs.Ends as ends;
+ghost use Rattle.simulation.specs.Ends.{Ends};
+ghost use Rattle.maxjc_core.specs.Command.{said_more};
+ghost use Rattle.maxjc_core.specs.Lines.{Cause, line_of};
+ghost use Rattle.maxjc_core.specs.Loading.{IsLoaded, setup};
+ghost use Rattle.maxjc_core.specs.RunCauses.{IsSmall, StandsIn, LacksFile, LacksInput};
+ghost use Rattle.maxjc_core.specs.RunEnds.{IsRunDone, IsRunLimited, IsRunRefused, AreFirstWords, ChangesOutputs};
+ghost use Rattle.maxjc_core.specs.RunStops.{end_status, end_line, stop_status, stop_cause};
+ghost use Rattle.simulation.specs.declared.stop.Stop.TheVariants as stops;
+ghost use Rattle.maxjc_core.specs.Named.{run_told};
+ghost use Rattle.maxjc_core.specs.Summing.{WritesAllSums};
+ghost use Rattle.maxjc_core.specs.Ends.{IsQuiet, IsSilent, IsCutOff, WriteFailed};
+
+use crate::Status;
+use crate::command::Simulate;
+use crate::load::{Loaded, load};
+use crate::refusal::Refusal;
+use crate::refusal_line::number_line;
+use crate::saying::refuse;
+use crate::stop::Stop;
+use mx_base::{Files, Say};
+use simulation::{Outcome, Stop as RunStop, simulate};
+use stall_source::Pattern;
+use std::alloc::Global;
+
+// Says how a run ended.
+fn report<S: Say>(alloc: Global, say: &mut S, outcome: Outcome) -> Status
+    ensures ends { (result ≡ end_status outcome) ⊎ ((result ≡ Status.WriteFault) ⊎ (result ≡ Status.NoMemory)) }
+    ensures said { result ≡ end_status outcome → S.said say.new ≡ said_more (S.said say.old) (end_line outcome) }
+    ensures quiet { result ≡ end_status outcome → S.say_faults say.new ≡ S.say_faults say.old }
+    ensures silent { result ≡ Status.NoMemory → (S.said say.new ≡ S.said say.old) × (S.say_faults say.new ≡ S.say_faults say.old) }
+    ensures fault { result ≡ Status.WriteFault → Rose (S.say_faults say.old) (S.say_faults say.new) }
+{
+    let begin: &[u8] = if outcome.done {
+        b"done after "
+    } else {
+        b"not done after "
+    };
+    let Ok(line) = number_line(alloc, begin, outcome.edges, b" edges\n") else {
+        return Status::NoMemory;
+    };
+    match say.say(&line) {
+        Err(_) => Status::WriteFault,
+        Ok(()) => if outcome.done {
+            Status::Done
+        } else {
+            Status::EdgeLimit
+        },
+    }
+}
+
+// Ends a run that was stopped.
+fn stopped<S: Say>(alloc: Global, say: &mut S, stop: RunStop) -> Status
+    ensures ends { (result ≡ stop_status stop) ⊎ ((stop_status stop ≡ Status.Refused) × ((result ≡ Status.WriteFault) ⊎ (result ≡ Status.NoMemory))) }
+    ensures said { result ≡ Status.Refused → S.said say.new ≡ said_more (S.said say.old) (line_of (stop_cause stop)) }
+    ensures quiet { (result ≡ Status.WriteFault → ⊥) → S.say_faults say.new ≡ S.say_faults say.old }
+    ensures silent { (result ≡ Status.ReadFault) ⊎ (result ≡ Status.NoMemory) → S.said say.new ≡ S.said say.old }
+    ensures fault { result ≡ Status.WriteFault → (stop ≡ stops.WriteFault × (S.said say.new ≡ S.said say.old) × (S.say_faults say.new ≡ S.say_faults say.old)) ⊎ ((stop_status stop ≡ Status.Refused) × Rose (S.say_faults say.old) (S.say_faults say.new)) }
+{
+    match stop {
+        RunStop::TooManyCells(cells) => refuse(alloc, say, &Refusal::TooManyCells(cells)),
+        RunStop::BadLine(file, line) => refuse(alloc, say, &Refusal::BadLine(file, line)),
+        RunStop::WordRange(file, line) => refuse(alloc, say, &Refusal::WordRange(file, line)),
+        RunStop::ReadFault => Status::ReadFault,
+        RunStop::WriteFault => Status::WriteFault,
+        RunStop::NoMemory => Status::NoMemory,
+    }
+}
+
+/// Simulates a text: reads it and its run file, runs it over the words of the input files, and says
+/// how the run ended.
+pub fn run_simulate<F: Files, S: Say, G: Fn(u64, u64, u32) -> bool>(
+    alloc: Global,
+    files: &mut F,
+    say: &mut S,
+    names: Simulate<'_>,
+    stalls: &Pattern<G>,
+) -> Status
+    requires callable { G.IsAlwaysCallable stalls.now.test }
+    requires decided { IsDecided (G.post stalls.now.test) }
+    requires free { IsFreeAtZero (G.post stalls.now.test) }
+    ensures usage { result ≡ Status.Usage → ⊥ }
+
+    // `Done` and `EdgeLimit`: the run, the files that it wrote, and what was said. Where the run ends so, there is no other status.
+    ensures done { result ≡ Status.Done → IsSome (F.held files.old)
+        → IsRunDone (G.post stalls.now.test) (run_told names.entry) (F.held files.old) (F.held files.new) (S.said say.old) (S.said say.new) }
+    ensures limited { result ≡ Status.EdgeLimit → IsSome (F.held files.old)
+        → IsRunLimited (G.post stalls.now.test) (run_told names.entry) (F.held files.old) (F.held files.new) (S.said say.old) (S.said say.new) }
+    ensures ends_done { (l : IsLoaded (run_told names.entry) (F.held files.old)) → IsSmall l → (restart : Families) (vs : List Families) (edges : ℕ)
+        → Ends (G.post stalls.now.test) (setup l) restart vs (ends.Done edges) → (result ≡ Status.Done) ⊎ IsCutOff result }
+    ensures ends_limited { (l : IsLoaded (run_told names.entry) (F.held files.old)) → IsSmall l → (restart : Families) (vs : List Families) (edges : ℕ)
+        → Ends (G.post stalls.now.test) (setup l) restart vs (ends.Limit edges) → (result ≡ Status.EdgeLimit) ⊎ IsCutOff result }
+
+    // Of a text that `compile` wrote the output holds the kernel's sums of the words that were taken.
+    ensures sums_done { result ≡ Status.Done → IsSome (F.held files.old) → WritesAllSums (run_told names.entry) (F.held files.old) (F.held files.new) }
+    ensures sums_limited { result ≡ Status.EdgeLimit → IsSome (F.held files.old) → WritesAllSums (run_told names.entry) (F.held files.old) (F.held files.new) }
+
+    // `Refused` comes exactly where a cause stands, unless a call fails or memory is short.
+    ensures refused { result ≡ Status.Refused → IsRunRefused (G.post stalls.now.test) (run_told names.entry) (F.held files.old) (S.said say.old) (S.said say.new) }
+    ensures stands { (cause : Cause) → StandsIn (G.post stalls.now.test) (run_told names.entry) (F.held files.old) cause → (result ≡ Status.Refused) ⊎ IsCutOff result }
+
+    // `ReadFault` comes only where the count of read faults rose or a file that is to be read isn't held; and always where the
+    // text or the run file isn't.
+    ensures read_fault { result ≡ Status.ReadFault → Rose (F.read_faults files.old) (F.read_faults files.new) ⊎ LacksInput (G.post stalls.now.test) (run_told names.entry) (F.held files.old) }
+    ensures missing { LacksInput (G.post stalls.now.test) (run_told names.entry) (F.held files.old) → IsCutOff result }
+
+    ensures write_fault { result ≡ Status.WriteFault → WriteFailed (F.write_faults files.old) (F.write_faults files.new) (S.say_faults say.old) (S.say_faults say.new) (S.said say.old) (S.said say.new) }
+    ensures write_fault_reads { result ≡ Status.WriteFault → F.read_faults files.new ≡ F.read_faults files.old }
+    ensures read_fault_writes { result ≡ Status.ReadFault → (F.write_faults files.new ≡ F.write_faults files.old) × (S.say_faults say.new ≡ S.say_faults say.old) }
+    ensures quiet { IsQuiet result → (F.read_faults files.new ≡ F.read_faults files.old) × (F.write_faults files.new ≡ F.write_faults files.old) × (S.say_faults say.new ≡ S.say_faults say.old) }
+    ensures silent { IsSilent result → S.said say.new ≡ S.said say.old }
+
+    // The files: the outputs alone change, and after a refusal and a read fault they hold the first of the words that left.
+    ensures begun { (result ≡ Status.Refused) ⊎ (result ≡ Status.ReadFault) → IsSome (F.held files.old)
+        → AreFirstWords (G.post stalls.now.test) (run_told names.entry) (F.held files.old) (F.held files.new) }
+    ensures others { IsSome (F.held files.old) → ChangesOutputs (run_told names.entry) (F.held files.old) (F.held files.new) }
+{
+    match load(alloc, files, names) {
+        Ok(Loaded { design, plan }) => match simulate(alloc, files, &design, plan, stalls) {
+            Ok(outcome) => report(alloc, say, outcome),
+            Err(stop) => stopped(alloc, say, stop),
+        },
+        Err(Stop::Refused(refusal)) => refuse(alloc, say, &refusal),
+        Err(Stop::ReadFault) => Status::ReadFault,
+        Err(Stop::NoMemory) => Status::NoMemory,
+    }
+}

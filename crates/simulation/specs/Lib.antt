@@ -1,0 +1,11 @@
+pub mod Inputs
+pub mod Outputs
+pub mod Asked
+pub mod Runs
+pub mod Ends
+pub mod Plans
+pub mod Answers
+pub mod Errors
+pub mod Inward
+pub mod Outward
+pub mod Benches

@@ -1,0 +1,63 @@
+// The plan of a run file whose lists stand in another order than the ports.
+use super::*;
+use std::alloc::AllocError;
+use std::test::Fail;
+
+fn text(alloc: Global, bytes: &[u8]) -> Result<Text, AllocError> {
+    Ok(Text::from_vec(bytes.to_vec(alloc)?))
+}
+
+// Two pairs, with these names.
+fn pairs<T: Drop>(
+    alloc: Global,
+    names: (&[u8], &[u8]),
+    values: (T, T),
+) -> Result<List<(Text, T)>, NoMemory> {
+    let mut list = List::new(alloc);
+    list.push((text(alloc, names.0)?, values.0))?;
+    list.push((text(alloc, names.1)?, values.1))?;
+    Ok(list)
+}
+
+fn run_file(alloc: Global) -> Result<RunFile, NoMemory> {
+    let inputs = (text(alloc, b"p.words")?, text(alloc, b"q.words")?);
+    let outputs = (text(alloc, b"x.words")?, text(alloc, b"y.words")?);
+    Ok(RunFile {
+        ticks: pairs(alloc, (b"a", b"b"), (5, 7))?,
+        scalars: pairs(alloc, (b"a.k", b"b.k"), (1, 0xff))?,
+        inputs: pairs(alloc, (b"p", b"q"), inputs)?,
+        outputs: pairs(alloc, (b"x", b"y"), outputs)?,
+        edges: 12,
+        pick: 3,
+        fill: 9,
+    })
+}
+
+fn port_list(alloc: Global) -> Result<PortList, NoMemory> {
+    let mut kernels = List::new(alloc);
+    kernels.push(text(alloc, b"b")?)?;
+    kernels.push(text(alloc, b"a")?)?;
+    Ok(PortList {
+        kernels,
+        scalars: pairs(alloc, (b"b.k", b"a.k"), (8, 4))?,
+        inputs: pairs(alloc, (b"q", b"p"), (16, 8))?,
+        outputs: pairs(alloc, (b"y", b"x"), (2, 1))?,
+    })
+}
+
+#[test]
+fn a_plan_is_in_the_order_of_the_ports(rt: HostRuntime) -> Result<(), Fail> {
+    let alloc = rt.alloc();
+    let run = run_file(alloc)?;
+    let ports = port_list(alloc)?;
+    run.fit(alloc, &ports)?;
+    let plan = plan_of(alloc, &run, &ports)?;
+    let inputs = pairs(alloc, (b"q.words", b"p.words"), (16, 8))?;
+    let outputs = pairs(alloc, (b"y.words", b"x.words"), (2, 1))?;
+    assert_eq!(rt; plan.ticks.as_slice(), [7, 5].as_slice());
+    assert_eq!(rt; plan.scalars.as_slice(), [0xff, 1].as_slice());
+    assert_eq!(rt; plan.inputs, inputs);
+    assert_eq!(rt; plan.outputs, outputs);
+    assert_eq!(rt; (plan.edges, plan.pick, plan.fill), (12, 3, 9));
+    Ok(())
+}
