@@ -1,8 +1,9 @@
 #!/usr/bin/env python3
 """The speed of `maxjc simulate` beside Icarus (iverilog, vvp).
 
-A straight text of some 2,000 assignments is generated: a chain of sums, differences, logic, choices and
-parts over words of 32 bits, under the handshake of a kernel. Both tools run it over the same words for
+A straight text of some 2,000 assignments is generated, in layers of 200: sums, differences, logic and
+choices over words of 32 bits, under the handshake of a kernel. (In one deep chain an event-driven simulator
+evaluates a net again for each way that leads to it.) Both tools run it over the same words for
 100,000 edges; Icarus under the testbench of bench/testbench.py. The words must be the same. The ratio is
 that of the times of whole runs, start and files included.
 
@@ -20,6 +21,7 @@ import time
 import testbench
 
 TOP = pathlib.Path(__file__).resolve().parent.parent
+LAYER = 200
 HEAD = """module top$project (
 input wire [0:0] clk,
 input wire [0:0] reset,
@@ -43,10 +45,12 @@ assign done = 1'h0;
 def straight(assignments, seed=1):
     """A straight text with about so many assignments."""
     chance = random.Random(seed)
-    wide, bits, lines = ["in$x$data"], ["go"], []
+    wide, layer, bits, lines = ["in$x$data"], [], ["go"], []
     while len(lines) < 2 * (assignments - 5):
         name = f"w{len(lines) // 2}"
-        a, b = chance.choice(wide[-40:]), chance.choice(wide[-40:])
+        if len(layer) == LAYER:
+            wide, layer = layer, []
+        a, b = chance.choice(wide), chance.choice(wide)
         form = chance.randrange(8)
         if form < 5:
             sign = ["+", "-", "^", "&", "|"][form]
@@ -57,9 +61,9 @@ def straight(assignments, seed=1):
             width, right = 32, f"{chance.choice(bits)} ? {a} : {b}"
         else:
             width, right = 32, f"~{a}"
-        (bits if width == 1 else wide).append(name)
+        (bits if width == 1 else layer).append(name)
         lines += [f"wire [{width - 1}:0] {name};", f"assign {name} = {right};"]
-    return HEAD + "\n".join(lines) + f"\nassign out$y$data = {wide[-1]};\nendmodule\n"
+    return HEAD + "\n".join(lines) + f"\nassign out$y$data = {(layer or wide)[-1]};\nendmodule\n"
 
 
 def main():
