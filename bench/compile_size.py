@@ -65,15 +65,23 @@ def measure(source):
     with tempfile.TemporaryDirectory() as work:
         path = os.path.join(work, "source.maxj")
         pathlib.Path(path).write_text(source)
-        words = [str(TOP / "crates/maxjc/out/maxjc"), "compile", path, str(TOP / "examples/tables/zero.json"), os.path.join(work, "out.v"), os.path.join(work, "out.report")]
-        before = time.time()
-        process = subprocess.Popen(words, stdout=subprocess.PIPE)
-        memory = 0
-        while process.poll() is None:
-            memory = max(memory, high_water(process.pid))
-            time.sleep(0.0005)
-        seconds = time.time() - before
-        return process.returncode, process.stdout.read().decode().strip(), seconds, memory
+        return watched(["compile", path, str(TOP / "examples/tables/zero.json"), os.path.join(work, "out.v"), os.path.join(work, "out.report")], work)
+
+
+def watched(words, folder, most_seconds=None):
+    """Runs the program on these words in the folder: its status, what it says, its seconds, and its greatest resident set in
+    bytes. It is stopped where it takes longer than it may, and then has no status."""
+    before = time.time()
+    process = subprocess.Popen([str(TOP / "crates/maxjc/out/maxjc"), *words], cwd=folder, stdout=subprocess.PIPE)
+    memory, late = 0, False
+    while process.poll() is None:
+        memory = max(memory, high_water(process.pid))
+        if not late and most_seconds is not None and time.time() - before > most_seconds:
+            late = True
+            process.kill()
+        time.sleep(0.0005)
+    seconds = time.time() - before
+    return None if late else process.returncode, process.stdout.read().decode().strip(), seconds, memory
 
 
 def high_water(pid):

@@ -26,16 +26,16 @@ def run(words, **kinds):
 
 def compare(text, run_file, work, expected=None):
     """The differences between the two tools on a text under a run file, whose files stand in the folder, and from the
-    words that are expected, of which the words that leave are the first."""
+    words that are expected, of which the words that leave are the first; and what `maxjc` says."""
     spec = testbench.read_run(run_file)
     said = run([TOP / "maxjc", "simulate", text, run_file], cwd=work)
     if said.returncode not in (0, 6):
-        return [f"maxjc ends with {said.returncode}: {said.stdout.strip()}"]
+        return [f"maxjc ends with {said.returncode}: {said.stdout.strip()}"], said.stdout
     spec["inputs"] = {name: os.path.join(work, file) for name, file in spec["inputs"].items()}
     bench, _, outputs = testbench.testbench(pathlib.Path(text).read_text(), spec, work, spec["edges"])
     built = run(["iverilog", "-g2005", "-s", "testbench", "-o", work / "sim.vvp", bench, text])
     if built.returncode != 0:
-        return [f"iverilog: {built.stderr}"]
+        return [f"iverilog: {built.stderr}"], said.stdout
     shown = run(["vvp", "-n", work / "sim.vvp"])
     last = [line for line in shown.stdout.splitlines() if "edges" in line]
     wrong = [] if last == said.stdout.splitlines() else [f"maxjc says {said.stdout!r}, Icarus {shown.stdout!r}"]
@@ -46,7 +46,7 @@ def compare(text, run_file, work, expected=None):
             wrong.append(f"output {name}: maxjc {ours[:8]}, expected {expected[:8]}")
         if ours != theirs:
             wrong.append(f"output {name}: maxjc {ours[:8]} ({len(ours)} words), Icarus {theirs[:8]} ({len(theirs)} words)")
-    return wrong
+    return wrong, said.stdout
 
 
 def main():
@@ -69,7 +69,7 @@ def main():
                 spec["pattern"] = pattern
                 (work / "run.json").write_text(json.dumps(spec))
                 expected = (source.parent / "y.expected.txt").read_text().split()
-                wrong = compare(text, work / "run.json", work, expected)
+                wrong, _ = compare(text, work / "run.json", work, expected)
                 bad |= bool(wrong)
                 print(f"{source.name}, pattern {pattern}: " + ("the same words" if not wrong else "; ".join(wrong)))
     return 1 if bad else 0

@@ -8,15 +8,14 @@ Memory is the greatest resident set of the program; the bar is 40 bytes a byte o
 
     bench/read_size.py [EXPONENT]
 """
+import os
 import pathlib
+import subprocess
 import sys
 import tempfile
 
 import compile_size
 import simulate_speed
-import os
-import subprocess
-import time
 
 TOP = pathlib.Path(__file__).resolve().parent.parent
 BAR = 40
@@ -53,13 +52,8 @@ def measure(text):
         pathlib.Path(path).write_text(text)
         run = os.path.join(work, "run.json")
         pathlib.Path(run).write_text("[")
-        before = time.time()
-        process = subprocess.Popen([str(TOP / "crates/maxjc/out/maxjc"), "simulate", path, run], stdout=subprocess.PIPE)
-        memory = 0
-        while process.poll() is None:
-            memory = max(memory, compile_size.high_water(process.pid))
-            time.sleep(0.001)
-        return process.stdout.read().decode().strip(), time.time() - before, memory
+        _, said, seconds, memory = compile_size.watched(["simulate", path, run], work)
+        return said, seconds, memory
 
 
 def main():

@@ -6,7 +6,6 @@ pub mod RunLoading
 pub mod RunEnding
 pub mod RunClauses
 pub mod OneCommand
-pub mod OneModule
 pub mod Sources
 pub mod Exclusion
 pub mod Summing

@@ -3,13 +3,12 @@ use Rattle.std.proofs.Common.{◌≡◌, ◌⊎◌, ◌<◌, ◌-◌, ◌^◌, m
 use Rattle.std.specs.Prelude.{IsSome}
 use Rattle.mx_base.specs.Files.{Held, Name}
 use Rattle.rtl_ir.specs.declared.design.Design.{Design}
-use Rattle.rtl_ir.specs.declared.design.Module.{Module}
 use Rattle.stall_source.specs.Stalls.{Answers}
-use Rattle.verilog_sim.specs.Start.{cells_of}
+use Rattle.verilog_sim.specs.Start.{all_cells}
 use Rattle.simulation.specs.Answers as answers
 use Rattle.simulation.specs.Answers.{IsMissing, IsOrFails, Finishes, Breaks, end_of}
 use Rattle.simulation.specs.Ends as ends
-use Rattle.simulation.specs.Ends.{End, Ends, Stopped}
+use Rattle.simulation.specs.Ends.{End, Stopped}
 use Rattle.simulation.specs.Inputs as lines
 use Rattle.simulation.specs.Outputs.{ChangesOnlyOutputs}
 use Rattle.simulation.specs.Plans.{setup_of}
@@ -124,7 +123,7 @@ fails_missing stop r = fails_so (Stopped lines.Missing) stop r (λ file line. (m
 pub stands_not : {names : RunNames} {stalls : Answers} {held now : Held} {d : Design} {p : Plan} {o : Outcome} → IsMade names held d p → IsSimulated stalls d p held now (Ok o) → ((cause : Cause) → IsFaulty names held cause → ⊥) → (cause : Cause) → StandsIn stalls names held cause → ⊥
 stands_not made sim faulty cause (StandsIn.before c f) = faulty c f
 stands_not made sim faulty cause (StandsIn.vast l vast) =
-    (sim.too_many made.can.is.top made.can.is.is_top (subst (λ (m : Module). 2 ^ 26 < cells_of m) (same_run l made).tops vast)).2
+    (sim.too_many (subst (λ (e : Design). 2 ^ 26 < all_cells e) (same_run l made).designs vast)).2
 stands_not {o = o} made sim faulty cause (StandsIn.bad_line l restart vs file line small run) = unlike_end o.done o.edges _ (ends_so l made sim small restart vs _ run)
 stands_not {o = o} made sim faulty cause (StandsIn.word_range l restart vs file line small run) = unlike_end o.done o.edges _ (ends_so l made sim small restart vs _ run)
 
@@ -148,10 +147,10 @@ others_so {held = held} {now = now} made changes told =
 refused_so : {names : RunNames} {stalls : Answers} {held now : Held} {d : Design} {p : Plan} (stop : Stop) → IsMade names held d p → IsSimulated stalls d p held now (Err stop) → stop_status stop ≡ Refused → IsSome held → StandsIn stalls names held (stop_cause stop)
 refused_so {names} {stalls} {held} (stops.TooManyCells n) made sim e told =
     let l = loaded_of (made.loaded told) in
-    let many = sim.cells n refl made.can.is.top made.can.is.is_top in
-    let tops = sym (same_run l made).tops in
-    subst (λ (k : ℕ). StandsIn stalls names held (TooManyCells k)) (sym (subst (λ (m : Module). n ≡ min (cells_of m) (2 ^ 64 - 1)) tops many.1))
-    (StandsIn.vast l (subst (λ (m : Module). 2 ^ 26 < cells_of m) tops many.0))
+    let many = sim.cells n refl in
+    let designs = sym (same_run l made).designs in
+    subst (λ (k : ℕ). StandsIn stalls names held (TooManyCells k)) (sym (subst (λ (e : Design). n ≡ min (all_cells e) (2 ^ 64 - 1)) designs many.1))
+    (StandsIn.vast l (subst (λ (e : Design). 2 ^ 26 < all_cells e) designs many.0))
 refused_so {stalls = stalls} {now = now} (stops.BadLine file line) made sim e told =
     let l = loaded_of (made.loaded told) in
     let breaks = of_loaded l made (λ (s : Setup) (outputs : List (Name × ℕ)). Breaks stalls s outputs now (Stopped (lines.BadLine file line))) (sim.tells made.can.is.top made.can.is.shape made.can.is.is_top made.can.is.is_run.has told) in
@@ -224,7 +223,7 @@ abbrev IsRefusalOrRead : Status → Type 0
 IsRefusalOrRead r = (r ≡ Refused) ⊎ (r ≡ ReadFault)
 
 begun_so : {names : RunNames} {stalls : Answers} {held now : Held} {d : Design} {p : Plan} (stop : Stop) → IsMade names held d p → IsSimulated stalls d p held now (Err stop) → IsRefusalOrRead (stop_status stop) → IsSome held → AreFirstWords stalls names held now
-begun_so (stops.TooManyCells n) made sim e told = inl (sim.too_many made.can.is.top made.can.is.is_top (sim.cells n refl made.can.is.top made.can.is.is_top).0).1
+begun_so (stops.TooManyCells n) made sim e told = inl (sim.too_many (sim.cells n refl).0).1
 begun_so {stalls = stalls} {now = now} (stops.BadLine file line) made sim e told =
     let l = loaded_of (made.loaded told) in
     inr (l, of_loaded l made (λ (s : Setup) (outputs : List (Name × ℕ)). answers.IsCutOff stalls s outputs now) (broken (sim.tells made.can.is.top made.can.is.shape made.can.is.is_top made.can.is.is_run.has told)))

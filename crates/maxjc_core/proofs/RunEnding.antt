@@ -9,7 +9,7 @@ use Rattle.rtl_ir.specs.Flat.{Families, top_of}
 use Rattle.rtl_ir.specs.Ports.{Shape, HasShape}
 use Rattle.top_ports.specs.Shapes.{IsTop}
 use Rattle.stall_source.specs.Stalls.{Answers}
-use Rattle.verilog_sim.specs.Start.{cells_of}
+use Rattle.verilog_sim.specs.Start.{all_cells}
 use Rattle.simulation.specs.Answers.{Tells, IsOrFails}
 use Rattle.simulation.specs.Ends.{End, Ends}
 use Rattle.simulation.specs.Plans.{setup_of}
@@ -39,16 +39,14 @@ pub record IsSimulated (stalls : Answers) (d : Design) (p : Plan) (held now : He
       → top_of d ≡ Some m
       → HasShape m s
       → IsSome held
-      → cells_of m ≤ 2 ^ 26
+      → all_cells d ≤ 2 ^ 26
       → (restart : Families) (vs : List Families) (end : End)
       → Ends stalls (setup_of d m s p held) restart vs end
       → IsOrFails end result
-  pub cells : (n : ℕ) → result ≡ Err (stops.TooManyCells n) → (m : Module) → top_of d ≡ Some m → (2 ^ 26 < cells_of m) × (n ≡ min (cells_of m) (2 ^ 64 - 1))
+  pub cells : (n : ℕ) → result ≡ Err (stops.TooManyCells n) → (2 ^ 26 < all_cells d) × (n ≡ min (all_cells d) (2 ^ 64 - 1))
   pub too_many :
-      (m : Module)
-      → top_of d ≡ Some m
-      → 2 ^ 26 < cells_of m
-      → IfErr result (λ e. (e ≡ stops.TooManyCells (min (cells_of m) (2 ^ 64 - 1))) ⊎ (e ≡ stops.NoMemory)) × (now ≡ held) × OnOk result ⊥
+      2 ^ 26 < all_cells d
+      → IfErr result (λ e. (e ≡ stops.TooManyCells (min (all_cells d) (2 ^ 64 - 1))) ⊎ (e ≡ stops.NoMemory)) × (now ≡ held) × OnOk result ⊥
 
 -- where files are loaded they are told
 pub told_loaded : {names : RunNames} {held : Held} → IsLoaded names held → IsSome held
@@ -59,6 +57,7 @@ loaded_of a = record { files = a.files; fit = a.is.fit }
 
 -- the run of files that are loaded is the one that was made
 pub record IsSameRun {names : RunNames} {held : Held} (l : IsLoaded names held) {d : Design} {p : Plan} (can : CanRun d p) : Type 0 where
+  pub designs : l.fit.design ≡ d
   pub tops : l.fit.is.top ≡ can.is.top
   pub setups : setup l ≡ setup_of d can.is.top can.is.shape p held
   pub plans : l.fit.plan ≡ p
@@ -75,7 +74,7 @@ same_run {names} {held} {d} {p} l made =
     let tops = top_once l.files.text can.bytes l.fit.design d l.fit.is can.is designs in
     let shapes = one_alone can.is.top l.fit.is.shape can.is.shape (subst (λ (m : Module). IsTop m l.fit.is.shape) tops l.fit.is.is_run) can.is.is_run in
     let plans : l.fit.plan ≡ p = same.plans ∙ made_as.is.plan_is in
-    record { tops = tops; setups = setups _ _ _ _ _ _ _ _ held designs tops shapes plans; plans = plans }
+    record { designs = designs; tops = tops; setups = setups _ _ _ _ _ _ _ _ held designs tops shapes plans; plans = plans }
 
 -- what is known of the run that was made holds of the run of what is loaded
 pub of_loaded : {names : RunNames} {held : Held} {d : Design} {p : Plan} (l : IsLoaded names held) (made : IsMade names held d p) (P : Setup → List (Name × ℕ) → Type 0) → P (setup_of d made.can.is.top made.can.is.shape p held) p.outputs → P (setup l) l.fit.plan.outputs
@@ -84,26 +83,26 @@ of_loaded {names} {held} {d} {p} l made P h =
     subst (λ (q : Plan). P (setup l) q.outputs) (sym same.plans) (subst (λ (s : Setup). P s p.outputs) (sym same.setups) h)
 
 -- a design that isn't too large is small
-small_of : {names : RunNames} {held : Held} {d : Design} {p : Plan} (l : IsLoaded names held) (made : IsMade names held d p) → cells_of made.can.is.top ≤ 2 ^ 26 → IsSmall l
-small_of l made small = subst (λ (m : Module). cells_of m ≤ 2 ^ 26) (sym (same_run l made).tops) small
+small_of : {names : RunNames} {held : Held} {d : Design} {p : Plan} (l : IsLoaded names held) (made : IsMade names held d p) → all_cells d ≤ 2 ^ 26 → IsSmall l
+small_of l made small = subst (λ (e : Design). all_cells e ≤ 2 ^ 26) (sym (same_run l made).designs) small
 
 -- where the answer isn't that of a large design, the design is small
-fits : (m : Module) → (2 ^ 26 < cells_of m → ⊥) → cells_of m ≤ 2 ^ 26
-fits m never = ⊎_elim (λ large. absurd (never large)) (λ small. small) (cases_lt (2 ^ 26) (cells_of m))
+fits : (d : Design) → (2 ^ 26 < all_cells d → ⊥) → all_cells d ≤ 2 ^ 26
+fits d never = ⊎_elim (λ large. absurd (never large)) (λ small. small) (cases_lt (2 ^ 26) (all_cells d))
 
 pub small_ok : {names : RunNames} {stalls : Answers} {held now : Held} {d : Design} {p : Plan} {o : Outcome} (l : IsLoaded names held) (made : IsMade names held d p) → IsSimulated stalls d p held now (Ok o) → IsSmall l
-small_ok l made sim = small_of l made (fits made.can.is.top (λ large. (sim.too_many made.can.is.top made.can.is.is_top large).2))
+small_ok {d = d} l made sim = small_of l made (fits d (λ large. (sim.too_many large).2))
 
 pub small_err : {names : RunNames} {stalls : Answers} {held now : Held} {d : Design} {p : Plan} {stop : Stop} (l : IsLoaded names held) (made : IsMade names held d p) → IsSimulated stalls d p held now (Err stop) → ((n : ℕ) → stop ≡ stops.TooManyCells n → ⊥) → (stop ≡ stops.NoMemory → ⊥) → IsSmall l
-small_err l made sim many memory =
-    small_of l made (fits made.can.is.top (λ large. ⊎_elim (λ e. many _ e) (λ e. memory e) (sim.too_many made.can.is.top made.can.is.is_top large).0))
+small_err {d = d} l made sim many memory =
+    small_of l made (fits d (λ large. ⊎_elim (λ e. many _ e) (λ e. memory e) (sim.too_many large).0))
 
 -- how a run of what is loaded ends is the answer, or the call failed
 pub ends_so : {names : RunNames} {stalls : Answers} {held now : Held} {d : Design} {p : Plan} {result : Result Outcome Stop} (l : IsLoaded names held) (made : IsMade names held d p) → IsSimulated stalls d p held now result → IsSmall l → (restart : Families) (vs : List Families) (end : End) → Ends stalls (setup l) restart vs end → IsOrFails end result
 ends_so {stalls = stalls} l made sim small restart vs end ends =
     let same = same_run l made in
     sim.exact made.can.is.top made.can.is.shape made.can.is.is_top made.can.is.is_run.has (told_loaded l)
-    (subst (λ (m : Module). cells_of m ≤ 2 ^ 26) same.tops small) restart vs end
+    (subst (λ (e : Design). all_cells e ≤ 2 ^ 26) same.designs small) restart vs end
     (subst (λ (s : Setup). Ends stalls s restart vs end) same.setups ends)
 
 -- a run that ends is a run
@@ -116,9 +115,9 @@ run_of_ends (Ends.stopped fault run within is by) = run
 pub simulated : {stalls : Answers} {d : Design} {p : Plan} {other held now : Held} {result : Result Outcome Stop}
     → other ≡ held
     → ((m : Module) (s : Shape) → top_of d ≡ Some m → HasShape m s → IsSome other → Tells stalls (setup_of d m s p other) p.outputs now result)
-    → ((m : Module) (s : Shape) → top_of d ≡ Some m → HasShape m s → IsSome other → cells_of m ≤ 2 ^ 26 → (restart : Families) (vs : List Families) (end : End) → Ends stalls (setup_of d m s p other) restart vs end → IsOrFails end result)
-    → ((n : ℕ) → result ≡ Err (stops.TooManyCells n) → (m : Module) → top_of d ≡ Some m → (2 ^ 26 < cells_of m) × (n ≡ min (cells_of m) (2 ^ 64 - 1)))
-    → ((m : Module) → top_of d ≡ Some m → 2 ^ 26 < cells_of m → IfErr result (λ e. (e ≡ stops.TooManyCells (min (cells_of m) (2 ^ 64 - 1))) ⊎ (e ≡ stops.NoMemory)) × (now ≡ other) × OnOk result ⊥)
+    → ((m : Module) (s : Shape) → top_of d ≡ Some m → HasShape m s → IsSome other → all_cells d ≤ 2 ^ 26 → (restart : Families) (vs : List Families) (end : End) → Ends stalls (setup_of d m s p other) restart vs end → IsOrFails end result)
+    → ((n : ℕ) → result ≡ Err (stops.TooManyCells n) → (2 ^ 26 < all_cells d) × (n ≡ min (all_cells d) (2 ^ 64 - 1)))
+    → (2 ^ 26 < all_cells d → IfErr result (λ e. (e ≡ stops.TooManyCells (min (all_cells d) (2 ^ 64 - 1))) ⊎ (e ≡ stops.NoMemory)) × (now ≡ other) × OnOk result ⊥)
     → IsSimulated stalls d p held now result
 simulated {stalls} {d} {p} {other} {held} {now} {result} same tells exact cells too_many =
     subst (λ (h : Held). IsSimulated stalls d p h now result) same (record { tells = tells; exact = exact; cells = cells; too_many = too_many })

@@ -7,7 +7,7 @@ use Rattle.rtl_ir.specs.Flat.{Families}
 use Rattle.stall_source.specs.Stalls.{Answers}
 use Rattle.word_files.specs.RunFiles.{Reads, Fits}
 use Rattle.word_files.specs.declared.error.RunError.TheVariants as run_errors
-use Rattle.verilog_sim.specs.Start.{cells_of}
+use Rattle.verilog_sim.specs.Start.{all_cells}
 use Rattle.verilog_read.specs.Refused.{Refuses, IsReadAs}
 use Rattle.top_ports.specs.Shapes.{IsPortList}
 use Rattle.rtl_ir.specs.declared.design.Design.{Design}
@@ -35,7 +35,6 @@ rule_cause rules.NoMemory = Rule 0 []
 
 abbrev pub text_cause : VerilogError → Cause
 text_cause (errors.NoToken place) = NoToken place
-text_cause errors.NotBuilt = NotBuilt
 text_cause (errors.Syntax place) = Syntax place
 text_cause (errors.Rtl e) = rule_cause e
 text_cause (errors.PortShape name) = PortShape name
@@ -67,15 +66,15 @@ pub data IsFaulty (names : RunNames) (held : Held) : Cause → Type 0 where
 
 -- the design has too many cells to be run, or not
 abbrev pub IsVast : {names : RunNames} {held : Held} → IsLoaded names held → Type 0
-IsVast l = 2 ^ 26 < cells_of l.fit.is.top
+IsVast l = 2 ^ 26 < all_cells l.fit.design
 
 abbrev pub IsSmall : {names : RunNames} {held : Held} → IsLoaded names held → Type 0
-IsSmall l = cells_of l.fit.is.top ≤ 2 ^ 26
+IsSmall l = all_cells l.fit.design ≤ 2 ^ 26
 
 -- the cause stands, also one that is met in the run
 pub data StandsIn (stalls : Answers) (names : RunNames) (held : Held) : Cause → Type 0 where
   before : (cause : Cause) → IsFaulty names held cause → StandsIn stalls names held cause
-  vast : (l : IsLoaded names held) → IsVast l → StandsIn stalls names held (TooManyCells (min (cells_of l.fit.is.top) (2 ^ 64 - 1)))
+  vast : (l : IsLoaded names held) → IsVast l → StandsIn stalls names held (TooManyCells (min (all_cells l.fit.design) (2 ^ 64 - 1)))
   bad_line :
       (l : IsLoaded names held) (restart : Families) (vs : List Families) (file : List ℕ) (line : ℕ)
       → IsSmall l

@@ -22,4 +22,6 @@ mod design_tests;
 #[cfg(test)]
 mod simulate_tests;
 #[cfg(test)]
+mod storage_tests;
+#[cfg(test)]
 mod tests;

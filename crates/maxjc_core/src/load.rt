@@ -53,7 +53,6 @@ fn design_of<'a>(alloc: Global, text: &[u8]) -> Result<Design, Stop<'a>>
         Ok(design) => Ok(design),
         Err(VerilogError::NoMemory) => Err(Stop::NoMemory),
         Err(VerilogError::NoToken(place)) => Err(Stop::Refused(Refusal::NoToken(place))),
-        Err(VerilogError::NotBuilt) => Err(Stop::Refused(Refusal::NotBuilt)),
         Err(VerilogError::Syntax(place)) => Err(Stop::Refused(Refusal::Syntax(place))),
         Err(VerilogError::Rtl(error)) => Err(Stop::Refused(Refusal::Rule(error))),
         Err(VerilogError::PortShape(name)) => Err(Stop::Refused(Refusal::PortShape(name))),

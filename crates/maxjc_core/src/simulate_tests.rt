@@ -6,7 +6,7 @@ use std::alloc::Global;
 use std::process::Abort;
 use std::test::Fail;
 
-const HEAD: &[u8] = b"module top$project (
+pub(crate) const HEAD: &[u8] = b"module top$project (
 input wire [0:0] clk, input wire [0:0] reset,
 input wire [0:0] hold$Double, input wire [47:0] ticks$Double,
 input wire [7:0] in$x$data, input wire [0:0] in$x$valid, output wire [0:0] in$x$ready,
@@ -43,17 +43,17 @@ endmodule
 
 // A simulation: the text's head and body, the run file, the words of x, and what they lead to.
 #[derive(Drop)]
-struct Case<'a> {
-    head: &'a [u8],
-    body: &'a [u8],
-    run: &'a [u8],
-    x: &'a [u8],
-    status: Status,
-    said: &'a [u8],
-    y: &'a [u8],
+pub(crate) struct Case<'a> {
+    pub head: &'a [u8],
+    pub body: &'a [u8],
+    pub run: &'a [u8],
+    pub x: &'a [u8],
+    pub status: Status,
+    pub said: &'a [u8],
+    pub y: &'a [u8],
 }
 
-const TWO_EDGES: &[u8] =
+pub(crate) const TWO_EDGES: &[u8] =
     b"{\"ticks\":{\"Double\":2},\"inputs\":{\"x\":\"x.txt\"},\"outputs\":{\"y\":\"y.txt\"},\"edges\":2}";
 
 const STALLED: &[u8] =
@@ -105,7 +105,7 @@ fn run(alloc: Global, words: &Vec<Text>, files: &mut MemFiles, say: &mut MemSay)
     maxjc(alloc, words, files, say, &stalls)
 }
 
-fn expect(rt: &impl Abort, alloc: Global, case: &Case<'_>) -> Result<(), Fail> {
+pub(crate) fn expect(rt: &impl Abort, alloc: Global, case: &Case<'_>) -> Result<(), Fail> {
     let mut files = held(alloc, case)?;
     let mut say = MemSay::new(alloc, Vec::new(alloc))?;
     let ended = run_with_port_1_stalled(alloc, &simulate_words(alloc)?, &mut files, &mut say);
@@ -179,7 +179,7 @@ fn refused<'a>(body: &'a [u8], run: &'a [u8], said: &'a [u8]) -> Case<'a> {
 fn texts_and_run_files_are_refused(rt: HostRuntime) -> Result<(), Fail> {
     let cases = [
         refused(b"#", TWO_EDGES, b"refused V1 347\n"),
-        refused(b"reg [0:0] r;", TWO_EDGES, b"refused N0\n"),
+        refused(b"reg [0:0] r", TWO_EDGES, b"refused V2 358\n"),
         refused(b"assign w0 = ;", TWO_EDGES, b"refused V2 359\n"),
         refused(LOOP, TWO_EDGES, b"refused V3 4 w0 w1\n"),
         refused(

@@ -41,7 +41,7 @@ written_words m v (Cell k a) x c lt h = by_depth (ltb (v a) (depth_of m k))
           cells = λ j i. either (eqb j k && eqb i (v a)) (word_width m j) x (c.cells j i) (λ e. subst (λ (n : ℕ). x < 2 ^ word_width m n) (sym (eqb-true j k (both_true (eqb j k) (eqb i (v a)) e))) lt) (h.cells j i);
         }
 
-updated_words : (m : Module) (v : Family) → ((n : ℕ) → v n < 2 ^ width_of m n) → (us : List Update) → ((j : ℕ) (u : Update) → slice_get us j ≡ Some u → IsUpdateTyped m u) → (c : Contents) → HoldsWords m c → HoldsWords m (updated_all m v us c)
+pub updated_words : (m : Module) (v : Family) → ((n : ℕ) → v n < 2 ^ width_of m n) → (us : List Update) → ((j : ℕ) (u : Update) → slice_get us j ≡ Some u → IsUpdateTyped m u) → (c : Contents) → HoldsWords m c → HoldsWords m (updated_all m v us c)
 updated_words m v words [] typed c h = h
 updated_words m v words (u ∷ us) typed c h =
     updated_words m v words us (λ j w e. typed (suc j) w e) (updated m v u c) (by_enable (eqb (v u.enable) 1))

@@ -9,7 +9,7 @@ use Rattle.rtl_ir.specs.Ports.{Shape, HasShape, outer_of}
 use Rattle.rtl_ir.specs.Rules.{IsAccepted}
 use Rattle.rtl_ir.specs.Run.{Outer}
 use Rattle.stall_source.specs.Stalls.{Answers, IsDecided}
-use Rattle.verilog_sim.specs.Start.{cells_of, filled}
+use Rattle.verilog_sim.specs.Start.{all_cells, filled}
 use Rattle.simulation.specs.Inputs.{input_files}
 use Rattle.simulation.specs.Runs.{Setup}
 use Rattle.simulation.specs.Ends.{End, Ends}
@@ -20,7 +20,7 @@ use Rattle.simulation.specs.declared.plan.Plan.{Plan}
 use Rattle.simulation.specs.declared.stop.Outcome.{Outcome}
 use Rattle.simulation.specs.declared.stop.Stop.{Stop}
 use Rattle.simulation.specs.declared.stop.Stop.TheVariants.{TooManyCells, BadLine, WordRange, ReadFault, WriteFault, NoMemory}
-use Rattle.simulation.proofs.Making.{formed_top}
+use Rattle.simulation.proofs.Making.{own_cells, formed_top}
 use Rattle.simulation.proofs.Once.{one_end}
 use Rattle.simulation.proofs.Shaping.{few_ports}
 
@@ -58,11 +58,11 @@ same_setup d m s t p held e = ap (λ (o : Outer). record { design = d; top = m; 
 pub one_way :
     (stalls : Answers) → IsDecided stalls
     → (d : Design) (m : Module) (s t : Shape) (p : Plan) (held : Held)
-    → IsAccepted d → top_of d ≡ Some m → HasShape m t → FitsShape p t → cells_of m ≤ 2 ^ 26 → p.pick < 2 ^ 64 → p.edges < 2 ^ 64
+    → IsAccepted d → top_of d ≡ Some m → HasShape m t → FitsShape p t → all_cells d ≤ 2 ^ 26 → p.pick < 2 ^ 64 → p.edges < 2 ^ 64
     → outer_of s m ≡ outer_of t m
     → (r q : Families) (vs ws : List Families) (a b : End)
     → Ends stalls (setup_of d m s p held) r vs a → Ends stalls (setup_of d m s p held) q ws b → a ≡ b
 one_way stalls decided d m s t p held accepted top has fits cells pick edges outer r q vs ws a b x y =
     let same = same_setup d m s t p held outer in
-    one_end stalls decided d m t p held accepted top has fits pick edges (omega (arith, few_ports (take (length d.modules - 1) d.modules) m t (formed_top d m accepted top) has cells)) r q vs ws a b
+    one_end stalls decided d m t p held accepted top has fits pick edges (omega (arith, few_ports (take (length d.modules - 1) d.modules) m t (formed_top d m accepted top) has (own_cells d m accepted top cells))) r q vs ws a b
     (subst (λ (z : Setup). Ends stalls z r vs a) same x) (subst (λ (z : Setup). Ends stalls z q ws b) same y)

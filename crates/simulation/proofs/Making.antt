@@ -11,7 +11,10 @@ use Rattle.rtl_ir.specs.Ports.{Shape, HasShape, outer_of, first_input, first_out
 use Rattle.rtl_ir.specs.Rules.{IsAccepted}
 use Rattle.rtl_ir.specs.Run.{Outer}
 use Rattle.rtl_ir.specs.Value.{width_of}
-use Rattle.verilog_sim.specs.Start.{cells_of, filled, IsRefusal}
+use Rattle.std.specs.Prelude.{slice_index, sum_by}
+use Rattle.rtl_ir.specs.declared.design.Instance.{Instance}
+use Rattle.verilog_sim.proofs.CellTotals.{total_top}
+use Rattle.verilog_sim.specs.Start.{cells_of, cells_after, all_cells, filled, IsRefusal}
 use Rattle.verilog_sim.specs.State.{State, contents}
 use Rattle.verilog_sim.specs.declared.error.SimError.{SimError}
 use Rattle.verilog_sim.specs.declared.error.SimError.TheVariants as refusals
@@ -38,6 +41,12 @@ use Rattle.simulation.proofs.Shaping.{input_width, output_width, plan_length, fe
 pub refusal_of : (cells : ℕ) (e : SimError) → IsRefusal cells e → (refused_by e ≡ stops.TooManyCells (min cells (2 ^ 64 - 1))) ⊎ (refused_by e ≡ stops.NoMemory)
 refusal_of cells (refusals.TooManyCells n) r = inl (ap stops.TooManyCells r.1)
 refusal_of cells refusals.NoMemory r = inr refl
+
+-- the cells of the top module are among those of the design
+pub own_cells : (d : Design) (m : Module) → IsAccepted d → top_of d ≡ Some m → all_cells d ≤ 2 ^ 26 → cells_of m ≤ 2 ^ 26
+own_cells d m accepted top small =
+    let all : cells_of m + sum_by (λ (i : Instance). slice_index (cells_after [] d.modules) i.«module») m.instances ≡ all_cells d = total_top d accepted.formed m top in
+    omega (arith, all)
 
 -- a design that is accepted is formed
 pub formed_top : (d : Design) (m : Module) → IsAccepted d → top_of d ≡ Some m → IsFormedModule (take (length d.modules - 1) d.modules) m
@@ -68,13 +77,13 @@ module _ (d : Design) (m : Module) (s : Shape) (p : Plan) (has : HasShape m s) (
       let x = same_map_at (λ (i : Name × ℕ). i.1) (λ (x : Name × ℕ). x.1) p.outputs s.outputs k n fits.outputs en in
       subst (λ (y : Module). n.1 ≡ width_of y c.word) same (sym x.2 ∙ output_width m s k x.0 c has x.1 (ap (λ (o : Outer). slice_get o.outputs k) (sym outer) ∙ ec)))
 
-  pub few : IsAccepted d → top_of d ≡ Some m → cells_of m ≤ 2 ^ 26 → 2 * length (outer_of s m).holds + 3 * length (outer_of s m).inputs + 3 * length (outer_of s m).outputs + length (outer_of s m).steady ≤ 2 ^ 27
-  few accepted top cells = omega (arith, few_ports (take (length d.modules - 1) d.modules) m s (formed_top d m accepted top) has cells, length_channels m (first_input s) s.inputs, length_channels m (first_output s) s.outputs, length_seconds m 2 s.kernels, length_steady m s)
+  pub few : IsAccepted d → top_of d ≡ Some m → all_cells d ≤ 2 ^ 26 → 2 * length (outer_of s m).holds + 3 * length (outer_of s m).inputs + 3 * length (outer_of s m).outputs + length (outer_of s m).steady ≤ 2 ^ 27
+  few accepted top cells = omega (arith, few_ports (take (length d.modules - 1) d.modules) m s (formed_top d m accepted top) has (own_cells d m accepted top cells), length_channels m (first_input s) s.inputs, length_channels m (first_output s) s.outputs, length_seconds m 2 s.kernels, length_steady m s)
 
 -- its lists have an item for each port
 pub bench_made :
     (d : Design) (m : Module) (s : Shape) (p : Plan) (b : Bench)
-    → IsAccepted d → top_of d ≡ Some m → HasShape m s → FitsShape p s → AreApart p → cells_of m ≤ 2 ^ 26
+    → IsAccepted d → top_of d ≡ Some m → HasShape m s → FitsShape p s → AreApart p → all_cells d ≤ 2 ^ 26
     → b.sim.design ≡ d → b.sim.outer ≡ outer_of s m
     → map input_of b.inputs.items ≡ p.inputs → AreBegun b.inputs.items → map output_of b.outputs.items ≡ p.outputs
     → length b.stalled.items ≡ length p.inputs + length p.outputs + length p.ticks

@@ -43,7 +43,7 @@ impl<'a> Bench<'a> {
     ghost use Rattle.rtl_ir.specs.Flat.{top_of};
     ghost use Rattle.rtl_ir.specs.Ports.{Shape, HasShape};
     ghost use Rattle.rtl_ir.specs.Rules.{IsAccepted};
-    ghost use Rattle.verilog_sim.specs.Start.{cells_of};
+    ghost use Rattle.verilog_sim.specs.Start.{all_cells};
     ghost use Rattle.simulation.specs.Errors.{IsEdgeStop, IsNewStop};
     ghost use Rattle.simulation.specs.Plans.{FitsShape, AreApart, setup_of};
     ghost use Rattle.simulation.specs.Outputs.{ChangesOnlyOutputs};
@@ -60,15 +60,14 @@ impl<'a> Bench<'a> {
     ) -> Result<Self, Stop>
         requires accepted { IsAccepted design.now }
         requires shape { (m : Module) × (s : Shape) × (top_of design.now ≡ Some m) × HasShape m s × FitsShape plan s }
-        requires alone { (m : Module) → top_of design.now ≡ Some m → length m.instances ≡ 0 }
         requires apart { AreApart plan }
         ensures bench { IfOk result IsBench }
         ensures begun { IsSome (F.held files.old) → IfOk result (λ made. IsBegunAt (F.held files.new) made.outputs.items) }
         ensures named { IfOk result (λ made. map output_of made.outputs.items ≡ plan.outputs) }
         ensures begins { (m : Module) (s : Shape) → top_of design.now ≡ Some m → HasShape m s → IsSome (F.held files.old)
             → IfOk result (λ made. Begins (setup_of design.now m s plan (F.held files.old)) (F.held files.new) made.sim made.inputs.items made.outputs.items) }
-        ensures cells { (n : ℕ) → result ≡ Err (stops.TooManyCells n) → (m : Module) → top_of design.now ≡ Some m → (2 ^ 26 < cells_of m) × (n ≡ min (cells_of m) (2 ^ 64 - 1)) }
-        ensures too_many { (m : Module) → top_of design.now ≡ Some m → 2 ^ 26 < cells_of m → IfErr result (λ e. (e ≡ stops.TooManyCells (min (cells_of m) (2 ^ 64 - 1))) ⊎ (e ≡ stops.NoMemory)) × (F.held files.new ≡ F.held files.old) × OnOk result ⊥ }
+        ensures cells { (n : ℕ) → result ≡ Err (stops.TooManyCells n) → (2 ^ 26 < all_cells design.now) × (n ≡ min (all_cells design.now) (2 ^ 64 - 1)) }
+        ensures too_many { 2 ^ 26 < all_cells design.now → IfErr result (λ e. (e ≡ stops.TooManyCells (min (all_cells design.now) (2 ^ 64 - 1))) ⊎ (e ≡ stops.NoMemory)) × (F.held files.new ≡ F.held files.old) × OnOk result ⊥ }
         ensures errors { IfErr result IsNewStop }
         ensures others { ChangesOnlyOutputs plan.outputs (F.held files.old) (F.held files.new) }
         ensures read_quiet { F.read_faults files.new ≡ F.read_faults files.old }

@@ -6,7 +6,7 @@ ghost use Rattle.rtl_ir.specs.Flat.{Families, top_of};
 ghost use Rattle.rtl_ir.specs.Ports.{Shape, HasShape};
 ghost use Rattle.rtl_ir.specs.Rules.{IsAccepted};
 ghost use Rattle.stall_source.specs.Stalls.{IsDecided, IsFreeAtZero};
-ghost use Rattle.verilog_sim.specs.Start.{cells_of};
+ghost use Rattle.verilog_sim.specs.Start.{all_cells};
 ghost use Rattle.simulation.specs.Outputs.{ChangesOnlyOutputs};
 ghost use Rattle.simulation.specs.Ends.{End, Ends};
 ghost use Rattle.simulation.specs.Plans.{FitsShape, AreApart, setup_of};
@@ -21,7 +21,7 @@ use rtl_ir::Design;
 use stall_source::Pattern;
 use std::alloc::Global;
 
-/// Simulates an accepted design whose top module has the ports of a run and no instances.
+/// Simulates an accepted design whose top module has the ports of a run.
 ///
 /// The output files are created in the order of their ports, and one edge with reset is made. Then
 /// edges are made until the port `done` is 1 or the plan's number of edges is reached. Before an
@@ -43,7 +43,6 @@ pub fn simulate<F: Files, G: Fn(u64, u64, u32) -> bool>(
 ) -> Result<Outcome, Stop>
     requires accepted { IsAccepted design.now }
     requires shape { (m : Module) × (s : Shape) × (top_of design.now ≡ Some m) × HasShape m s × FitsShape plan s }
-    requires alone { (m : Module) → top_of design.now ≡ Some m → length m.instances ≡ 0 }
     requires apart { AreApart plan }
     requires callable { G.IsAlwaysCallable stalls.now.test }
     requires decided { IsDecided (G.post stalls.now.test) }
@@ -52,13 +51,13 @@ pub fn simulate<F: Files, G: Fn(u64, u64, u32) -> bool>(
     // What the answer says of the run, where the files are told; and where a run ends, there is no other answer.
     ensures tells { (m : Module) (s : Shape) → top_of design.now ≡ Some m → HasShape m s → IsSome (F.held files.old)
         → Tells (G.post stalls.now.test) (setup_of design.now m s plan (F.held files.old)) plan.outputs (F.held files.new) result }
-    ensures exact { (m : Module) (s : Shape) → top_of design.now ≡ Some m → HasShape m s → IsSome (F.held files.old) → cells_of m ≤ 2 ^ 26
+    ensures exact { (m : Module) (s : Shape) → top_of design.now ≡ Some m → HasShape m s → IsSome (F.held files.old) → all_cells design.now ≤ 2 ^ 26
         → (restart : Families) (vs : List Families) (end : End)
         → Ends (G.post stalls.now.test) (setup_of design.now m s plan (F.held files.old)) restart vs end → IsOrFails end result }
 
     // Too many cells, before any file is created.
-    ensures cells { (n : ℕ) → result ≡ Err (stops.TooManyCells n) → (m : Module) → top_of design.now ≡ Some m → (2 ^ 26 < cells_of m) × (n ≡ min (cells_of m) (2 ^ 64 - 1)) }
-    ensures too_many { (m : Module) → top_of design.now ≡ Some m → 2 ^ 26 < cells_of m → IfErr result (λ e. (e ≡ stops.TooManyCells (min (cells_of m) (2 ^ 64 - 1))) ⊎ (e ≡ stops.NoMemory)) × (F.held files.new ≡ F.held files.old) × OnOk result ⊥ }
+    ensures cells { (n : ℕ) → result ≡ Err (stops.TooManyCells n) → (2 ^ 26 < all_cells design.now) × (n ≡ min (all_cells design.now) (2 ^ 64 - 1)) }
+    ensures too_many { 2 ^ 26 < all_cells design.now → IfErr result (λ e. (e ≡ stops.TooManyCells (min (all_cells design.now) (2 ^ 64 - 1))) ⊎ (e ≡ stops.NoMemory)) × (F.held files.new ≡ F.held files.old) × OnOk result ⊥ }
 
     // Failures, and what they count.
     ensures read_fault { (m : Module) (s : Shape) → top_of design.now ≡ Some m → HasShape m s → result ≡ Err stops.ReadFault

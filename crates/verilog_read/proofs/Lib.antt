@@ -3,7 +3,6 @@ pub mod FirstUse
 pub mod Grow
 pub mod Seq
 pub mod Updates
-pub mod Twice
 pub mod PortLemmas
 pub mod ItemLemmas
 pub mod ModuleLemmas

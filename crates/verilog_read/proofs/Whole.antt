@@ -21,10 +21,10 @@ use Rattle.verilog_syntax.specs.declared.token.Placed.{Placed}
 use Rattle.rtl_reading.specs.Uses.{unknown_in}
 use Rattle.rtl_text.specs.Text.{Pairwise, ModuleIs}
 use Rattle.rtl_reading.specs.Reads.{IsText, IsNumbered, ReadsAs}
-use Rattle.verilog_read.specs.Refused.{AreNotBuilt, IsNotBuilt, IsRuleFault, Refuses, IsReadAs}
+use Rattle.verilog_read.specs.Refused.{IsRuleFault, Refuses, IsReadAs}
 use Rattle.verilog_read.specs.Answers.{AreTokens, IsScanFault, AreTrees, IsDesign, IsTreeFault, BreaksRule, CanRun, HasWrongPort}
 use Rattle.verilog_read.specs.declared.error.VerilogError.{VerilogError}
-use Rattle.verilog_read.specs.declared.error.VerilogError.TheVariants.{NoToken, NotBuilt, Syntax, Rtl, PortShape, NoMemory}
+use Rattle.verilog_read.specs.declared.error.VerilogError.TheVariants.{NoToken, Syntax, Rtl, PortShape, NoMemory}
 use Rattle.verilog_read.proofs.Readings.{one_reading, not_read, unplaced}
 use Rattle.verilog_read.proofs.Good.{file_good}
 use Rattle.verilog_read.proofs.Said.{modules_are, are_numbered}
@@ -55,12 +55,6 @@ module _ (bytes : List ℕ) (tokens : List Placed) (at : AreTokens bytes tokens)
   are : IsTokens bytes (tokens_of tokens)
   are = subst (IsTokens bytes) (views tokens) (unplaced at)
 
-  pub not_built : AreNotBuilt (tokens_of tokens) → IsNotBuilt bytes
-  not_built h = record { tokens = tokens_of tokens; read = are; form = h }
-
-  pub built : (AreNotBuilt (tokens_of tokens) → ⊥) → IsNotBuilt bytes → ⊥
-  built h n = h (subst AreNotBuilt (one_reading are n.read) n.form)
-
   text_of : (trees : List ModuleTree) → AreTrees tokens trees → IsText bytes trees
   text_of trees a = record { tokens = tokens_of tokens; read = are; derived = a.derived }
 
@@ -73,19 +67,16 @@ module _ (bytes : List ℕ) (tokens : List Placed) (at : AreTokens bytes tokens)
   pub formed : (d : Design) → IsDesign tokens d → IsFormed d.modules
   formed d h = Forms.formed h.trees d.modules h.said (file_good are h.are.derived) h.known
 
-  pub tree_refused : {size : ℕ} {e : VerilogError} → size ≡ length bytes → (AreNotBuilt (tokens_of tokens) → ⊥) → IsTreeFault tokens size e → (e ≡ NoMemory) ⊎ Refuses bytes e
-  tree_refused is n IsTreeFault.memory = inl refl
-  tree_refused {size = size} is n (IsTreeFault.syntax_at place b) = inr (
-    record {
-      tokens = map placed_view tokens;
-      read = at;
-      token = b.token;
-      bad = subst (λ l. FirstBad Is Choice IsFile l b.token) (sym (views tokens)) b.bad;
-      at = b.place ∙ ap (λ l. slice_index_or l b.token size) (sym (places tokens)) ∙ ap (λ n. slice_index_or (map (λ (t : PlacedToken). t.place) (map placed_view tokens)) b.token n) is;
-    },
-    built n,
-  )
-  tree_refused is n (IsTreeFault.unknown name trees a u) = inr (record { trees = trees; is = text_of trees a; unknown = u }, built n)
+  pub tree_refused : {size : ℕ} {e : VerilogError} → size ≡ length bytes → IsTreeFault tokens size e → (e ≡ NoMemory) ⊎ Refuses bytes e
+  tree_refused is IsTreeFault.memory = inl refl
+  tree_refused {size = size} is (IsTreeFault.syntax_at place b) = inr (record {
+    tokens = map placed_view tokens;
+    read = at;
+    token = b.token;
+    bad = subst (λ l. FirstBad Is Choice IsFile l b.token) (sym (views tokens)) b.bad;
+    at = b.place ∙ ap (λ l. slice_index_or l b.token size) (sym (places tokens)) ∙ ap (λ n. slice_index_or (map (λ (t : PlacedToken). t.place) (map placed_view tokens)) b.token n) is;
+  })
+  tree_refused is (IsTreeFault.unknown name trees a u) = inr (record { trees = trees; is = text_of trees a; unknown = u })
 
   pub tree_excluded : {size : ℕ} {e : VerilogError} (d : Design) → IsReadAs bytes d → IsTreeFault tokens size e → e ≡ NoMemory
   tree_excluded d r IsTreeFault.memory = refl
@@ -97,22 +88,22 @@ module _ (bytes : List ℕ) (tokens : List Placed) (at : AreTokens bytes tokens)
       let none : unknown_in trees ≡ None = ap unknown_in (sym same) ∙ r.reads.known in
       let f : Some name ≡ None = sym u ∙ none in absurd (cc)
 
-  pub rule_refused : {e : VerilogError} (d : Design) → IsDesign tokens d → (AreNotBuilt (tokens_of tokens) → ⊥) → BreaksRule d e → (e ≡ NoMemory) ⊎ Refuses bytes e
-  rule_refused d h n BreaksRule.memory = inl refl
-  rule_refused d h n (BreaksRule.rule (rules.SameName name) f) = inr (record { design = d; reads = reads d h; fault = f }, built n)
-  rule_refused d h n (BreaksRule.rule (rules.TwoDrivers name) f) = inr (record { design = d; reads = reads d h; fault = f }, built n)
-  rule_refused d h n (BreaksRule.rule (rules.NoDriver name) f) = inr (record { design = d; reads = reads d h; fault = f }, built n)
-  rule_refused d h n (BreaksRule.rule (rules.Width name) f) = inr (record { design = d; reads = reads d h; fault = f }, built n)
-  rule_refused d h n (BreaksRule.rule (rules.CombLoop names) f) = inr (record { design = d; reads = reads d h; fault = f }, built n)
-  rule_refused d h n (BreaksRule.rule (rules.Unknown name) f) = absurd f.fault
-  rule_refused d h n (BreaksRule.rule rules.NoMemory f) = absurd f.fault
+  pub rule_refused : {e : VerilogError} (d : Design) → IsDesign tokens d → BreaksRule d e → (e ≡ NoMemory) ⊎ Refuses bytes e
+  rule_refused d h BreaksRule.memory = inl refl
+  rule_refused d h (BreaksRule.rule (rules.SameName name) f) = inr (record { design = d; reads = reads d h; fault = f })
+  rule_refused d h (BreaksRule.rule (rules.TwoDrivers name) f) = inr (record { design = d; reads = reads d h; fault = f })
+  rule_refused d h (BreaksRule.rule (rules.NoDriver name) f) = inr (record { design = d; reads = reads d h; fault = f })
+  rule_refused d h (BreaksRule.rule (rules.Width name) f) = inr (record { design = d; reads = reads d h; fault = f })
+  rule_refused d h (BreaksRule.rule (rules.CombLoop names) f) = inr (record { design = d; reads = reads d h; fault = f })
+  rule_refused d h (BreaksRule.rule (rules.Unknown name) f) = absurd f.fault
+  rule_refused d h (BreaksRule.rule rules.NoMemory f) = absurd f.fault
 
-  pub port_refused : {e : VerilogError} (d : Design) → IsDesign tokens d → IsAccepted d → (AreNotBuilt (tokens_of tokens) → ⊥) → HasWrongPort d e → (e ≡ NoMemory) ⊎ Refuses bytes e
-  port_refused d h a n HasWrongPort.memory = inl refl
-  port_refused d h a n (HasWrongPort.port top name is w) = inr (record { design = d; reads = reads d h; accepted = a; top = top; is_top = is; wrong = w }, built n)
+  pub port_refused : {e : VerilogError} (d : Design) → IsDesign tokens d → IsAccepted d → HasWrongPort d e → (e ≡ NoMemory) ⊎ Refuses bytes e
+  port_refused d h a HasWrongPort.memory = inl refl
+  port_refused d h a (HasWrongPort.port top name is w) = inr (record { design = d; reads = reads d h; accepted = a; top = top; is_top = is; wrong = w })
 
-  pub read_as : (d : Design) → IsDesign tokens d → IsAccepted d → CanRun d → (AreNotBuilt (tokens_of tokens) → ⊥) → IsReadAs bytes d
-  read_as d h a r n = record { built = built n; reads = reads d h; accepted = a; top = r.top; is_top = r.is_top; shape = r.shape; is_run = r.is_run }
+  pub read_as : (d : Design) → IsDesign tokens d → IsAccepted d → CanRun d → IsReadAs bytes d
+  read_as d h a r = record { reads = reads d h; accepted = a; top = r.top; is_top = r.is_top; shape = r.shape; is_run = r.is_run }
 
   -- one text has one design that is accepted
   same_design : (trees : List ModuleTree) → AreTrees tokens trees → (d other : Design) → ReadsAs bytes d → ReadsAs bytes other → IsAccepted d → other ≡ d
@@ -147,22 +138,21 @@ module _ (bytes : List ℕ) (tokens : List Placed) (at : AreTokens bytes tokens)
 
     pub excluded : (d : Design) → IsDesign tokens d → IsReadAs bytes d → (e : VerilogError) → Refuses bytes e → ⊥
     excluded d h r (NoToken place) f = not_read r.reads.is.read f
-    excluded d h r NotBuilt f = r.built f
     excluded d h r (Syntax place) f =
         let t = r.reads.is in
         let trees = r.reads.trees in
-        f.0.bad.none (File trees) (trees, refl) (subst (λ l. Derives Is Choice (File trees ∷ []) l) (one_reading (unplaced f.0.read) t.read) t.derived)
+        f.bad.none (File trees) (trees, refl) (subst (λ l. Derives Is Choice (File trees ∷ []) l) (one_reading (unplaced f.read) t.read) t.derived)
     excluded d h r (Rtl (rules.Unknown name)) f =
-        let same : f.0.trees ≡ r.reads.trees = one_tree h.trees f.0.trees h.are f.0.is ∙ sym (one_tree h.trees r.reads.trees h.are r.reads.is) in
-        let g : Some name ≡ None = sym f.0.unknown ∙ ap unknown_in same ∙ r.reads.known in absurd (cc)
-    excluded d h r (Rtl (rules.SameName name)) f = rule_absurd d h r (rules.SameName name) f.0
-    excluded d h r (Rtl (rules.TwoDrivers name)) f = rule_absurd d h r (rules.TwoDrivers name) f.0
-    excluded d h r (Rtl (rules.NoDriver name)) f = rule_absurd d h r (rules.NoDriver name) f.0
-    excluded d h r (Rtl (rules.Width name)) f = rule_absurd d h r (rules.Width name) f.0
-    excluded d h r (Rtl (rules.CombLoop names)) f = rule_absurd d h r (rules.CombLoop names) f.0
-    excluded d h r (Rtl rules.NoMemory) f = f.0
+        let same : f.trees ≡ r.reads.trees = one_tree h.trees f.trees h.are f.is ∙ sym (one_tree h.trees r.reads.trees h.are r.reads.is) in
+        let g : Some name ≡ None = sym f.unknown ∙ ap unknown_in same ∙ r.reads.known in absurd (cc)
+    excluded d h r (Rtl (rules.SameName name)) f = rule_absurd d h r (rules.SameName name) f
+    excluded d h r (Rtl (rules.TwoDrivers name)) f = rule_absurd d h r (rules.TwoDrivers name) f
+    excluded d h r (Rtl (rules.NoDriver name)) f = rule_absurd d h r (rules.NoDriver name) f
+    excluded d h r (Rtl (rules.Width name)) f = rule_absurd d h r (rules.Width name) f
+    excluded d h r (Rtl (rules.CombLoop names)) f = rule_absurd d h r (rules.CombLoop names) f
+    excluded d h r (Rtl rules.NoMemory) f = f
     excluded d h r (PortShape name) f =
-        let same = same_design h.trees h.are d f.0.design r.reads f.0.reads r.accepted in
-        let top_is : f.0.top ≡ r.top = some_is (sym f.0.is_top ∙ ap top_of same ∙ r.is_top) in
-        right r.top r.shape r.is_run name (subst (λ m. IsFirstWrong (ports_of m) name) top_is f.0.wrong)
-    excluded d h r NoMemory f = f.0
+        let same = same_design h.trees h.are d f.design r.reads f.reads r.accepted in
+        let top_is : f.top ≡ r.top = some_is (sym f.is_top ∙ ap top_of same ∙ r.is_top) in
+        right r.top r.shape r.is_run name (subst (λ m. IsFirstWrong (ports_of m) name) top_is f.wrong)
+    excluded d h r NoMemory f = f

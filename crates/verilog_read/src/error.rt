@@ -10,8 +10,6 @@ use std::alloc::AllocError;
 pub enum VerilogError {
     /// The first place where neither a token nor white space nor a comment begins.
     NoToken(u32),
-    /// The text has a register, an update or a second module: forms that are not built yet.
-    NotBuilt,
     /// The place of the first token that no text has after the tokens before it, or the length of
     /// the text.
     Syntax(u32),

@@ -10,7 +10,6 @@ mod instance;
 mod items;
 mod ports;
 mod resolve;
-mod stage;
 mod steps;
 mod table;
 
@@ -22,7 +21,6 @@ ghost use Rattle.verilog_read.specs.Refused.{Refuses, IsReadAs};
 
 pub use error::VerilogError;
 use rtl_ir::Design;
-use stage::is_not_built;
 use std::alloc::Global;
 use steps::{can_run, design, keep_rules, tokens};
 use top_ports::one_shape;
@@ -39,9 +37,6 @@ pub fn read(alloc: Global, bytes: &[u8]) -> Result<Design, VerilogError>
 {
     one_shape();
     let tokens = tokens(alloc, bytes)?;
-    if is_not_built(tokens.as_slice()) {
-        return Err(VerilogError::NotBuilt);
-    }
     let design = design(alloc, tokens.as_slice(), bytes.len() as u32)?;
     keep_rules(alloc, &design)?;
     can_run(alloc, &design)?;

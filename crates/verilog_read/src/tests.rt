@@ -12,7 +12,6 @@ enum Wanted<'a> {
     // One module with so many nets and assignments.
     Read(usize, usize),
     NoToken(u32),
-    NotBuilt,
     Syntax(u32),
     Unknown(&'a [u8]),
     SameName(&'a [u8]),
@@ -58,7 +57,6 @@ fn answers(alloc: Global, text: &[u8], wanted: Wanted<'_>) -> bool {
     match (&read(alloc, text), wanted) {
         (Ok(design), Wanted::Read(nets, assigns)) => has_size(design, nets, assigns),
         (Err(VerilogError::NoToken(place)), Wanted::NoToken(wanted)) => *place == wanted,
-        (Err(VerilogError::NotBuilt), Wanted::NotBuilt) => true,
         (Err(VerilogError::Syntax(place)), Wanted::Syntax(wanted)) => *place == wanted,
         (Err(VerilogError::Rtl(rule)), wanted) => breaks(rule, wanted),
         (Err(VerilogError::PortShape(name)), Wanted::PortShape(wanted)) => name.is(wanted),
@@ -139,7 +137,7 @@ fn modules_with_items(rt: HostRuntime) {
             Wanted::TwoDrivers(b"done"),
         ),
         (HELD, b"assign done = 1'h0\n", Wanted::Syntax(511)),
-        (HELD, b"reg [0:0] done;\n", Wanted::NotBuilt),
+        (HELD, b"reg [0:0] done;\n", Wanted::SameName(b"done")),
         (
             HELD,
             b"assign done = 1'h0; // done\n# ",
@@ -159,8 +157,8 @@ fn small_texts(rt: HostRuntime) {
     let cases: [(&[u8], Wanted<'_>); 9] = [
         (b"", Wanted::Syntax(0)),
         (b"module #", Wanted::NoToken(7)),
-        (b"module module", Wanted::NotBuilt),
-        (b"; always", Wanted::NotBuilt),
+        (b"module module", Wanted::Syntax(7)),
+        (b"; always", Wanted::Syntax(0)),
         (b"modules", Wanted::Syntax(0)),
         (CLOCKS, Wanted::PortShape(b"done")),
         (

@@ -1,21 +1,15 @@
 -- A module without instances is its whole flat design.
-use Rattle.std.proofs.Common.{◌≡◌, ℕ, [], ◌∷◌, length, Some, None, refl, sym, ap, ◌∙◌, subst, arith}
+use Rattle.std.proofs.Common.{◌≡◌, ℕ, [], ◌∷◌, length, Some, None, sym, ap, ◌∙◌, subst, arith}
 use Rattle.std.specs.Prelude.{slice_get, option_and_then}
 use mathlib.Core.Path.{fun_ext}
 use Rattle.std.proofs.lemmas.Option.{slice_get_past}
 use Rattle.rtl_ir.specs.declared.design.Design.{Design}
 use Rattle.rtl_ir.specs.declared.design.Module.{Module}
 use Rattle.rtl_ir.specs.declared.design.Instance.{Instance}
-use Rattle.rtl_ir.specs.Value.{Family, Contents}
+use Rattle.rtl_ir.specs.Value.{Family}
 use Rattle.rtl_ir.specs.Edge.{Fits, after_edge}
-use Rattle.rtl_ir.specs.Flat.{Path, AllContents, Families, FitsFlat, module_at, after_part, after_flat}
-use Rattle.rtl_ir.specs.Rules.{IsAccepted, HoldsWords, AllHold}
-use Rattle.rtl_ir.proofs.Kept.{words_kept}
-
--- the families of a design of one part
-abbrev pub alone : Family → Families
-alone v [] = v
-alone v (k ∷ p) = λ n. 0
+use Rattle.rtl_ir.specs.Flat.{Path, AllContents, FitsFlat, module_at, after_part, after_flat}
+use Rattle.verilog_sim.specs.Parts.{alone}
 
 no_instance : (m : Module) (k : ℕ) → length m.instances ≡ 0 → slice_get m.instances k ≡ None
 no_instance m k e = slice_get_past m.instances k (omega (arith, e))
@@ -33,14 +27,6 @@ fits_alone d m c v e f = record { each = each; joined = λ p part k i inner at i
     none : (p : Path) (part : Module) → module_at d m p ≡ Some part → (k : ℕ) (i : Instance) → slice_get part.instances k ≡ Some i → ⊥
     none [] part at k i is = let q : m ≡ part = cc in let n : slice_get part.instances k ≡ None = subst (λ (x : Module). slice_get x.instances k ≡ None) q (no_instance m k e) in cc
     none (j ∷ p) part at k i is = let n = no_part d m j p e in cc
-
-pub hold_alone : (d : Design) (m : Module) (c : AllContents) → length m.instances ≡ 0 → HoldsWords m (c []) → AllHold d m c
-hold_alone d m c e h [] part at = let q : m ≡ part = cc in subst (λ (x : Module). HoldsWords x (c [])) q h
-hold_alone d m c e h (k ∷ p) part at = absurd (let n = no_part d m k p e in cc)
-
--- words stay words over an edge
-pub words_after : (d : Design) → IsAccepted d → (number : ℕ) (m : Module) → slice_get d.modules number ≡ Some m → length m.instances ≡ 0 → (c : Contents) (v : Family) → HoldsWords m c → Fits m c v → HoldsWords m (after_edge m c v)
-words_after d h number m at e c v held f = words_kept d h number m at (λ p. c) (hold_alone d m (λ p. c) e held) (alone v) (fits_alone d m (λ p. c) v e f) [] m refl
 
 -- after an edge the top module holds what the edge leaves, and there is no other part
 pub after_alone : (d : Design) (m : Module) (old new : AllContents) (v : Family) → length m.instances ≡ 0 → new [] ≡ after_edge m (old []) v → ((k : ℕ) (p : Path) → new (k ∷ p) ≡ old (k ∷ p)) → new ≡ after_flat d m old (alone v)

@@ -13,13 +13,13 @@ use Rattle.rtl_ir.specs.declared.design.Expr.{Expr}
 use Rattle.rtl_ir.specs.declared.design.Expr.TheVariants.{Net as Plain, Literal, Not, Binary, Concat, Repeat, Part, Choose, Cell}
 use Rattle.rtl_ir.specs.Value.{width_of, net_width}
 use Rattle.rtl_ir.specs.Typed.{IsTyped}
-use Rattle.rtl_ir.specs.Formed.{IsFormedNet, IsFormedExpr}
+use Rattle.rtl_ir.specs.Formed.{IsFormedExpr}
 use Rattle.verilog_sim.specs.declared.line.Step.{Step}
 use Rattle.verilog_sim.specs.declared.line.Step.TheVariants.{Copy, Literal as DoLiteral, Not as DoNot, Add as DoAdd, Sub as DoSub, Mul as DoMul, Div as DoDiv, And as DoAnd, Or as DoOr, Xor as DoXor, Eq as DoEq, Lt as DoLt, Concat as DoConcat, Repeat as DoRepeat, Part as DoPart, Choose as DoChoose, Cell as DoCell}
 use Rattle.verilog_sim.specs.declared.line.Line.{Line}
 use Rattle.verilog_sim.specs.Lines.{IsSafe, IsStepSafe}
 use Rattle.verilog_sim.specs.Compiled.{IsStepOf, IsLineOf, HasStep, AreLines, AreLinesOf}
-use Rattle.verilog_sim.specs.Runnable.{IsRunnable, IsOrderOf}
+use Rattle.verilog_sim.specs.Runnable.{IsSizedNet, IsRunnable, IsOrderOf}
 use Rattle.mx_bits.specs.declared.word.Word.{Word}
 use Rattle.verilog_sim.proofs.Gathering.{PushedAt, pushed_at, get_left, get_last}
 use Rattle.verilog_sim.proofs.Gathering.PushedAt.{before, last}
@@ -28,7 +28,7 @@ pub width_in : (m : Module) (n : ℕ) → IsRunnable m → n < length m.nets →
 width_in m n h lt =
     let none : ANet = record { name = []; width = 0; reg = Rattle.std.proofs.Common.false } in
     let at : slice_get m.nets n ≡ Some (get_or m.nets n none) = slice_get-get_or m.nets n none lt in
-    let f : IsFormedNet (get_or m.nets n none) = h.nets n (get_or m.nets n none) at in
+    let f : IsSizedNet (get_or m.nets n none) = h.nets n (get_or m.nets n none) at in
     let e : width_of m n ≡ (get_or m.nets n none).width = ap net_width at in
     (omega (arith, e, f.some), omega (arith, e, f.at_most))
 

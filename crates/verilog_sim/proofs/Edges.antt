@@ -1,35 +1,40 @@
 -- What a call does, in the words of the meaning of a design.
-use Rattle.std.proofs.Common.{◌≡◌, ℕ, zero, suc, eqb, Vec, Global, ◌+◌, ◌-◌, ◌*◌, ◌^◌, ◌<◌, ◌≤◌, Bool, true, false, List, [], ◌∷◌, ◌++◌, length, map, set, get_or, Some, refl, sym, ap, ◌∙◌, subst, ⊎_elim, arith, get_or-set_other, get_or-set_same}
+use Rattle.std.proofs.Common.{◌≡◌, ℕ, zero, suc, eqb, Vec, Global, ◌+◌, ◌-◌, ◌*◌, ◌^◌, ◌<◌, ◌≤◌, ◌&&◌, Bool, true, false, List, [], ◌∷◌, ◌++◌, length, map, set, get_or, Some, refl, sym, ap, ◌∙◌, subst, ⊎_elim, arith, get_or-set_other, get_or-set_same}
 use Rattle.std.specs.Prelude.{slice_get}
 use Rattle.std.proofs.lemmas.Bool.{cases_eq, cases_lt}
+use Rattle.std.proofs.lemmas.Nat.{pow_pos}
 use Rattle.std.proofs.lemmas.Option.{slice_get-get_or}
 use Rattle.std.proofs.lemmas.List.{length-set, length-append, length-map, get_or-map, get_or_append_left, get_or-append_right, ext_get_or, with_items_is}
 use Rattle.rtl_ir.specs.declared.design.Design.{Design}
 use Rattle.std.specs.Vec.{with_items}
 use Rattle.rtl_ir.specs.declared.design.Port.{Port}
+use Rattle.rtl_ir.specs.declared.design.Update.{Update}
 use Rattle.rtl_ir.specs.Edge.{after_edge}
 use Rattle.rtl_ir.specs.declared.design.Module.{Module}
 use Rattle.rtl_ir.specs.Value.{Family, width_of}
-use Rattle.rtl_ir.specs.Flat.{top_of, after_flat}
+use Rattle.rtl_ir.specs.Flat.{AllContents, FitsFlat, top_of, after_flat}
 use Rattle.rtl_ir.specs.Run.{Channel, Outer}
-use Rattle.rtl_ir.specs.Ports.{Shape, HasShape, port_view, first_input, first_output, done_port, port_net, outer_of}
+use Rattle.rtl_ir.specs.Ports.{Shape, first_input, first_output, done_port, port_net, net_at, outer_of}
 use Rattle.verilog_sim.specs.declared.offer.Offer.{Offer}
 use Rattle.verilog_sim.specs.declared.offer.Event.{Event}
 use Rattle.verilog_sim.specs.declared.given.Counts.{Counts}
 use Rattle.verilog_sim.specs.declared.line.Line.{Line}
+use Rattle.verilog_sim.specs.declared.place.Place.{Place}
 use Rattle.verilog_sim.specs.Contents.{family_of, contents_of}
+use Rattle.verilog_sim.specs.Parts.{families_of, contents_by_path}
 use Rattle.verilog_sim.specs.Channels.{channel_of, first_channel}
 use Rattle.verilog_sim.specs.State.{State, contents}
-use Rattle.verilog_sim.specs.Sources.{port_count}
-use Rattle.verilog_sim.specs.Calls.{nothing, Given, Settled, event_of, IsEdge, IsResetEdge, IsDone}
-use Rattle.verilog_sim.specs.Simulates.{unnamed, outer_at, AreCounts, IsProgram, Simulates, IsEvaluated, IsStepped}
-use Rattle.verilog_sim.proofs.Shapes.{channel_at, channels_get, length_channels, length_shape}
+use Rattle.verilog_sim.specs.Sources.{port_count, IsGiven}
+use Rattle.verilog_sim.specs.Calls.{nothing, Given, Settled, SettledAlone, event_of, IsEdge, IsResetEdge, IsDone}
+use Rattle.verilog_sim.specs.Simulates.{unnamed, outer_at, AreCounts, AreOffered, IsReady, Simulates, AreKept, IsEvaluated, IsStepped}
+use Rattle.verilog_sim.proofs.Shapes.{channel_at, channels_get, length_channels}
 use Rattle.verilog_sim.proofs.Outer.{SaysSame, outer_same, given_of}
-use Rattle.verilog_sim.proofs.Alone.{alone, fits_alone, after_alone}
+use Rattle.verilog_sim.proofs.Whole.{whole_fits, whole_after, whole_own}
+use Rattle.verilog_sim.proofs.Fronts.{ports_flat, net_in, steady_flat, offered_flat}
 
 -- what a contract sees of a simulator
-abbrev pub state : Design → Counts → List ℕ → List ℕ → List (List ℕ) → State
-state d c steady held memories = record { design = d; outer = outer_at (top_of d) c; steady = steady; held = held; memories = memories }
+abbrev pub state : Design → Counts → List Place → List ℕ → List ℕ → List (List ℕ) → State
+state d c ps steady held memories = record { design = d; outer = outer_at (top_of d) c; steady = steady; places = ps; held = held; memories = memories }
 
 abbrev pub outer_top : Design → Counts → Outer
 outer_top d c = outer_at (top_of d) c
@@ -37,88 +42,20 @@ outer_top d c = outer_at (top_of d) c
 pub top_outer : (d : Design) (m : Module) (c : Counts) (s : Shape) → top_of d ≡ Some m → AreCounts c s → outer_of s m ≡ outer_top d c
 top_outer d m c s e counts = sym (outer_same m c s counts) ∙ ap (λ o. outer_at o c) (sym e)
 
--- the program is that of the top module
-pub program_at : {d : Design} {c : Counts} {ls : List ℕ} {lines : List Line} (m : Module) → (p : IsProgram d c ls lines) → top_of d ≡ Some m → p.top ≡ m
-program_at m p e = let f = p.is_top in cc
-
-pub settled_is :
-    (d : Design) (m : Module) (c : Counts) (ls : List ℕ) (lines : List Line) (reset : Bool) (steady : List ℕ) (offers offers' : List Offer) (accepts accepts' holds holds' : List Bool) (held values new : List ℕ) (memories : List (List ℕ))
-    → Simulates d c ls lines steady held values memories → top_of d ≡ Some m
-    → length offers' ≡ length (outer_top d c).inputs → length accepts' ≡ length (outer_top d c).outputs → length holds' ≡ length (outer_top d c).holds
-    → SaysSame offers offers' accepts accepts' holds holds'
-    → IsEvaluated m c reset steady offers accepts holds held memories new
-    → Settled m (state d c steady held memories) reset offers' accepts' holds' (alone (family_of new))
-settled_is d m c ls lines reset steady offers offers' accepts accepts' holds holds' held values new memories s e lo la lh same done =
-    record {
-      fits = fits_alone d m (contents (state d c steady held memories)) (family_of new) (ap (λ (x : Module). length x.instances) (sym (program_at m s.program e)) ∙ s.program.alone) done.fits;
-      given = subst (λ (o : Outer). Given o reset steady offers' accepts' holds' (family_of new)) is_outer (given_of m c s.program.program.shape reset steady offers offers' accepts accepts' holds holds' (family_of new) has counts s.kept.steady_ports
-          (lo ∙ ap (λ (o : Outer). length o.inputs) (sym is_outer)) (la ∙ ap (λ (o : Outer). length o.outputs) (sym is_outer)) (lh ∙ ap (λ (o : Outer). length o.holds) (sym is_outer)) same done.given);
-    }
-  where
-    counts : AreCounts c s.program.program.shape
-    counts = s.program.program.counts
-
-    has : HasShape m s.program.program.shape
-    has = subst (λ (x : Module). HasShape x s.program.program.shape) (program_at m s.program e) s.program.program.has
-
-    is_outer : outer_of s.program.program.shape m ≡ outer_top d c
-    is_outer = top_outer d m c s.program.program.shape e s.program.program.counts
-
--- the ports of the top module, as many as were counted
-pub ports_counted : {d : Design} {c : Counts} {ls : List ℕ} {lines : List Line} (m : Module) → (p : IsProgram d c ls lines) → top_of d ≡ Some m → port_count c ≡ length m.ports
-ports_counted {c = c} m p e =
-    let h = p.program.has in
-    let n = p.program.counts in
-    subst (λ (x : Module). port_count c ≡ length x.ports) (program_at m p e)
-    (omega (arith, length-map p.top.ports (port_view p.top), ap length h, length_shape p.program.shape, n.kernels, n.scalars, n.inputs, n.outputs))
-
-pub nets_in : {d : Design} {c : Counts} {ls : List ℕ} {lines : List Line} (m : Module) → (p : IsProgram d c ls lines) → top_of d ≡ Some m → (i : ℕ) (q : Port) → slice_get m.ports i ≡ Some q → q.net < length m.nets
-nets_in m p e i q at =
-    let same = program_at m p e in
-    let at' : slice_get p.top.ports i ≡ Some q = subst (λ (x : Module). slice_get x.ports i ≡ Some q) (sym same) at in
-    subst (λ (x : Module). q.net < length x.nets) same ((p.program.formed i q at').net)
-
 -- a slice that was written is that of its vector
 pub back : {X : Type 0} (v : Vec X Global) (new old : List X) → length new ≡ length old → old ≡ v.items → (with_items v new).items ≡ new
 back v new old e same = with_items_is v new (omega (arith, e, ap length same, v.ok))
 
-pub simulates_back :
-    (d : Design) (c : Counts) (ls : List ℕ) (lines : List Line) (steady steady' held held' values values' : List ℕ) (memories memories' : List (List ℕ))
-    → Simulates d c ls lines steady held values memories → steady ≡ steady' → held ≡ held' → values ≡ values' → memories ≡ memories'
-    → Simulates d c ls lines steady' held' values' memories'
-simulates_back d c ls lines steady steady' held held' values values' memories memories' s a b e f =
-    subst (λ (l : List (List ℕ)). Simulates d c ls lines steady' held' values' l) f
-    (subst (λ (l : List ℕ). Simulates d c ls lines steady' held' l memories) e
-    (subst (λ (l : List ℕ). Simulates d c ls lines steady' l values memories) b
-    (subst (λ (l : List ℕ). Simulates d c ls lines l held values memories) a s)))
-
--- words may be set at a port that keeps one value
-pub set_kept :
-    (d : Design) (c : Counts) (ls : List ℕ) (lines : List Line) (steady held values : List ℕ) (memories : List (List ℕ)) (k x : ℕ)
-    → Simulates d c ls lines steady held values memories → k < length steady
-    → ((m : Module) → top_of d ≡ Some m → x < 2 ^ width_of m (get_or (outer_top d c).steady k 0))
-    → Simulates d c ls lines (set steady k x) held values memories
-set_kept d c ls lines steady held values memories k x s lt fits =
-    record {
-      program = s.program;
-      kept = record {
-        blocks = s.kept.blocks;
-        words = s.kept.words;
-        held_nets = s.kept.held_nets;
-        held_words = s.kept.held_words;
-        steady_ports = length-set steady k x ∙ s.kept.steady_ports;
-        steady_words = λ j less. ⊎_elim (λ e. here j e) (λ ne. subst (λ (y : ℕ). y < 2 ^ width_of s.program.top (get_or (outer_of (unnamed c) s.program.top).steady j 0)) (sym (get_or-set_other steady k j x 0 ne)) (s.kept.steady_words j (omega (arith, less, length-set steady k x)))) (cases_eq j k);
-      };
-    }
-  where
-    is_outer : outer_top d c ≡ outer_of (unnamed c) s.program.top
-    is_outer = ap (λ o. outer_at o c) s.program.is_top
-
-    here : (j : ℕ) → j ≡ k → get_or (set steady k x) j 0 < 2 ^ width_of s.program.top (get_or (outer_of (unnamed c) s.program.top).steady j 0)
-    here j e =
-        subst (λ (i : ℕ). get_or (set steady k x) i 0 < 2 ^ width_of s.program.top (get_or (outer_of (unnamed c) s.program.top).steady i 0)) (sym e)
-        (subst (λ (y : ℕ). y < 2 ^ width_of s.program.top (get_or (outer_of (unnamed c) s.program.top).steady k 0)) (sym (get_or-set_same steady k x 0 lt))
-        (subst (λ (o : Outer). x < 2 ^ width_of s.program.top (get_or o.steady k 0)) is_outer (fits s.program.top s.program.is_top)))
+pub stepped_back :
+    (m : Module) (c : Counts) (reset : Bool) (steady steady' : List ℕ) (offers : List Offer) (accepts holds : List Bool) (held held0 : List ℕ) (memories memories0 : List (List ℕ)) (new held' held1 : List ℕ) (memories' memories1 : List (List ℕ))
+    → IsStepped m c reset steady offers accepts holds held memories new held' memories' → steady ≡ steady' → held ≡ held0 → memories ≡ memories0 → held' ≡ held1 → memories' ≡ memories1
+    → IsStepped m c reset steady' offers accepts holds held0 memories0 new held1 memories1
+stepped_back m c reset steady steady' offers accepts holds held held0 memories memories0 new held' held1 memories' memories1 s a b e f g =
+    subst (λ (l : List (List ℕ)). IsStepped m c reset steady' offers accepts holds held0 memories0 new held1 l) g
+    (subst (λ (l : List ℕ). IsStepped m c reset steady' offers accepts holds held0 memories0 new l memories') f
+    (subst (λ (l : List (List ℕ)). IsStepped m c reset steady' offers accepts holds held0 l new held' memories') e
+    (subst (λ (l : List ℕ). IsStepped m c reset steady' offers accepts holds l memories new held' memories') b
+    (subst (λ (l : List ℕ). IsStepped m c reset l offers accepts holds held memories new held' memories') a s))))
 
 abbrev idle : Event
 idle = record { moved = false; word = 0 }
@@ -151,14 +88,6 @@ events_are m c s v events n size told =
             get_or-append_right (outer_of s m).inputs (outer_of s m).outputs (length s.inputs) k (channel_at m 0) (length_channels m (first_input s) s.inputs) ge
             ∙ channels_get m (first_output s) (k - length s.inputs) s.outputs (channel_at m 0) (omega (arith, lt, length_channels m (first_input s) s.inputs, length_channels m (first_output s) s.outputs)) ∙ ap (channel_at m) place
 
--- what the top module holds after an edge, in all parts
-after_state :
-    (d : Design) (m : Module) (c : Counts) (steady held held' values : List ℕ) (memories memories' : List (List ℕ))
-    → length m.instances ≡ 0 → contents_of held' memories' ≡ after_edge m (contents_of held memories) (family_of values)
-    → contents (state d c steady held' memories') ≡ after_flat d m (contents (state d c steady held memories)) (alone (family_of values))
-after_state d m c steady held held' values memories memories' e after =
-    after_alone d m (contents (state d c steady held memories)) (contents (state d c steady held' memories')) (family_of values) e after (λ k p. refl)
-
 same_said : (offers : List Offer) (accepts holds : List Bool) → SaysSame offers offers accepts accepts holds holds
 same_said offers accepts holds = record { offers_same = λ k. refl; accepts_same = λ k. refl; holds_same = λ k. refl }
 
@@ -170,80 +99,195 @@ all_nothing (x ∷ xs) b (suc k) = all_nothing xs b k
 none_said : (o : Outer) → SaysSame [] (map (λ (x : Channel). nothing) o.inputs) [] (map (λ (x : Channel). false) o.outputs) [] (map (λ (n : ℕ). false) o.holds)
 none_said o = record { offers_same = λ k. sym (all_nothing o.inputs nothing k); accepts_same = λ k. sym (all_nothing o.outputs false k); holds_same = λ k. sym (all_nothing o.holds false k) }
 
-pub edge_is :
-    (d : Design) (m : Module) (c : Counts) (ls : List ℕ) (lines : List Line) (steady : List ℕ) (offers : List Offer) (accepts holds : List Bool) (held held' values new : List ℕ) (memories memories' : List (List ℕ)) (events : List Event)
-    → Simulates d c ls lines steady held values memories → top_of d ≡ Some m
-    → length offers ≡ length (outer_top d c).inputs → length accepts ≡ length (outer_top d c).outputs → length holds ≡ length (outer_top d c).holds
-    → IsStepped m c false steady offers accepts holds held memories new held' memories'
-    → length events ≡ length (outer_top d c).inputs + length (outer_top d c).outputs
-    → ((k : ℕ) (e : Event) → slice_get events k ≡ Some e → e ≡ event_of (family_of new) (channel_of m.ports (first_channel c + 3 * k)))
-    → IsEdge m offers accepts holds (state d c steady held memories) (state d c steady held' memories') events
-edge_is d m c ls lines steady offers accepts holds held held' values new memories memories' events s e lo la lh step size told =
-    record {
-      family = alone (family_of new);
-      settled = settled_is d m c ls lines false steady offers offers accepts accepts holds holds held values new memories s e lo la lh (same_said offers accepts holds) step.evaluated;
-      after = after_state d m c steady held held' new memories memories' (ap (λ (x : Module). length x.instances) (sym (program_at m s.program e)) ∙ s.program.alone) step.after;
-      events_are = subst (λ (o : Outer). events ≡ map (event_of (family_of new)) (o.inputs ++ o.outputs)) is_outer (events_are m c s.program.program.shape (family_of new) events s.program.program.counts (subst (λ (o : Outer). length events ≡ length o.inputs + length o.outputs) (sym is_outer) size) told);
-    }
-  where
-    is_outer : outer_of s.program.program.shape m ≡ outer_top d c
-    is_outer = top_outer d m c s.program.program.shape e s.program.program.counts
+abbrev event_made : Bool → ℕ → Event
+event_made moved word = record { moved = moved; word = word }
 
-pub reset_is :
-    (d : Design) (m : Module) (c : Counts) (ls : List ℕ) (lines : List Line) (steady held held' values new : List ℕ) (memories memories' : List (List ℕ))
-    → Simulates d c ls lines steady held values memories → top_of d ≡ Some m
-    → IsStepped m c true steady [] [] [] held memories new held' memories'
-    → IsResetEdge m (state d c steady held memories) (state d c steady held' memories')
-reset_is d m c ls lines steady held held' values new memories memories' s e step =
-    record {
-      family = alone (family_of new);
-      settled = settled_is d m c ls lines true steady [] _ [] _ [] _ held values new memories s e (length-map (outer_top d c).inputs (λ (x : Channel). nothing)) (length-map (outer_top d c).outputs (λ (x : Channel). false)) (length-map (outer_top d c).holds (λ (n : ℕ). false)) (none_said (outer_top d c)) step.evaluated;
-      after = after_state d m c steady held held' new memories memories' (ap (λ (x : Module). length x.instances) (sym (program_at m s.program e)) ∙ s.program.alone) step.after;
-    }
+pub kept_back :
+    (m : Module) (c : Counts) (steady steady' held held' values values' : List ℕ) (memories memories' : List (List ℕ))
+    → AreKept m c steady held values memories → steady ≡ steady' → held ≡ held' → values ≡ values' → memories ≡ memories' → AreKept m c steady' held' values' memories'
+kept_back m c steady steady' held held' values values' memories memories' k a b e f =
+    subst (λ (l : List (List ℕ)). AreKept m c steady' held' values' l) f
+    (subst (λ (l : List ℕ). AreKept m c steady' held' l memories) e
+    (subst (λ (l : List ℕ). AreKept m c steady' l values memories) b
+    (subst (λ (l : List ℕ). AreKept m c l held values memories) a k)))
 
-pub done_is :
-    (d : Design) (m : Module) (c : Counts) (ls : List ℕ) (lines : List Line) (steady held values new : List ℕ) (memories : List (List ℕ)) (answer : Bool)
-    → Simulates d c ls lines steady held values memories → top_of d ≡ Some m
-    → IsEvaluated m c false steady [] [] [] held memories new
-    → answer ≡ eqb (get_or new (port_net (slice_get m.ports (length m.ports - 1))) 0) 1
-    → IsDone m (state d c steady held memories) answer
-done_is d m c ls lines steady held values new memories answer s e done is =
-    record {
-      family = alone (family_of new);
-      settled = settled_is d m c ls lines false steady [] _ [] _ [] _ held values new memories s e (length-map (outer_top d c).inputs (λ (x : Channel). nothing)) (length-map (outer_top d c).outputs (λ (x : Channel). false)) (length-map (outer_top d c).holds (λ (n : ℕ). false)) (none_said (outer_top d c)) done;
-      answer_is = is ∙ ap (λ n. eqb (get_or new n 0) 1) last;
-    }
-  where
-    place : length m.ports - 1 ≡ done_port s.program.program.shape
-    place = (let n = s.program.program.counts in omega (arith, ports_counted m s.program e, n.kernels, n.scalars, n.inputs, n.outputs))
+-- nothing is offered
+pub none_offered : (m : Module) (o : Outer) → AreOffered m o []
+none_offered m o = λ k c at. pow_pos (width_of m c.word)
 
-    last : port_net (slice_get m.ports (length m.ports - 1)) ≡ (outer_top d c).done
-    last = ap (λ i. port_net (slice_get m.ports i)) place ∙ ap (λ (o : Outer). o.done) (top_outer d m c s.program.program.shape e s.program.program.counts)
+module _ {d : Design} {c : Counts} {ls : List ℕ} {lines : List Line} {us : List Update} {ps : List Place} {steady held values : List ℕ} {memories : List (List ℕ)} (s : Simulates d c ls lines us ps steady held values memories) where
+  abbrev top : Module
+  top = s.is_flat.top
 
--- the nets of the ports have values
-pub nets_within :
-    (d : Design) (m : Module) (c : Counts) (ls : List ℕ) (lines : List Line) (steady held values values' : List ℕ) (memories : List (List ℕ)) (ports : List Port)
-    → Simulates d c ls lines steady held values memories → top_of d ≡ Some m → ports ≡ m.ports → values' ≡ values
-    → (i : ℕ) (q : Port) → slice_get ports i ≡ Some q → q.net < length values'
-nets_within d m c ls lines steady held values values' memories ports s e same len i q at =
-    let lt = nets_in m s.program e i q (subst (λ (l : List Port). slice_get l i ≡ Some q) same at) in
-    omega (arith, lt, ap length len, s.kept.words.nets, ap (λ (x : Module). length x.nets) (program_at m s.program e))
+  pub top_is : (m : Module) → top_of d ≡ Some m → s.is_flat.top ≡ m
+  top_is m e = let f = s.is_flat.is_top in cc
 
-pub stepped_back :
-    (m : Module) (c : Counts) (reset : Bool) (steady steady' : List ℕ) (offers : List Offer) (accepts holds : List Bool) (held held0 : List ℕ) (memories memories0 : List (List ℕ)) (new held' held1 : List ℕ) (memories' memories1 : List (List ℕ))
-    → IsStepped m c reset steady offers accepts holds held memories new held' memories' → steady ≡ steady' → held ≡ held0 → memories ≡ memories0 → held' ≡ held1 → memories' ≡ memories1
-    → IsStepped m c reset steady' offers accepts holds held0 memories0 new held1 memories1
-stepped_back m c reset steady steady' offers accepts holds held held0 memories memories0 new held' held1 memories' memories1 s a b e f g =
-    subst (λ (l : List (List ℕ)). IsStepped m c reset steady' offers accepts holds held0 memories0 new held1 l) g
-    (subst (λ (l : List ℕ). IsStepped m c reset steady' offers accepts holds held0 memories0 new l memories') f
-    (subst (λ (l : List (List ℕ)). IsStepped m c reset steady' offers accepts holds held0 l new held' memories') e
-    (subst (λ (l : List ℕ). IsStepped m c reset steady' offers accepts holds l memories new held' memories') b
-    (subst (λ (l : List ℕ). IsStepped m c reset l offers accepts holds held memories new held' memories') a s))))
+  is_outer : outer_of s.program.shape s.is_flat.top ≡ outer_top d c
+  is_outer = top_outer d s.is_flat.top c s.program.shape s.is_flat.is_top s.program.counts
 
--- as many streams as were counted
-pub streams_counted : {d : Design} {c : Counts} {ls : List ℕ} {lines : List Line} (p : IsProgram d c ls lines) → length (outer_top d c).inputs + length (outer_top d c).outputs ≡ c.inputs + c.outputs
-streams_counted {d = d} {c = c} p =
-    let n = p.program.counts in
-    let s = p.program.shape in
-    subst (λ (o : Outer). length o.inputs + length o.outputs ≡ c.inputs + c.outputs) (top_outer d p.top c s p.is_top n)
-    (omega (arith, length_channels p.top (first_input s) s.inputs, length_channels p.top (first_output s) s.outputs, n.inputs, n.outputs))
+  pub ready_at :
+      (ports' : List Port) (us' : List Update) (steady' held' values' : List ℕ) (memories' : List (List ℕ)) (offers : List Offer) (m : Module)
+      → top_of d ≡ Some m → ports' ≡ m.ports → us' ≡ us → steady' ≡ steady → held' ≡ held → values' ≡ values → memories' ≡ memories → AreOffered m (outer_top d c) offers
+      → IsReady s.flat ports' us' c ls lines steady' offers held' values' memories'
+  ready_at ports' us' steady' held' values' memories' offers m e pe ue se he ve me o =
+      let q = top_is m e in
+      let o' : AreOffered s.is_flat.top (outer_of (unnamed c) s.is_flat.top) offers =
+      subst (λ (u : Outer). AreOffered s.is_flat.top u offers) (ap (λ t. outer_at t c) s.is_flat.is_top) (subst (λ (x : Module). AreOffered x (outer_top d c) offers) (sym q) o) in
+      record {
+        program = s.program;
+        ports_are = pe ∙ ap (λ (x : Module). x.ports) (sym q) ∙ sym (ports_flat d s.accepted s.is_flat);
+        updates_are = ue ∙ s.updates_are;
+        kept = kept_back s.flat c steady steady' held held' values values' memories memories' s.kept (sym se) (sym he) (sym ve) (sym me);
+        offered = offered_flat d s.accepted s.is_flat (unnamed c) offers o';
+      }
+
+  -- the same simulator with other words
+  pub kept_on : (steady' held' values' : List ℕ) (memories' : List (List ℕ)) → AreKept s.flat c steady' held' values' memories' → Simulates d c ls lines us ps steady' held' values' memories'
+  kept_on steady' held' values' memories' k =
+      record { accepted = s.accepted; flat = s.flat; is_flat = s.is_flat; program = s.program; updates_are = s.updates_are; has = s.has; kept = k }
+
+  -- words may be set at a port that keeps one value
+  pub set_kept : (k x : ℕ) → k < length steady → ((m : Module) → top_of d ≡ Some m → x < 2 ^ width_of m (get_or (outer_top d c).steady k 0)) → Simulates d c ls lines us ps (set steady k x) held values memories
+  set_kept k x lt fits =
+      kept_on (set steady k x) held values memories
+      (record {
+        blocks = s.kept.blocks;
+        words = s.kept.words;
+        held_nets = s.kept.held_nets;
+        held_words = s.kept.held_words;
+        steady_ports = length-set steady k x ∙ s.kept.steady_ports;
+        steady_words = λ j less. ⊎_elim (λ e. here j e) (λ ne. subst (λ (y : ℕ). y < 2 ^ width_of s.flat (get_or (outer_of (unnamed c) s.flat).steady j 0)) (sym (get_or-set_other steady k j x 0 ne)) (s.kept.steady_words j (omega (arith, less, length-set steady k x)))) (cases_eq j k);
+      })
+    where
+      fits_flat : x < 2 ^ width_of s.flat (get_or (outer_of (unnamed c) s.flat).steady k 0)
+      fits_flat =
+          subst (λ (w : ℕ). x < 2 ^ w) (sym (steady_flat d s.accepted s.is_flat (unnamed c) k))
+          (subst (λ (o : Outer). x < 2 ^ width_of s.is_flat.top (get_or o.steady k 0)) (ap (λ o. outer_at o c) s.is_flat.is_top) (fits s.is_flat.top s.is_flat.is_top))
+
+      here : (j : ℕ) → j ≡ k → get_or (set steady k x) j 0 < 2 ^ width_of s.flat (get_or (outer_of (unnamed c) s.flat).steady j 0)
+      here j e =
+          subst (λ (i : ℕ). get_or (set steady k x) i 0 < 2 ^ width_of s.flat (get_or (outer_of (unnamed c) s.flat).steady i 0)) (sym e)
+          (subst (λ (y : ℕ). y < 2 ^ width_of s.flat (get_or (outer_of (unnamed c) s.flat).steady k 0)) (sym (get_or-set_same steady k x 0 lt)) fits_flat)
+
+  -- the value of a port is that of the flat module
+  own_at : (v : Family) (k : ℕ) → v (net_at s.is_flat.top k) ≡ families_of s.is_flat.top ps v [] (net_at s.is_flat.top k)
+  own_at v k = sym (whole_own d s.accepted s.is_flat v (net_at s.is_flat.top k) (net_in d s.accepted s.is_flat k))
+
+  held_is : (h : List ℕ) (ms : List (List ℕ)) → contents_by_path (top_of d) ps (contents_of h ms) ≡ contents_by_path (Some s.is_flat.top) ps (contents_of h ms)
+  held_is h ms = ap (λ o. contents_by_path o ps (contents_of h ms)) s.is_flat.is_top
+
+  settled_is :
+      (reset : Bool) (offers offers' : List Offer) (accepts accepts' holds holds' : List Bool) (new : List ℕ)
+      → length offers' ≡ length (outer_top d c).inputs → length accepts' ≡ length (outer_top d c).outputs → length holds' ≡ length (outer_top d c).holds
+      → SaysSame offers offers' accepts accepts' holds holds'
+      → IsEvaluated s.flat c reset steady offers accepts holds held memories new
+      → Settled s.is_flat.top (state d c ps steady held memories) reset offers' accepts' holds' (families_of s.is_flat.top ps (family_of new))
+  settled_is reset offers offers' accepts accepts' holds holds' new lo la lh same done =
+      record {
+        fits = subst (λ (u : AllContents). FitsFlat d s.is_flat.top u (families_of s.is_flat.top ps (family_of new))) (sym (held_is held memories)) (whole_fits d s.accepted s.is_flat (contents_of held memories) (family_of new) done.fits);
+        given = subst (λ (o : Outer). Given o reset steady offers' accepts' holds' (families_of s.is_flat.top ps (family_of new) [])) is_outer
+            (given_of s.is_flat.top c s.program.shape reset steady offers offers' accepts accepts' holds holds' (families_of s.is_flat.top ps (family_of new) []) s.has s.program.counts s.kept.steady_ports
+            (lo ∙ ap (λ (o : Outer). length o.inputs) (sym is_outer)) (la ∙ ap (λ (o : Outer). length o.outputs) (sym is_outer)) (lh ∙ ap (λ (o : Outer). length o.holds) (sym is_outer)) same given);
+      }
+    where
+      given : (i : ℕ) (p : Port) → slice_get s.is_flat.top.ports i ≡ Some p → p.output ≡ false → IsGiven c reset steady offers accepts holds i (families_of s.is_flat.top ps (family_of new) [] p.net)
+      given i p at out =
+          let here : net_at s.is_flat.top i ≡ p.net = ap port_net at in
+          subst (λ (n : ℕ). IsGiven c reset steady offers accepts holds i (families_of s.is_flat.top ps (family_of new) [] n)) here
+          (subst (IsGiven c reset steady offers accepts holds i) (own_at (family_of new) i)
+          (subst (λ (n : ℕ). IsGiven c reset steady offers accepts holds i (family_of new n)) (sym here)
+          (done.given i p (ap (λ (l : List Port). slice_get l i) (ports_flat d s.accepted s.is_flat) ∙ at) out)))
+
+  after_state :
+      (held' new : List ℕ) (memories' : List (List ℕ))
+      → contents_of held' memories' ≡ after_edge s.flat (contents_of held memories) (family_of new)
+      → contents (state d c ps steady held' memories') ≡ after_flat d s.is_flat.top (contents (state d c ps steady held memories)) (families_of s.is_flat.top ps (family_of new))
+  after_state held' new memories' after =
+      held_is held' memories'
+      ∙ ap (contents_by_path (Some s.is_flat.top) ps) after
+      ∙ whole_after d s.accepted s.is_flat (contents_of held memories) (family_of new)
+      ∙ ap (λ (u : AllContents). after_flat d s.is_flat.top u (families_of s.is_flat.top ps (family_of new))) (sym (held_is held memories))
+
+  event_same : (v : Family) (k : ℕ) → event_of v (channel_of s.is_flat.top.ports k) ≡ event_of (families_of s.is_flat.top ps v []) (channel_of s.is_flat.top.ports k)
+  event_same v k =
+      ap (λ x. event_made (eqb x 1 && eqb (v (net_at s.is_flat.top (k + 2))) 1) (v (net_at s.is_flat.top k))) (own_at v (k + 1))
+      ∙ ap (λ x. event_made (eqb (families_of s.is_flat.top ps v [] (net_at s.is_flat.top (k + 1))) 1 && eqb x 1) (v (net_at s.is_flat.top k))) (own_at v (k + 2))
+      ∙ ap (λ x. event_made (eqb (families_of s.is_flat.top ps v [] (net_at s.is_flat.top (k + 1))) 1 && eqb (families_of s.is_flat.top ps v [] (net_at s.is_flat.top (k + 2))) 1) x) (own_at v k)
+
+  edge_at :
+      (offers : List Offer) (accepts holds : List Bool) (held' new : List ℕ) (memories' : List (List ℕ)) (events : List Event)
+      → length offers ≡ length (outer_top d c).inputs → length accepts ≡ length (outer_top d c).outputs → length holds ≡ length (outer_top d c).holds
+      → IsStepped s.flat c false steady offers accepts holds held memories new held' memories'
+      → length events ≡ length (outer_top d c).inputs + length (outer_top d c).outputs
+      → ((k : ℕ) (e : Event) → slice_get events k ≡ Some e → e ≡ event_of (family_of new) (channel_of s.is_flat.top.ports (first_channel c + 3 * k)))
+      → IsEdge s.is_flat.top offers accepts holds (state d c ps steady held memories) (state d c ps steady held' memories') events
+  edge_at offers accepts holds held' new memories' events lo la lh step size told =
+      record {
+        family = families_of s.is_flat.top ps (family_of new);
+        settled = settled_is false offers offers accepts accepts holds holds new lo la lh (same_said offers accepts holds) step.evaluated;
+        after = after_state held' new memories' step.after;
+        events_are = subst (λ (o : Outer). events ≡ map (event_of (families_of s.is_flat.top ps (family_of new) [])) (o.inputs ++ o.outputs)) is_outer
+            (events_are s.is_flat.top c s.program.shape (families_of s.is_flat.top ps (family_of new) []) events s.program.counts (subst (λ (o : Outer). length events ≡ length o.inputs + length o.outputs) (sym is_outer) size)
+            (λ k e at. told k e at ∙ event_same (family_of new) (first_channel c + 3 * k)));
+      }
+
+  pub edge_is :
+      (m : Module) (offers : List Offer) (accepts holds : List Bool) (held' new : List ℕ) (memories' : List (List ℕ)) (events : List Event)
+      → top_of d ≡ Some m
+      → length offers ≡ length (outer_top d c).inputs → length accepts ≡ length (outer_top d c).outputs → length holds ≡ length (outer_top d c).holds
+      → IsStepped s.flat c false steady offers accepts holds held memories new held' memories'
+      → length events ≡ length (outer_top d c).inputs + length (outer_top d c).outputs
+      → ((k : ℕ) (e : Event) → slice_get events k ≡ Some e → e ≡ event_of (family_of new) (channel_of m.ports (first_channel c + 3 * k)))
+      → IsEdge m offers accepts holds (state d c ps steady held memories) (state d c ps steady held' memories') events
+  edge_is m offers accepts holds held' new memories' events e lo la lh step size told =
+      let q = top_is m e in
+      subst (λ (x : Module). IsEdge x offers accepts holds (state d c ps steady held memories) (state d c ps steady held' memories') events) q
+      (edge_at offers accepts holds held' new memories' events lo la lh step size
+      (subst (λ (x : Module). (k : ℕ) (e : Event) → slice_get events k ≡ Some e → e ≡ event_of (family_of new) (channel_of x.ports (first_channel c + 3 * k))) (sym q) told))
+
+  settled_alone : (reset : Bool) (new : List ℕ) → IsEvaluated s.flat c reset steady [] [] [] held memories new → SettledAlone s.is_flat.top (state d c ps steady held memories) reset (families_of s.is_flat.top ps (family_of new))
+  settled_alone reset new done =
+      settled_is reset [] _ [] _ [] _ new (length-map (outer_top d c).inputs (λ (x : Channel). nothing)) (length-map (outer_top d c).outputs (λ (x : Channel). false)) (length-map (outer_top d c).holds (λ (n : ℕ). false)) (none_said (outer_top d c)) done
+
+  pub reset_is : (m : Module) (held' new : List ℕ) (memories' : List (List ℕ)) → top_of d ≡ Some m → IsStepped s.flat c true steady [] [] [] held memories new held' memories' → IsResetEdge m (state d c ps steady held memories) (state d c ps steady held' memories')
+  reset_is m held' new memories' e step =
+      subst (λ (x : Module). IsResetEdge x (state d c ps steady held memories) (state d c ps steady held' memories')) (top_is m e)
+      (record { family = families_of s.is_flat.top ps (family_of new); settled = settled_alone true new step.evaluated; after = after_state held' new memories' step.after })
+
+  -- the ports of the top module, as many as were counted
+  pub ports_counted : (m : Module) → top_of d ≡ Some m → port_count c ≡ length m.ports
+  ports_counted m e = s.program.counted ∙ ap length (ports_flat d s.accepted s.is_flat) ∙ ap (λ (x : Module). length x.ports) (top_is m e)
+
+  done_at : (new : List ℕ) (answer : Bool) → IsEvaluated s.flat c false steady [] [] [] held memories new → answer ≡ eqb (get_or new (port_net (slice_get s.is_flat.top.ports (length s.is_flat.top.ports - 1))) 0) 1 → IsDone s.is_flat.top (state d c ps steady held memories) answer
+  done_at new answer done is =
+      record {
+        family = families_of s.is_flat.top ps (family_of new);
+        settled = settled_alone false new done;
+        answer_is = is ∙ ap (λ n. eqb n 1) (own_at (family_of new) (length s.is_flat.top.ports - 1)) ∙ ap (λ n. eqb (families_of s.is_flat.top ps (family_of new) [] n) 1) last;
+      }
+    where
+      place : length s.is_flat.top.ports - 1 ≡ done_port s.program.shape
+      place = (let n = s.program.counts in omega (arith, ports_counted s.is_flat.top s.is_flat.is_top, n.kernels, n.scalars, n.inputs, n.outputs))
+
+      last : net_at s.is_flat.top (length s.is_flat.top.ports - 1) ≡ (outer_top d c).done
+      last = ap (net_at s.is_flat.top) place ∙ ap (λ (o : Outer). o.done) is_outer
+
+  pub done_is : (m : Module) (new : List ℕ) (answer : Bool) → top_of d ≡ Some m → IsEvaluated s.flat c false steady [] [] [] held memories new → answer ≡ eqb (get_or new (port_net (slice_get m.ports (length m.ports - 1))) 0) 1 → IsDone m (state d c ps steady held memories) answer
+  done_is m new answer e done is =
+      let q = top_is m e in
+      subst (λ (x : Module). IsDone x (state d c ps steady held memories) answer) q
+      (done_at new answer done (subst (λ (x : Module). answer ≡ eqb (get_or new (port_net (slice_get x.ports (length x.ports - 1))) 0) 1) (sym q) is))
+
+  -- the nets of the ports have values
+  pub nets_within : (m : Module) (ports : List Port) (values' : List ℕ) → top_of d ≡ Some m → ports ≡ m.ports → length values' ≡ length s.flat.nets → (i : ℕ) (q : Port) → slice_get ports i ≡ Some q → q.net < length values'
+  nets_within m ports values' e same len i q at =
+      let at' : slice_get s.flat.ports i ≡ Some q = ap (λ (l : List Port). slice_get l i) (ports_flat d s.accepted s.is_flat ∙ ap (λ (x : Module). x.ports) (top_is m e) ∙ sym same) ∙ at in
+      omega (arith, (s.program.formed i q at').net, len)
+
+  -- as many streams as were counted
+  pub streams_counted : length (outer_top d c).inputs + length (outer_top d c).outputs ≡ c.inputs + c.outputs
+  streams_counted =
+      let n = s.program.counts in
+      let sh = s.program.shape in
+      subst (λ (o : Outer). length o.inputs + length o.outputs ≡ c.inputs + c.outputs) is_outer
+      (omega (arith, length_channels s.is_flat.top (first_input sh) sh.inputs, length_channels s.is_flat.top (first_output sh) sh.outputs, n.inputs, n.outputs))

@@ -49,7 +49,7 @@ input_of (q ∷ ps) (suc i) p e f = let r = input_of ps i p e f in ap (λ b. (eq
 given_reg : (m : Module) (n : ℕ) → is_reg m n ≡ true → is_given m n ≡ true
 given_reg m n h = ap (λ b. b || is_input m.ports n) h
 
-given_input : (m : Module) (n : ℕ) → is_input m.ports n ≡ true → is_given m n ≡ true
+pub given_input : (m : Module) (n : ℕ) → is_input m.ports n ≡ true → is_given m n ≡ true
 given_input m n h = ap (λ b. is_reg m n || b) h ∙ or_true (is_reg m n)
   where
     or_true : (b : Bool) → b || true ≡ true

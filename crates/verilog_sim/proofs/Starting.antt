@@ -1,5 +1,5 @@
 -- What a simulator holds before its first call is words, and the low bits of one word.
-use Rattle.std.proofs.Common.{◌≡◌, ℕ, zero, suc, ◌+◌, ◌%◌, ◌^◌, ◌<◌, ◌≤◌, cond, List, [], ◌∷◌, length, map, replicate, get_or, Some, refl, sym, ap, ◌∙◌, subst, ⊎_elim, arith}
+use Rattle.std.proofs.Common.{◌≡◌, ℕ, zero, suc, ◌+◌, ◌%◌, ◌^◌, ◌<◌, ◌≤◌, Bool, true, false, cond, ltb, List, [], ◌∷◌, length, map, replicate, get_or, Some, refl, sym, ap, ◌∙◌, subst, ⊎_elim, arith}
 use Rattle.std.specs.Prelude.{slice_get, nat_lt}
 use mathlib.Core.Path.{fun_ext}
 use Rattle.std.proofs.lemmas.Bool.{cases_lt, lt-ltb, le-ltb}
@@ -10,16 +10,18 @@ use Rattle.rtl_ir.specs.declared.design.Net.{Net}
 use Rattle.rtl_ir.specs.declared.design.Mem.{Mem}
 use Rattle.rtl_ir.specs.Value.{width_of, net_width, is_reg, net_kept, depth_of, mem_depth}
 use Rattle.rtl_ir.specs.Typed.{word_width, mem_width}
-use Rattle.rtl_ir.specs.Rules.{HoldsWords}
+use Rattle.rtl_ir.specs.Rules.{IsAccepted, HoldsWords, AllHold}
 use Rattle.verilog_sim.specs.declared.given.Counts.{Counts}
 use Rattle.verilog_sim.specs.Contents.{contents_of}
 use Rattle.rtl_ir.specs.Value.{Contents}
-use Rattle.rtl_ir.specs.Flat.{Path, module_at}
+use Rattle.rtl_ir.specs.Flat.{top_of}
 use Rattle.rtl_ir.specs.declared.design.Design.{Design}
-use Rattle.verilog_sim.specs.State.{State, contents}
+use Rattle.verilog_sim.specs.declared.place.Place.{Place}
+use Rattle.verilog_sim.specs.Parts.{contents_by_path}
+use Rattle.verilog_sim.specs.Flattened.{IsFlat}
 use Rattle.verilog_sim.specs.Start.{held_at_start, words_at_start, IsFilled, filled_part}
 use Rattle.verilog_sim.specs.Start as start
-use Rattle.verilog_sim.proofs.Alone.{no_part}
+use Rattle.verilog_sim.proofs.Whole.{whole_filled}
 use Rattle.verilog_sim.specs.Simulates.{AreKept, unnamed}
 use Rattle.rtl_ir.specs.Ports.{outer_of}
 use Rattle.verilog_sim.proofs.Driving.{same_all}
@@ -47,17 +49,10 @@ cell_fits depth fill w a = ⊎_elim within past (cases_lt a depth)
     past : depth ≤ a → get_or (replicate depth (fill % 2 ^ w)) a 0 < 2 ^ w
     past ge = subst (λ (y : ℕ). y < 2 ^ w) (sym (get_or_past (replicate depth (fill % 2 ^ w)) a 0 (omega (arith, length-replicate depth (fill % 2 ^ w))))) (pow_pos w)
 
-pub filled : (m : Module) (fill : ℕ) (held : List ℕ) (memories : List (List ℕ)) → held ≡ map (held_at_start fill) m.nets → memories ≡ map (words_at_start fill) m.mems → IsFilled m fill (contents_of held memories)
-filled m fill held memories eh em =
-    record {
-      regs = λ n reg. ap (λ (l : List ℕ). get_or l n 0) eh ∙ nets_at fill m.nets n ∙ ap (λ b. cond b (fill % 2 ^ width_of m n) 0) reg;
-      cells = λ k a lt. ap (λ (l : List (List ℕ)). get_or (get_or l k []) a 0) em ∙ ap (λ (l : List ℕ). get_or l a 0) (mems_at fill m.mems k) ∙ cell_at (depth_of m k) (fill % 2 ^ word_width m k) a lt;
-    }
-
-pub words_held : (m : Module) (fill : ℕ) (held : List ℕ) (memories : List (List ℕ)) → held ≡ map (held_at_start fill) m.nets → memories ≡ map (words_at_start fill) m.mems → HoldsWords m (contents_of held memories)
+words_held : (m : Module) (fill : ℕ) (held : List ℕ) (memories : List (List ℕ)) → held ≡ map (held_at_start fill) m.nets → memories ≡ map (words_at_start fill) m.mems → HoldsWords m (contents_of held memories)
 words_held m fill held memories eh em =
     record {
-      regs = λ n reg. subst (λ (y : ℕ). y < 2 ^ width_of m n) (sym ((filled m fill held memories eh em).regs n reg)) (mod_below fill (2 ^ width_of m n) (pow_pos (width_of m n)));
+      regs = λ n reg. subst (λ (y : ℕ). y < 2 ^ width_of m n) (sym (ap (λ (l : List ℕ). get_or l n 0) eh ∙ nets_at fill m.nets n ∙ ap (λ b. cond b (fill % 2 ^ width_of m n) 0) reg)) (mod_below fill (2 ^ width_of m n) (pow_pos (width_of m n)));
       cells = λ k a. subst (λ (y : ℕ). y < 2 ^ word_width m k) (sym (ap (λ (l : List (List ℕ)). get_or (get_or l k []) a 0) em ∙ ap (λ (l : List ℕ). get_or l a 0) (mems_at fill m.mems k))) (cell_fits (depth_of m k) fill (word_width m k) a);
     }
 
@@ -105,12 +100,33 @@ filled_alone m fill held memories eh em =
     ∙ ap (made (λ n. cond (is_reg m n) (fill % 2 ^ width_of m n) 0))
     (fun_ext (λ k. fun_ext (λ a. ap (λ (l : List (List ℕ)). get_or (get_or l k []) a 0) em ∙ ap (λ (l : List ℕ). get_or l a 0) (mems_at fill m.mems k) ∙ cells_at (depth_of m k) (fill % 2 ^ word_width m k) a)))
 
--- a simulator of a module without instances holds at first what the whole design holds at first
+-- a simulator holds at first what the whole design holds at first
 pub contents_filled :
-    (s : State) (d : Design) (m : Module) (fill : ℕ) → length m.instances ≡ 0
-    → s.held ≡ map (held_at_start fill) m.nets → s.memories ≡ map (words_at_start fill) m.mems → contents s ≡ start.filled d m fill
-contents_filled s d m fill e eh em = fun_ext at
+    (d : Design) (h : IsAccepted d) (ps : List Place) (n : Module) (f : IsFlat d ps n) (fill : ℕ) (held : List ℕ) (memories : List (List ℕ))
+    → held ≡ map (held_at_start fill) n.nets → memories ≡ map (words_at_start fill) n.mems → contents_by_path (top_of d) ps (contents_of held memories) ≡ start.filled d f.top fill
+contents_filled d h ps n f fill held memories eh em =
+    ap (λ o. contents_by_path o ps (contents_of held memories)) f.is_top
+    ∙ ap (contents_by_path (Some f.top) ps) (filled_alone n fill held memories eh em)
+    ∙ whole_filled d h f fill
+
+-- what stands there at first is the low bits of a word, and words of their widths
+pub part_filled : (m : Module) (fill : ℕ) → IsFilled m fill (filled_part (Some m) fill)
+part_filled m fill =
+    record {
+      regs = λ n reg. ap (λ b. cond b (fill % 2 ^ width_of m n) 0) reg;
+      cells = λ k a lt. ap (λ b. cond b (fill % 2 ^ word_width m k) 0) (lt-ltb a (depth_of m k) lt);
+    }
+
+part_words : (m : Module) (fill : ℕ) → HoldsWords m (filled_part (Some m) fill)
+part_words m fill =
+    record {
+      regs = λ n reg. subst (λ (y : ℕ). y < 2 ^ width_of m n) (sym ((part_filled m fill).regs n reg)) (mod_below fill (2 ^ width_of m n) (pow_pos (width_of m n)));
+      cells = λ k a. choose (ltb a (depth_of m k)) (word_width m k);
+    }
   where
-    at : (p : Path) → contents s p ≡ filled_part (module_at d m p) fill
-    at [] = filled_alone m fill s.held s.memories eh em
-    at (k ∷ p) = sym (ap (λ o. filled_part o fill) (no_part d m k p e))
+    choose : (b : Bool) (w : ℕ) → cond b (fill % 2 ^ w) 0 < 2 ^ w
+    choose true w = mod_below fill (2 ^ w) (pow_pos w)
+    choose false w = pow_pos w
+
+pub all_words : (d : Design) (m : Module) (fill : ℕ) → AllHold d m (start.filled d m fill)
+all_words d m fill p part at = subst (λ o. HoldsWords part (filled_part o fill)) (sym at) (part_words part fill)

@@ -12,3 +12,6 @@ pub mod Simulates
 pub mod Channels
 pub mod Names
 pub mod Start
+pub mod Moved
+pub mod Parts
+pub mod Flattened

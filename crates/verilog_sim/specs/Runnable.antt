@@ -1,5 +1,5 @@
 -- Modules without instances that can be simulated, and orders in which their assignments are evaluated.
-use Rattle.std.specs.Prelude.{◌≡◌, ℕ, true, false, List, Some, slice_get}
+use Rattle.std.specs.Prelude.{◌≡◌, ℕ, ◌≤◌, true, false, List, Some, slice_get}
 use Rattle.rtl_ir.specs.declared.design.Module.{Module}
 use Rattle.rtl_ir.specs.declared.design.Mem.{Mem}
 use Rattle.rtl_ir.specs.declared.design.Net.{Net}
@@ -9,7 +9,7 @@ use Rattle.rtl_ir.specs.declared.design.Target.TheVariants.{Reg}
 use Rattle.rtl_ir.specs.Value.{width_of, is_reg}
 use Rattle.rtl_ir.specs.Operands.{IsRead}
 use Rattle.rtl_ir.specs.Typed.{is_given, IsTyped, IsUpdateTyped}
-use Rattle.rtl_ir.specs.Formed.{IsFormedNet, IsFormedMem, IsFormedAssign, IsFormedUpdate}
+use Rattle.rtl_ir.specs.Formed.{IsFormedAssign, IsFormedUpdate}
 use Rattle.verilog_sim.specs.Settled.{IsInOrder}
 
 -- a net is read for the value of another one
@@ -21,11 +21,21 @@ pub data Chain (m : Module) : ℕ → ℕ → Type 0 where
   stay : {a : ℕ} → Chain m a a
   on : {a b z : ℕ} → Chain m a b → Follows m b z → Chain m a z
 
+-- a net and a memory that have a size, whatever their names are
+pub record IsSizedNet (n : Net) : Type 0 where
+  pub some : 1 ≤ n.width
+  pub at_most : n.width ≤ 128
+
+pub record IsSizedMem (k : Mem) : Type 0 where
+  pub some : 1 ≤ k.width
+  pub at_most : k.width ≤ 128
+  pub words : 1 ≤ k.depth
+
 -- numbers are in range and widths agree, each net has at most one assignment and each register an update, and no net is
 -- read for its own value
 pub record IsRunnable (m : Module) : Type 0 where
-  pub nets : (k : ℕ) (n : Net) → slice_get m.nets k ≡ Some n → IsFormedNet n
-  pub mems : (k : ℕ) (x : Mem) → slice_get m.mems k ≡ Some x → IsFormedMem x
+  pub nets : (k : ℕ) (n : Net) → slice_get m.nets k ≡ Some n → IsSizedNet n
+  pub mems : (k : ℕ) (x : Mem) → slice_get m.mems k ≡ Some x → IsSizedMem x
   pub assigns : (k : ℕ) (a : Assign) → slice_get m.assigns k ≡ Some a → IsFormedAssign m a
   pub typed : (k : ℕ) (a : Assign) → slice_get m.assigns k ≡ Some a → IsTyped m (width_of m a.target) a.expr
   pub given : (k : ℕ) (a : Assign) → slice_get m.assigns k ≡ Some a → is_given m a.target ≡ false

@@ -4,9 +4,9 @@ use Rattle.rtl_ir.specs.declared.design.Design.{Design}
 use Rattle.rtl_ir.specs.declared.design.Module.{Module}
 use Rattle.rtl_ir.specs.declared.design.Assign.{Assign}
 use Rattle.rtl_ir.specs.declared.design.Port.{Port}
+use Rattle.rtl_ir.specs.declared.design.Update.{Update}
 use Rattle.rtl_ir.specs.Value.{width_of, is_reg}
 use Rattle.rtl_ir.specs.Edge.{Fits, after_edge}
-use Rattle.rtl_ir.specs.Flat.{top_of}
 use Rattle.rtl_ir.specs.Ports.{Shape, HasShape, outer_of}
 use Rattle.rtl_ir.specs.Rules.{IsAccepted}
 use Rattle.rtl_ir.specs.Formed.{IsFormedPort}
@@ -18,7 +18,9 @@ use Rattle.verilog_sim.specs.Contents.{family_of, contents_of}
 use Rattle.verilog_sim.specs.Compiled.{AreLinesOf}
 use Rattle.verilog_sim.specs.Runnable.{IsRunnable, IsOrderOf}
 use Rattle.verilog_sim.specs.Settled.{AreWords}
-use Rattle.verilog_sim.specs.Sources.{IsGiven, AreApart}
+use Rattle.verilog_sim.specs.Sources.{IsGiven, AreApart, port_count}
+use Rattle.verilog_sim.specs.Flattened.{IsFlat}
+use Rattle.verilog_sim.specs.declared.place.Place.{Place}
 use Rattle.verilog_sim.specs.Calls.{nothing}
 
 -- a shape with so many ports of each kind, whose names are left open
@@ -41,26 +43,18 @@ pub record AreCounts (c : Counts) (s : Shape) : Type 0 where
   pub inputs : c.inputs ≡ length s.inputs
   pub outputs : c.outputs ≡ length s.outputs
 
--- a module that can be simulated with ports of a shape, and the lines of its assignments in an order in which they can be
--- evaluated
+-- a module without instances that can be simulated with ports of a shape, and the lines of its assignments in an order in
+-- which they can be evaluated. Its nets need no names
 pub record IsProgramOf (m : Module) (c : Counts) (literals : List ℕ) (lines : List Line) : Type 0 where
   pub runnable : IsRunnable m
   pub order : List Assign
   pub ordered : IsOrderOf m order
   pub lines_are : AreLinesOf m literals order lines
   pub shape : Shape
-  pub has : HasShape m shape
   pub counts : AreCounts c shape
+  pub counted : port_count c ≡ length m.ports
   pub apart : AreApart m.ports
   pub formed : (i : ℕ) (p : Port) → slice_get m.ports i ≡ Some p → IsFormedPort m p
-
--- such a program for the top module of an accepted design, which has no instances
-pub record IsProgram (d : Design) (c : Counts) (literals : List ℕ) (lines : List Line) : Type 0 where
-  pub accepted : IsAccepted d
-  pub top : Module
-  pub is_top : top_of d ≡ Some top
-  pub alone : length top.instances ≡ 0
-  pub program : IsProgramOf top c literals lines
 
 -- words of their widths stand in all registers, memories and nets, and at the ports that keep one value
 pub record AreKept (m : Module) (c : Counts) (steady held values : List ℕ) (memories : List (List ℕ)) : Type 0 where
@@ -88,11 +82,27 @@ pub record IsEvaluated
 abbrev pub AreOffered : Module → Outer → List Offer → Type 0
 AreOffered m o offers = (k : ℕ) (c : Channel) → slice_get o.inputs k ≡ Some c → (slice_index_or offers k nothing).word < 2 ^ width_of m c.word
 
--- a simulator between two calls
+-- all is there for an edge of a module with these ports and updates
+pub record IsReady
+    (m : Module) (ports : List Port) (updates : List Update) (c : Counts) (literals : List ℕ) (lines : List Line) (steady : List ℕ)
+    (offers : List Offer) (held values : List ℕ) (memories : List (List ℕ)) : Type 0 where
+  pub program : IsProgramOf m c literals lines
+  pub ports_are : ports ≡ m.ports
+  pub updates_are : updates ≡ m.updates
+  pub kept : AreKept m c steady held values memories
+  pub offered : AreOffered m (outer_of (unnamed c) m) offers
+
+-- a simulator between two calls: it has the lines and the updates of the flat module of an accepted design
 pub record Simulates
-    (d : Design) (c : Counts) (literals : List ℕ) (lines : List Line) (steady held values : List ℕ) (memories : List (List ℕ)) : Type 0 where
-  pub program : IsProgram d c literals lines
-  pub kept : AreKept program.top c steady held values memories
+    (d : Design) (c : Counts) (literals : List ℕ) (lines : List Line) (updates : List Update) (places : List Place)
+    (steady held values : List ℕ) (memories : List (List ℕ)) : Type 0 where
+  pub accepted : IsAccepted d
+  pub flat : Module
+  pub is_flat : IsFlat d places flat
+  pub program : IsProgramOf flat c literals lines
+  pub updates_are : updates ≡ flat.updates
+  pub has : HasShape is_flat.top program.shape
+  pub kept : AreKept flat c steady held values memories
 
 -- one edge: the values of all nets in it, and what registers and memories hold after it
 pub record IsStepped

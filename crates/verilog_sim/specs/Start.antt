@@ -1,7 +1,8 @@
 -- What a simulator holds before its first call, and how much there is of it.
-use Rattle.std.specs.Prelude.{Option, Some, None, nat_lt, ◌≡◌, ℕ, ◌+◌, ◌-◌, ◌^◌, ◌%◌, ◌<◌, ◌≤◌, min, true, if◌then◌else◌, List, length, replicate, sum_by}
+use Rattle.std.specs.Prelude.{Option, Some, None, nat_lt, ◌≡◌, ℕ, ◌+◌, ◌-◌, ◌^◌, ◌%◌, ◌<◌, min, true, if◌then◌else◌, List, [], ◌∷◌, ◌++◌, length, slice_index, replicate, sum_by}
 use Rattle.rtl_ir.specs.declared.design.Net.{Net}
 use Rattle.rtl_ir.specs.declared.design.Mem.{Mem}
+use Rattle.rtl_ir.specs.declared.design.Instance.{Instance}
 use Rattle.rtl_ir.specs.declared.design.Module.{Module}
 use Rattle.rtl_ir.specs.declared.design.Design.{Design}
 use Rattle.rtl_ir.specs.Flat.{AllContents, module_at}
@@ -10,9 +11,23 @@ use Rattle.rtl_ir.specs.Typed.{word_width}
 use Rattle.verilog_sim.specs.declared.error.SimError.{SimError}
 use Rattle.verilog_sim.specs.declared.error.SimError.TheVariants.{TooManyCells, NoMemory}
 
--- the wires, registers and memory words of a module without instances
+-- the wires, registers and memory words of a module itself
 abbrev pub cells_of : Module → ℕ
 cells_of m = length m.nets + sum_by (λ (x : Mem). x.depth) m.mems
+
+-- those of a module with all its instances, where these are the numbers of the modules before it
+abbrev pub cells_with : List ℕ → Module → ℕ
+cells_with cells m = cells_of m + sum_by (λ (i : Instance). slice_index cells i.«module») m.instances
+
+-- the numbers of these modules behind those of the modules before them
+abbrev pub cells_after : List ℕ → List Module → List ℕ
+cells_after cells [] = cells
+cells_after cells (m ∷ ms) = cells_after (cells ++ cells_with cells m ∷ []) ms
+
+-- the wires, registers and memory words of the top module of a design and of all its instances. A module stands after those
+-- that it has instances of
+abbrev pub all_cells : Design → ℕ
+all_cells d = slice_index (cells_after [] d.modules) (length d.modules - 1)
 
 abbrev pub held_at_start : ℕ → Net → ℕ
 held_at_start fill n = if n.reg then fill % 2 ^ n.width else 0
@@ -37,7 +52,7 @@ filled_part (Some m) fill = record {
 abbrev pub filled : Design → Module → ℕ → AllContents
 filled d m fill = λ p. filled_part (module_at d m p) fill
 
--- which answer there is for so many cells
+-- which answer there is for so many cells. Memory may be short before they are counted
 abbrev pub IsRefusal : ℕ → SimError → Type 0
 IsRefusal cells (TooManyCells n) = (2 ^ 26 < cells) × (n ≡ min cells (2 ^ 64 - 1))
-IsRefusal cells NoMemory = cells ≤ 2 ^ 26
+IsRefusal cells NoMemory = Unit {0}

@@ -1,15 +1,15 @@
-// One edge of a top module, from its registers and inputs on.
+// One edge of a flat module, from its registers and inputs on.
 ghost use Rattle.std.specs.Prelude.{◌≡◌, ℕ, ◌+◌, ◌*◌, ◌<◌, length, Some, slice_get};
 ghost use Rattle.rtl_ir.specs.declared.design.Module.{Module};
 ghost use Rattle.rtl_ir.specs.declared.design.Port.{Port};
 ghost use Rattle.rtl_ir.specs.Flat.{top_of};
-ghost use Rattle.rtl_ir.specs.Ports.{outer_of, port_net};
+ghost use Rattle.rtl_ir.specs.Ports.{port_net};
 ghost use Rattle.verilog_sim.specs.declared.offer.Event.{Event};
 ghost use Rattle.verilog_sim.specs.Calls.{event_of};
 ghost use Rattle.verilog_sim.specs.Contents.{family_of};
 ghost use Rattle.verilog_sim.specs.Channels.{channel_of, first_channel};
 ghost use Rattle.verilog_sim.specs.Sources.{port_count};
-ghost use Rattle.verilog_sim.specs.Simulates.{unnamed, IsProgramOf, AreKept, AreOffered, IsEvaluated, Simulates, IsStepped};
+ghost use Rattle.verilog_sim.specs.Simulates.{AreKept, IsReady, IsEvaluated, IsStepped};
 
 use crate::Event;
 use crate::clock::{clock, load};
@@ -17,7 +17,7 @@ use crate::compile::Program;
 use crate::given::{Counts, Given, drive};
 use crate::memory::Memory;
 use crate::settle::settle;
-use rtl_ir::{Design, Module, Port};
+use rtl_ir::{Design, Module, Port, Update};
 
 /// The top module of a design, which is the last one.
 pub(crate) fn top(design: &Design) -> &Module
@@ -27,9 +27,10 @@ pub(crate) fn top(design: &Design) -> &Module
     design.modules.at(design.modules.len() - 1)
 }
 
-/// Gives each net its value.
+/// Gives each net of a flat module its value.
 pub(crate) fn evaluate(
-    top: &Module,
+    ports: &[Port],
+    updates: &[Update],
     counts: Counts,
     program: &Program,
     given: &Given<'_>,
@@ -37,39 +38,21 @@ pub(crate) fn evaluate(
     memories: &[Memory],
     values: &mut [u128],
 )
-    requires program { IsProgramOf top.now counts program.now.literals.items program.now.lines.items }
-    requires kept { AreKept top.now counts given.now.steady.now held.now values.old memories.now }
-    requires offered { AreOffered top.now (outer_of (unnamed counts) top.now) given.now.offers.now }
-    ensures { IsEvaluated top.now counts given.now.reset given.now.steady.now given.now.offers.now given.now.accepts.now given.now.holds.now held.now memories.now values.new }
+    requires { (m : Module) × IsReady m ports.now updates.now counts program.now.literals.items program.now.lines.items given.now.steady.now given.now.offers.now held.now values.old memories.now }
+    // each module for which all is there
+    ensures { (m : Module) → IsReady m ports.now updates.now counts program.now.literals.items program.now.lines.items given.now.steady.now given.now.offers.now held.now values.old memories.now
+        → IsEvaluated m counts given.now.reset given.now.steady.now given.now.offers.now given.now.accepts.now given.now.holds.now held.now memories.now values.new }
 {
-    load(top.updates.as_slice(), held, values);
-    drive(top.ports.as_slice(), counts, given, values);
+    load(updates, held, values);
+    drive(ports, counts, given, values);
     let lines = program.lines.as_slice();
     settle(lines, program.literals.as_slice(), memories, values);
 }
 
-/// Gives each net its value in an edge that does not come.
-pub(crate) fn look(
-    design: &Design,
-    counts: Counts,
-    program: &Program,
-    given: &Given<'_>,
-    held: &[u128],
-    memories: &[Memory],
-    values: &mut [u128],
-)
-    requires simulates { Simulates design.now counts program.now.literals.items program.now.lines.items given.now.steady.now held.now values.old memories.now }
-    requires offered { (m : Module) → top_of design.now ≡ Some m → AreOffered m (outer_of (unnamed counts) m) given.now.offers.now }
-    ensures simulates { Simulates design.now counts program.now.literals.items program.now.lines.items given.now.steady.now held.now values.new memories.now }
-    ensures evaluated { (m : Module) → top_of design.now ≡ Some m
-        → IsEvaluated m counts given.now.reset given.now.steady.now given.now.offers.now given.now.accepts.now given.now.holds.now held.now memories.now values.new }
-{
-    evaluate(top(design), counts, program, given, held, memories, values);
-}
-
 /// One edge: gives each net its value, and writes registers and memories.
 pub(crate) fn step(
-    design: &Design,
+    ports: &[Port],
+    updates: &[Update],
     counts: Counts,
     program: &Program,
     given: &Given<'_>,
@@ -77,15 +60,16 @@ pub(crate) fn step(
     memories: &mut [Memory],
     values: &mut [u128],
 )
-    requires simulates { Simulates design.now counts program.now.literals.items program.now.lines.items given.now.steady.now held.old values.old memories.old }
-    requires offered { (m : Module) → top_of design.now ≡ Some m → AreOffered m (outer_of (unnamed counts) m) given.now.offers.now }
-    ensures simulates { Simulates design.now counts program.now.literals.items program.now.lines.items given.now.steady.now held.new values.new memories.new }
-    ensures stepped { (m : Module) → top_of design.now ≡ Some m
-        → IsStepped m counts given.now.reset given.now.steady.now given.now.offers.now given.now.accepts.now given.now.holds.now held.old memories.old values.new held.new memories.new }
+    requires { (m : Module) × IsReady m ports.now updates.now counts program.now.literals.items program.now.lines.items given.now.steady.now given.now.offers.now held.old values.old memories.old }
+    // each module for which all is there
+    ensures { (m : Module) → IsReady m ports.now updates.now counts program.now.literals.items program.now.lines.items given.now.steady.now given.now.offers.now held.old values.old memories.old
+        → AreKept m counts given.now.steady.now held.new values.new memories.new
+        × IsStepped m counts given.now.reset given.now.steady.now given.now.offers.now given.now.accepts.now given.now.holds.now held.old memories.old values.new held.new memories.new }
 {
-    let top = top(design);
-    evaluate(top, counts, program, given, held, memories, values);
-    clock(top.updates.as_slice(), values, held, memories);
+    evaluate(
+        ports, updates, counts, program, given, held, memories, values,
+    );
+    clock(updates, values, held, memories);
 }
 
 /// What happened at each host stream, the inputs first.

@@ -6,16 +6,21 @@
 //! (9.2.2). The meaning that the contracts speak of stands in the crate `rtl_ir`.
 #![tactic(auto)]
 
+mod cells;
 mod clock;
 mod compile;
 mod counts;
 mod error;
 mod evaluate;
+mod flatten;
 mod given;
 mod line;
 mod memory;
+mod moved;
 mod offer;
 mod order;
+mod parts;
+mod place;
 mod settle;
 mod sim;
 mod start;

@@ -8,24 +8,28 @@ ghost use Rattle.rtl_ir.specs.Rules.{IsAccepted, AllHold};
 ghost use Rattle.verilog_sim.specs.State.{contents};
 ghost use Rattle.verilog_sim.specs.Calls.{IsEdge, IsResetEdge, IsDone};
 ghost use Rattle.verilog_sim.specs.Simulates.{AreOffered};
-ghost use Rattle.verilog_sim.specs.Start.{cells_of, IsFilled, IsRefusal, filled};
+ghost use Rattle.verilog_sim.specs.Start.{all_cells, IsFilled, IsRefusal, filled};
 
+use crate::cells::count_cells;
 use crate::compile::{Program, compile};
 use crate::counts::counts_of;
-use crate::evaluate::{look, step, tell, top, value_at};
+use crate::evaluate::{evaluate, step, tell, top, value_at};
+use crate::flatten::{Flat, flatten};
 use crate::given::{Counts, Given};
 use crate::memory::Memory;
 use crate::order::in_order;
-use crate::start::{count_cells, memories, registers};
+use crate::place::Place;
+use crate::start::{memories, registers};
 use crate::{Event, Offer, SimError};
-use rtl_ir::Design;
+use mx_base::List;
+use rtl_ir::{Design, Update};
 use std::alloc::Global;
 use std::marker::Model;
 
 /// The greatest number of wires, registers and memory words of a design that is simulated.
 const MOST_CELLS: u64 = 1 << 26;
 
-/// A simulator of a design whose top module has no instances.
+/// A simulator of an accepted design.
 ///
 /// A contract sees the design, the nets of its outer ports, the values of the ports that keep one
 /// value, and what its registers and memories hold. All values are unsigned and two-valued.
@@ -34,6 +38,8 @@ pub struct Sim<'a> {
     design: &'a Design,
     counts: Counts,
     program: Program,
+    updates: List<Update>,
+    places: Vec<Place>,
     steady: Vec<u128>,
     held: Vec<u128>,
     memories: Vec<Memory>,
@@ -52,48 +58,52 @@ impl<'a> Model for Sim<'a> {
       design = a.design.now;
       outer = outer_at (top_of a.design.now) a.counts;
       steady = a.steady.items;
+      places = a.places.items;
       held = a.held.items;
       memories = a.memories.items;
     } };
 
-    ghost invariant = { λ a. Simulates a.design.now a.counts a.program.literals.items a.program.lines.items a.steady.items a.held.items a.values.items a.memories.items };
+    ghost invariant = { λ a. Simulates a.design.now a.counts a.program.literals.items a.program.lines.items a.updates a.places.items a.steady.items a.held.items a.values.items a.memories.items };
 }
 
 impl<'a> Sim<'a> {
     /// A simulator of an accepted design. Each register and each memory word holds the low bits of
     /// `fill`, and each port that keeps one value is 0.
     ///
-    /// `TooManyCells` comes exactly where the design has more than 2^26 wires, registers and memory
-    /// words, and `NoMemory` where there is no memory for what the simulator holds: 16 bytes for a
-    /// memory word, and some more for a net and for what gives it its value.
+    /// `TooManyCells` comes only where the design has more than 2^26 wires, registers and memory
+    /// words, those of all its instances counted, and there is a simulator only where it has no more.
+    /// `NoMemory` comes where there is no memory to count them, 8 bytes for a module, or for what the
+    /// simulator holds: 16 bytes for a memory word, and some more for a net and for what gives it its
+    /// value.
     pub fn new(alloc: Global, design: &'a Design, fill: u128) -> Result<Self, SimError>
         requires accepted { IsAccepted design.now }
         requires shape { (m : Module) × (s : Shape) × (top_of design.now ≡ Some m) × HasShape m s }
-        requires alone { (m : Module) → top_of design.now ≡ Some m → length m.instances ≡ 0 }
         ensures design { IfOk result (λ sim. sim.design ≡ design.now) }
         ensures outer { IfOk result (λ sim. (m : Module) (s : Shape) → top_of design.now ≡ Some m → HasShape m s → sim.outer ≡ outer_of s m) }
         ensures steady { IfOk result (λ sim. sim.steady ≡ map (λ n. 0) sim.outer.steady) }
         ensures filled { IfOk result (λ sim. (m : Module) → top_of design.now ≡ Some m → IsFilled m fill (contents sim [])) }
         ensures start { IfOk result (λ sim. (m : Module) → top_of design.now ≡ Some m → contents sim ≡ filled design.now m fill) }
         ensures words { IfOk result (λ sim. (m : Module) → top_of design.now ≡ Some m → AllHold design.now m (contents sim)) }
-        ensures small { OnOk result ((m : Module) → top_of design.now ≡ Some m → cells_of m ≤ 2 ^ 26) }
-        ensures refusal { IfErr result (λ e. (m : Module) → top_of design.now ≡ Some m → IsRefusal (cells_of m) e) }
+        ensures small { OnOk result (all_cells design.now ≤ 2 ^ 26) }
+        ensures refusal { IfErr result (λ e. IsRefusal (all_cells design.now) e) }
     {
-        let top = top(design);
-        let cells = count_cells(top);
+        let cells = count_cells(alloc, design)?;
         if cells > MOST_CELLS {
             return Err(SimError::TooManyCells(cells));
         }
-        let counts = counts_of(top);
-        let order = in_order(alloc, top)?;
+        let counts = counts_of(top(design));
+        let Flat { module, places } = flatten(alloc, design)?;
+        let order = in_order(alloc, &module)?;
         Ok(Sim {
             design,
             counts,
-            program: compile(alloc, top, order.as_slice())?,
+            program: compile(alloc, &module, order.as_slice())?,
+            places,
             steady: vec![in alloc; 0; counts.kernels + counts.scalars]?,
-            held: registers(alloc, top, fill)?,
-            memories: memories(alloc, top, fill)?,
-            values: vec![in alloc; 0; top.nets.len()]?,
+            held: registers(alloc, &module, fill)?,
+            memories: memories(alloc, &module, fill)?,
+            values: vec![in alloc; 0; module.nets.len()]?,
+            updates: module.updates,
         })
     }
 
@@ -120,8 +130,10 @@ impl<'a> Sim<'a> {
             accepts: &[],
             holds: &[],
         };
+        let ports = top(self.design).ports.as_slice();
         step(
-            self.design,
+            ports,
+            self.updates.as_slice(),
             self.counts,
             &self.program,
             &given,
@@ -143,8 +155,10 @@ impl<'a> Sim<'a> {
             accepts: &[],
             holds: &[],
         };
-        look(
-            self.design,
+        let ports = top(self.design).ports.as_slice();
+        evaluate(
+            ports,
+            self.updates.as_slice(),
             self.counts,
             &self.program,
             &given,
@@ -152,7 +166,6 @@ impl<'a> Sim<'a> {
             self.memories.as_slice(),
             self.values.as_mut_slice(),
         );
-        let ports = top(self.design).ports.as_slice();
         value_at(ports, self.values.as_slice(), ports.len() - 1) == 1
     }
 
@@ -177,8 +190,10 @@ impl<'a> Sim<'a> {
             accepts,
             holds,
         };
+        let ports = top(self.design).ports.as_slice();
         step(
-            self.design,
+            ports,
+            self.updates.as_slice(),
             self.counts,
             &self.program,
             &given,
@@ -186,7 +201,6 @@ impl<'a> Sim<'a> {
             self.memories.as_mut_slice(),
             self.values.as_mut_slice(),
         );
-        let ports = top(self.design).ports.as_slice();
         tell(ports, self.counts, self.values.as_slice(), events);
     }
 }

@@ -2,8 +2,8 @@
 ghost use Rattle.std.specs.Prelude.{◌≡◌, ℕ, ◌^◌, ◌-◌, min, length, map, Some, slice_get, IfOk};
 ghost use Rattle.rtl_ir.specs.declared.design.Net.{Net};
 ghost use Rattle.rtl_ir.specs.declared.design.Mem.{Mem};
-ghost use Rattle.rtl_ir.specs.Formed.{IsFormedNet, IsFormedMem};
-ghost use Rattle.verilog_sim.specs.Start.{cells_of, held_at_start, words_at_start};
+ghost use Rattle.verilog_sim.specs.Runnable.{IsSizedNet, IsSizedMem};
+ghost use Rattle.verilog_sim.specs.Start.{held_at_start, words_at_start};
 
 use crate::line::reduce;
 use crate::memory::Memory;
@@ -11,20 +11,9 @@ use mx_base::NoMemory;
 use rtl_ir::Module;
 use std::alloc::Global;
 
-/// How many wires, registers and memory words a module has, as far as 64 bits can tell.
-pub(crate) fn count_cells(module: &Module) -> u64
-    ensures { result ≡ min (cells_of module.now) (2 ^ 64 - 1) }
-{
-    let mut cells = module.nets.len() as u64;
-    for memory in module.mems.as_slice() {
-        cells = cells.saturating_add(memory.depth as u64);
-    }
-    cells
-}
-
 /// The low bits of a word in each register, and 0 at each other net.
 pub(crate) fn registers(alloc: Global, module: &Module, fill: u128) -> Result<Vec<u128>, NoMemory>
-    requires { (k : ℕ) (n : Net) → slice_get module.now.nets k ≡ Some n → IsFormedNet n }
+    requires { (k : ℕ) (n : Net) → slice_get module.now.nets k ≡ Some n → IsSizedNet n }
     ensures { IfOk result (λ held. held.items ≡ map (held_at_start fill) module.now.nets) }
 {
     let mut held = Vec::new(alloc);
@@ -37,7 +26,7 @@ pub(crate) fn registers(alloc: Global, module: &Module, fill: u128) -> Result<Ve
 
 /// The low bits of a word in each word of the memories.
 pub(crate) fn memories(alloc: Global, module: &Module, fill: u128) -> Result<Vec<Memory>, NoMemory>
-    requires { (k : ℕ) (x : Mem) → slice_get module.now.mems k ≡ Some x → IsFormedMem x }
+    requires { (k : ℕ) (x : Mem) → slice_get module.now.mems k ≡ Some x → IsSizedMem x }
     ensures { IfOk result (λ memories. memories.items ≡ map (words_at_start fill) module.now.mems) }
 {
     let mut memories = Vec::new(alloc);

@@ -1,15 +1,9 @@
-use Rattle.std.proofs.Common.{◌≡◌, ◌∙◌, inr, Bool, true, false, List, refl, sym, subst}
+use Rattle.std.proofs.Common.{refl, sym, subst}
 use Rattle.std.proofs.lemmas.Result.{err_from_is_err_and}
-use Rattle.verilog_syntax.specs.Parsed.{tokens_of}
-use Rattle.verilog_syntax.specs.declared.token.Placed.{Placed}
-use Rattle.verilog_read.specs.Refused.{AreNotBuilt}
 use Rattle.verilog_read.specs.Answers.{AreTokens}
 use Rattle.verilog_read.proofs.FirstUse.{err_is}
-use Rattle.verilog_read.proofs.Whole.{scan_refused, scan_excluded, not_built, formed, tree_refused, tree_excluded, rule_refused, rule_excluded, port_refused, port_excluded, read_as, only_design, excluded}
+use Rattle.verilog_read.proofs.Whole.{scan_refused, scan_excluded, formed, tree_refused, tree_excluded, rule_refused, rule_excluded, port_refused, port_excluded, read_as, only_design, excluded}
 use Rattle.verilog_read.proofs.read.Goals as goal
-
-unbuilt : {xs ys : List Placed} (b : Bool) → xs ≡ ys → b ≡ false → (AreNotBuilt (tokens_of xs) → b ≡ true) → AreNotBuilt (tokens_of ys) → ⊥
-unbuilt b e f h n = let t = h (subst (λ l. AreNotBuilt (tokens_of l)) (sym e) n) in let g : true ≡ false = sym t ∙ f in absurd (cc)
 
 pub returns-in_err-tokens-clause-refused : goal.returns-in_err-tokens-clause-refused
 returns-in_err-tokens-clause-refused c = rw (err_is (err_from_is_err_and c.from_residual.result c.from_residual.ensures.1)) (scan_refused c.in_err-tokens.ensures.err)
@@ -17,77 +11,69 @@ returns-in_err-tokens-clause-refused c = rw (err_is (err_from_is_err_and c.from_
 pub returns-in_err-tokens-clause-every : goal.returns-in_err-tokens-clause-every
 returns-in_err-tokens-clause-every c = λ d r. rw (err_is (err_from_is_err_and c.from_residual.result c.from_residual.ensures.1)) (scan_excluded d r c.in_err-tokens.ensures.err)
 
-pub returns-then-is_not_built-clause-refused : goal.returns-then-is_not_built-clause-refused
-returns-then-is_not_built-clause-refused c =
-    inr (not_built c.args.bytes.now c.as_slice.result.now (subst (AreTokens c.args.bytes.now) (sym c.as_slice.ensures) c.in_ok-tokens.ensures.ok) (c.is_not_built.ensures.0 c.if-is_not_built.true))
-
-pub returns-then-is_not_built-clause-every : goal.returns-then-is_not_built-clause-every
-returns-then-is_not_built-clause-every c = λ d r.
-    absurd (r.built (not_built c.args.bytes.now c.as_slice.result.now (subst (AreTokens c.args.bytes.now) (sym c.as_slice.ensures) c.in_ok-tokens.ensures.ok) (c.is_not_built.ensures.0 c.if-is_not_built.true)))
-
 pub returns-in_err-design-clause-refused : goal.returns-in_err-design-clause-refused
 returns-in_err-design-clause-refused c =
-    let tokens = c.as_slice-2.result.now in
-    let at = subst (AreTokens c.args.bytes.now) (sym c.as_slice-2.ensures) c.in_ok-tokens.ensures.ok in
+    let tokens = c.as_slice.result.now in
+    let at = subst (AreTokens c.args.bytes.now) (sym c.as_slice.ensures) c.in_ok-tokens.ensures.ok in
     rw (err_is (err_from_is_err_and c.from_residual-in_err-design.result c.from_residual-in_err-design.ensures.1))
-    (tree_refused c.args.bytes.now tokens at refl (unbuilt c.is_not_built.result (c.as_slice.ensures ∙ sym c.as_slice-2.ensures) c.if-is_not_built.false c.is_not_built.ensures.1) c.in_err-design.ensures.err)
+    (tree_refused c.args.bytes.now tokens at refl c.in_err-design.ensures.err)
 
 pub returns-in_err-design-clause-every : goal.returns-in_err-design-clause-every
 returns-in_err-design-clause-every c = λ d r.
-    let tokens = c.as_slice-2.result.now in
-    let at = subst (AreTokens c.args.bytes.now) (sym c.as_slice-2.ensures) c.in_ok-tokens.ensures.ok in
+    let tokens = c.as_slice.result.now in
+    let at = subst (AreTokens c.args.bytes.now) (sym c.as_slice.ensures) c.in_ok-tokens.ensures.ok in
     rw (err_is (err_from_is_err_and c.from_residual-in_err-design.result c.from_residual-in_err-design.ensures.1))
     (tree_excluded c.args.bytes.now tokens at d r c.in_err-design.ensures.err)
 
 pub keep_rules-requires : goal.keep_rules-requires
 keep_rules-requires c =
-    let tokens = c.as_slice-2.result.now in
-    let at = subst (AreTokens c.args.bytes.now) (sym c.as_slice-2.ensures) c.in_ok-tokens.ensures.ok in
+    let tokens = c.as_slice.result.now in
+    let at = subst (AreTokens c.args.bytes.now) (sym c.as_slice.ensures) c.in_ok-tokens.ensures.ok in
     formed c.args.bytes.now tokens at c.in_ok-design.design c.in_ok-design.ensures.ok
 
 pub returns-in_err-keep_rules-clause-refused : goal.returns-in_err-keep_rules-clause-refused
 returns-in_err-keep_rules-clause-refused c =
-    let tokens = c.as_slice-2.result.now in
-    let at = subst (AreTokens c.args.bytes.now) (sym c.as_slice-2.ensures) c.in_ok-tokens.ensures.ok in
+    let tokens = c.as_slice.result.now in
+    let at = subst (AreTokens c.args.bytes.now) (sym c.as_slice.ensures) c.in_ok-tokens.ensures.ok in
     rw (err_is (err_from_is_err_and c.from_residual-in_err-keep_rules.result c.from_residual-in_err-keep_rules.ensures.1))
-    (rule_refused c.args.bytes.now tokens at c.in_ok-design.design c.in_ok-design.ensures.ok (unbuilt c.is_not_built.result (c.as_slice.ensures ∙ sym c.as_slice-2.ensures) c.if-is_not_built.false c.is_not_built.ensures.1) c.in_err-keep_rules.ensures.err)
+    (rule_refused c.args.bytes.now tokens at c.in_ok-design.design c.in_ok-design.ensures.ok c.in_err-keep_rules.ensures.err)
 
 pub returns-in_err-keep_rules-clause-every : goal.returns-in_err-keep_rules-clause-every
 returns-in_err-keep_rules-clause-every c = λ d r.
-    let tokens = c.as_slice-2.result.now in
-    let at = subst (AreTokens c.args.bytes.now) (sym c.as_slice-2.ensures) c.in_ok-tokens.ensures.ok in
+    let tokens = c.as_slice.result.now in
+    let at = subst (AreTokens c.args.bytes.now) (sym c.as_slice.ensures) c.in_ok-tokens.ensures.ok in
     rw (err_is (err_from_is_err_and c.from_residual-in_err-keep_rules.result c.from_residual-in_err-keep_rules.ensures.1))
     (rule_excluded c.args.bytes.now tokens at c.in_ok-design.design c.in_ok-design.ensures.ok d r c.in_err-keep_rules.ensures.err)
 
 pub returns-in_err-can_run-clause-refused : goal.returns-in_err-can_run-clause-refused
 returns-in_err-can_run-clause-refused c =
-    let tokens = c.as_slice-2.result.now in
-    let at = subst (AreTokens c.args.bytes.now) (sym c.as_slice-2.ensures) c.in_ok-tokens.ensures.ok in
+    let tokens = c.as_slice.result.now in
+    let at = subst (AreTokens c.args.bytes.now) (sym c.as_slice.ensures) c.in_ok-tokens.ensures.ok in
     rw (err_is (err_from_is_err_and c.from_residual-in_err-can_run.result c.from_residual-in_err-can_run.ensures.1))
-    (port_refused c.args.bytes.now tokens at c.in_ok-design.design c.in_ok-design.ensures.ok c.in_ok-keep_rules.ensures.ok (unbuilt c.is_not_built.result (c.as_slice.ensures ∙ sym c.as_slice-2.ensures) c.if-is_not_built.false c.is_not_built.ensures.1) c.in_err-can_run.ensures.err)
+    (port_refused c.args.bytes.now tokens at c.in_ok-design.design c.in_ok-design.ensures.ok c.in_ok-keep_rules.ensures.ok c.in_err-can_run.ensures.err)
 
 pub returns-in_err-can_run-clause-every : goal.returns-in_err-can_run-clause-every
 returns-in_err-can_run-clause-every c = λ d r.
-    let tokens = c.as_slice-2.result.now in
-    let at = subst (AreTokens c.args.bytes.now) (sym c.as_slice-2.ensures) c.in_ok-tokens.ensures.ok in
+    let tokens = c.as_slice.result.now in
+    let at = subst (AreTokens c.args.bytes.now) (sym c.as_slice.ensures) c.in_ok-tokens.ensures.ok in
     rw (err_is (err_from_is_err_and c.from_residual-in_err-can_run.result c.from_residual-in_err-can_run.ensures.1))
     (port_excluded c.args.bytes.now tokens at c.one_shape.ensures.right c.in_ok-design.design c.in_ok-design.ensures.ok d r c.in_err-can_run.ensures.err)
 
 pub returns-clause-read : goal.returns-clause-read
 returns-clause-read c =
-    let tokens = c.as_slice-2.result.now in
-    let at = subst (AreTokens c.args.bytes.now) (sym c.as_slice-2.ensures) c.in_ok-tokens.ensures.ok in
-    read_as c.args.bytes.now tokens at c.in_ok-design.design c.in_ok-design.ensures.ok c.in_ok-keep_rules.ensures.ok c.in_ok-can_run.ensures.ok (unbuilt c.is_not_built.result (c.as_slice.ensures ∙ sym c.as_slice-2.ensures) c.if-is_not_built.false c.is_not_built.ensures.1)
+    let tokens = c.as_slice.result.now in
+    let at = subst (AreTokens c.args.bytes.now) (sym c.as_slice.ensures) c.in_ok-tokens.ensures.ok in
+    read_as c.args.bytes.now tokens at c.in_ok-design.design c.in_ok-design.ensures.ok c.in_ok-keep_rules.ensures.ok c.in_ok-can_run.ensures.ok
 
 pub returns-clause-exact : goal.returns-clause-exact
 returns-clause-exact c =
-    let tokens = c.as_slice-2.result.now in
-    let at = subst (AreTokens c.args.bytes.now) (sym c.as_slice-2.ensures) c.in_ok-tokens.ensures.ok in
+    let tokens = c.as_slice.result.now in
+    let at = subst (AreTokens c.args.bytes.now) (sym c.as_slice.ensures) c.in_ok-tokens.ensures.ok in
     excluded c.args.bytes.now tokens at c.one_shape.ensures.right c.in_ok-design.design c.in_ok-design.ensures.ok
-    (read_as c.args.bytes.now tokens at c.in_ok-design.design c.in_ok-design.ensures.ok c.in_ok-keep_rules.ensures.ok c.in_ok-can_run.ensures.ok (unbuilt c.is_not_built.result (c.as_slice.ensures ∙ sym c.as_slice-2.ensures) c.if-is_not_built.false c.is_not_built.ensures.1))
+    (read_as c.args.bytes.now tokens at c.in_ok-design.design c.in_ok-design.ensures.ok c.in_ok-keep_rules.ensures.ok c.in_ok-can_run.ensures.ok)
 
 pub returns-clause-only : goal.returns-clause-only
 returns-clause-only c =
-    let tokens = c.as_slice-2.result.now in
-    let at = subst (AreTokens c.args.bytes.now) (sym c.as_slice-2.ensures) c.in_ok-tokens.ensures.ok in
+    let tokens = c.as_slice.result.now in
+    let at = subst (AreTokens c.args.bytes.now) (sym c.as_slice.ensures) c.in_ok-tokens.ensures.ok in
     only_design c.args.bytes.now tokens at c.in_ok-design.design c.in_ok-design.ensures.ok c.in_ok-keep_rules.ensures.ok

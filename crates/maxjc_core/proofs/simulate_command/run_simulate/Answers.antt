@@ -5,14 +5,10 @@ use Rattle.maxjc_core.specs.Named.{run_told}
 use Rattle.maxjc_core.specs.Refusals.{cause_told}
 use Rattle.maxjc_core.specs.RunCauses.{StandsIn, IsFaulty}
 use Rattle.maxjc_core.specs.RunStops.{stop_cause}
-use Rattle.maxjc_core.proofs.OneModule.{alone}
 use Rattle.maxjc_core.proofs.RunEnding.{IsMade, IsSimulated, simulated, ends_so}
 use Rattle.maxjc_core.proofs.RunClauses.{stopped_not_done, stopped_not_limited, run_done, run_limited, answers_done, answers_limited, fails_done, fails_limited, stands_not, lacks_not, lacks_cut_off, others_so, refused_stands, read_fault_so, begun_stopped, fault_told, failed_so, reads_no_other, writes_no_other, quiet_reads, quiet_writes}
 use Rattle.maxjc_core.proofs.Summing.{sums_so}
 use Rattle.maxjc_core.proofs.simulate_command.run_simulate.Goals as goal
-
-pub simulate-requires-clause-alone : goal.simulate-requires-clause-alone
-simulate-requires-clause-alone g c = alone c.in-Ok.ensures.can_run.bytes c.in-Ok.field-0.design c.in-Ok.ensures.can_run.is
 
 pub returns-in-Ok-simulate-clause-done : goal.returns-in-Ok-simulate-clause-done
 returns-in-Ok-simulate-clause-done g c =

@@ -2,10 +2,10 @@ use Rattle.std.proofs.Common.{◌≡◌, ℕ, ◌<◌, List, Some, length, get_o
 use Rattle.std.specs.Prelude.{slice_get}
 use Rattle.std.proofs.lemmas.Option.{slice_get_read}
 use Rattle.rtl_ir.specs.declared.design.Mem.{Mem}
-use Rattle.rtl_ir.specs.Formed.{IsFormedMem}
+use Rattle.verilog_sim.specs.Runnable.{IsSizedMem}
 use Rattle.verilog_sim.proofs.start.memories.Goals as goal
 
-formed_at : (items mems : List Mem) (k : ℕ) (n : Mem) → ((j : ℕ) (x : Mem) → slice_get mems j ≡ Some x → IsFormedMem x) → items ≡ mems → k < length items → n ≡ get_or items k n → IsFormedMem n
+formed_at : (items mems : List Mem) (k : ℕ) (n : Mem) → ((j : ℕ) (x : Mem) → slice_get mems j ≡ Some x → IsSizedMem x) → items ≡ mems → k < length items → n ≡ get_or items k n → IsSizedMem n
 formed_at items mems k n formed e lt is = formed k n (subst (λ (l : List Mem). slice_get l k ≡ Some n) e (slice_get_read items (length items) k n refl lt is))
 
 pub reduce-word-requires-clause-some : goal.reduce-word-requires-clause-some

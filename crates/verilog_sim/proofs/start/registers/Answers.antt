@@ -2,10 +2,10 @@ use Rattle.std.proofs.Common.{◌≡◌, ℕ, ◌<◌, List, Some, length, get_o
 use Rattle.std.specs.Prelude.{slice_get}
 use Rattle.std.proofs.lemmas.Option.{slice_get_read}
 use Rattle.rtl_ir.specs.declared.design.Net.{Net}
-use Rattle.rtl_ir.specs.Formed.{IsFormedNet}
+use Rattle.verilog_sim.specs.Runnable.{IsSizedNet}
 use Rattle.verilog_sim.proofs.start.registers.Goals as goal
 
-formed_at : (items nets : List Net) (k : ℕ) (n : Net) → ((j : ℕ) (x : Net) → slice_get nets j ≡ Some x → IsFormedNet x) → items ≡ nets → k < length items → n ≡ get_or items k n → IsFormedNet n
+formed_at : (items nets : List Net) (k : ℕ) (n : Net) → ((j : ℕ) (x : Net) → slice_get nets j ≡ Some x → IsSizedNet x) → items ≡ nets → k < length items → n ≡ get_or items k n → IsSizedNet n
 formed_at items nets k n formed e lt is = formed k n (subst (λ (l : List Net). slice_get l k ≡ Some n) e (slice_get_read items (length items) k n refl lt is))
 
 pub reduce-word-requires-clause-some : goal.reduce-word-requires-clause-some

@@ -11,9 +11,9 @@ use Rattle.simulation.proofs.Shaping.{steady_fit, input_widths, output_widths}
 use Rattle.simulation.proofs.bench.Bench.new.Goals as goal
 
 pub returns-in_err-sim-clause-too_many : goal.returns-in_err-sim-clause-too_many
-returns-in_err-sim-clause-too_many g c = λ m top many.
+returns-in_err-sim-clause-too_many g c = λ many.
     let p = err_from_is_err_and c.from_residual.result c.from_residual.ensures.1 in
-    rw (p.1, p.2) (refusal_of _ _ (c.in_err-sim.ensures.refusal m top), refl, tt)
+    rw (p.1, p.2) (refusal_of _ _ c.in_err-sim.ensures.refusal, refl, tt)
 
 pub set_all-requires-clause-ports : goal.set_all-requires-clause-ports
 set_all-requires-clause-ports g c =
@@ -30,7 +30,7 @@ set_all-requires-clause-small g c =
     let q = c.requires.shape in
     let sim = c.in_ok-sim.sim in
     let size : length sim.steady ≡ length (outer_of q.1 q.0).steady = ap length c.in_ok-sim.ensures.steady ∙ length-map sim.outer.steady (λ n. 0) ∙ ap (λ (o : Outer). length o.steady) (c.in_ok-sim.ensures.outer q.0 q.1 q.2 q.3) in
-    omega (arith, size, few d q.0 q.1 c.args.plan q.3 q.4 c.requires.accepted q.2 (c.in_ok-sim.ensures.small q.0 q.2))
+    omega (arith, size, few d q.0 q.1 c.args.plan q.3 q.4 c.requires.accepted q.2 c.in_ok-sim.ensures.small)
 
 pub set_all-requires-clause-widths : goal.set_all-requires-clause-widths
 set_all-requires-clause-widths g c = λ m top k value at.
@@ -56,7 +56,7 @@ returns-clause-bench g c =
     let q = c.requires.shape in
     let p = c.args.plan in
     let made = c.set_all.ensures in
-    bench_made d q.0 q.1 p _ c.requires.accepted q.2 q.3 q.4 c.requires.apart (c.in_ok-sim.ensures.small q.0 q.2)
+    bench_made d q.0 q.1 p _ c.requires.accepted q.2 q.3 q.4 c.requires.apart c.in_ok-sim.ensures.small
     (ap (λ (x : State). x.design) made ∙ c.in_ok-sim.ensures.design)
     (ap (λ (x : State). x.outer) made ∙ c.in_ok-sim.ensures.outer q.0 q.1 q.2 q.3)
     c.in_ok-readers.ensures.named c.in_ok-readers.ensures.begin c.in_ok-writers.ensures.named

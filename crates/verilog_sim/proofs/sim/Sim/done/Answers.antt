@@ -1,4 +1,4 @@
-use Rattle.std.proofs.Common.{◌≡◌, ℕ, ◌-◌, false, eqb, List, [], Some, length, get_or, subst, sym, ap, ◌∙◌}
+use Rattle.std.proofs.Common.{◌≡◌, ℕ, ◌-◌, false, eqb, List, [], Some, length, get_or, refl, subst, sym, ap, ◌∙◌}
 use Rattle.std.specs.Prelude.{slice_get}
 use Rattle.std.specs.Vec.{with_items}
 use Rattle.rtl_ir.specs.declared.design.Module.{Module}
@@ -8,31 +8,47 @@ use Rattle.rtl_ir.specs.Ports.{port_net}
 use Rattle.verilog_sim.specs.State.{State}
 use Rattle.verilog_sim.specs.Calls.{IsDone}
 use Rattle.verilog_sim.specs.Simulates.{IsEvaluated}
-use Rattle.verilog_sim.proofs.Edges.{back, simulates_back, nets_within, done_is}
+use Rattle.verilog_sim.specs.Settled.{AreWords}
+use Rattle.verilog_sim.proofs.Edges.{outer_top, back, kept_back, none_offered, ready_at, kept_on, nets_within, done_is}
 use Rattle.verilog_sim.proofs.sim.Sim.done.Goals as goal
+
+pub evaluate-requires : goal.evaluate-requires
+evaluate-requires c =
+    let x = c.self.inside in
+    let s = c.self.invariant in
+    (s.flat, ready_at s c.as_slice-ports.result.now c.as_slice-2.result.now c.as_slice.result.now c.as_slice-3.result.now c.as_mut_slice.result.now c.as_slice-4.result.now [] c.top.result.now c.top.ensures c.as_slice-ports.ensures c.as_slice-2.ensures c.as_slice.ensures.value c.as_slice-3.ensures.value c.as_mut_slice.ensures.value c.as_slice-4.ensures.value (none_offered c.top.result.now (outer_top x.design.now x.counts)))
 
 pub value_at-requires-clause-nets : goal.value_at-requires-clause-nets
 value_at-requires-clause-nets c =
     let x = c.self.inside in
-    nets_within x.design.now c.top.result.now x.counts x.program.literals.items x.program.lines.items c.as_slice.result.now c.as_slice-2.result.now c.look.new.values c.as_slice-4.result.now c.as_slice-3.result.now c.as_slice-ports.result.now c.look.ensures.simulates c.top.ensures c.as_slice-ports.ensures
-    (c.as_slice-4.ensures.value ∙ back x.values c.look.new.values c.as_mut_slice.result.now c.look.auto.values c.as_mut_slice.ensures.value)
+    let s = c.self.invariant in
+    let done = c.evaluate.ensures s.flat (ready_at s c.as_slice-ports.result.now c.as_slice-2.result.now c.as_slice.result.now c.as_slice-3.result.now c.as_mut_slice.result.now c.as_slice-4.result.now [] c.top.result.now c.top.ensures c.as_slice-ports.ensures c.as_slice-2.ensures c.as_slice.ensures.value c.as_slice-3.ensures.value c.as_mut_slice.ensures.value c.as_slice-4.ensures.value (none_offered c.top.result.now (outer_top x.design.now x.counts))) in
+    nets_within s c.top.result.now c.as_slice-ports.result.now c.as_slice-5.result.now c.top.ensures c.as_slice-ports.ensures (ap length (c.as_slice-5.ensures.value ∙ back x.values c.evaluate.new.values c.as_mut_slice.result.now c.evaluate.auto.values c.as_mut_slice.ensures.value) ∙ done.words.nets)
 
 pub invariant_of-self : goal.invariant_of-self
 invariant_of-self c =
     let x = c.self.inside in
-    let values : c.look.new.values ≡ (with_items x.values c.look.new.values).items = sym (back x.values c.look.new.values c.as_mut_slice.result.now c.look.auto.values c.as_mut_slice.ensures.value) in
-    simulates_back x.design.now x.counts x.program.literals.items x.program.lines.items c.as_slice.result.now x.steady.items c.as_slice-2.result.now x.held.items c.look.new.values (with_items x.values c.look.new.values).items c.as_slice-3.result.now x.memories.items c.look.ensures.simulates c.as_slice.ensures.value c.as_slice-2.ensures.value values c.as_slice-3.ensures.value
+    let s = c.self.invariant in
+    let done = c.evaluate.ensures s.flat (ready_at s c.as_slice-ports.result.now c.as_slice-2.result.now c.as_slice.result.now c.as_slice-3.result.now c.as_mut_slice.result.now c.as_slice-4.result.now [] c.top.result.now c.top.ensures c.as_slice-ports.ensures c.as_slice-2.ensures c.as_slice.ensures.value c.as_slice-3.ensures.value c.as_mut_slice.ensures.value c.as_slice-4.ensures.value (none_offered c.top.result.now (outer_top x.design.now x.counts))) in
+    let k = s.kept in
+    let values : c.evaluate.new.values ≡ (with_items x.values c.evaluate.new.values).items = sym (back x.values c.evaluate.new.values c.as_mut_slice.result.now c.evaluate.auto.values c.as_mut_slice.ensures.value) in
+    let memories : c.as_slice-4.result.now ≡ x.memories.items = c.as_slice-4.ensures.value in
+    kept_on s x.steady.items x.held.items (with_items x.values c.evaluate.new.values).items x.memories.items
+    (kept_back s.flat x.counts x.steady.items x.steady.items x.held.items x.held.items c.evaluate.new.values (with_items x.values c.evaluate.new.values).items x.memories.items x.memories.items
+    (record { blocks = k.blocks; words = subst (AreWords s.flat c.evaluate.new.values) memories done.words; held_nets = k.held_nets; held_words = k.held_words; steady_ports = k.steady_ports; steady_words = k.steady_words }) refl refl values refl)
 
 pub returns-clause-done : goal.returns-clause-done
 returns-clause-done c = λ m e.
     let x = c.self.inside in
-    let top : top_of x.design.now ≡ Some m = subst (λ (s : State). top_of s.design ≡ Some m) (sym c.self.view_is) e in
+    let s = c.self.invariant in
+    let done = c.evaluate.ensures s.flat (ready_at s c.as_slice-ports.result.now c.as_slice-2.result.now c.as_slice.result.now c.as_slice-3.result.now c.as_mut_slice.result.now c.as_slice-4.result.now [] c.top.result.now c.top.ensures c.as_slice-ports.ensures c.as_slice-2.ensures c.as_slice.ensures.value c.as_slice-3.ensures.value c.as_mut_slice.ensures.value c.as_slice-4.ensures.value (none_offered c.top.result.now (outer_top x.design.now x.counts))) in
+    let top : top_of x.design.now ≡ Some m = subst (λ (st : State). top_of st.design ≡ Some m) (sym c.self.view_is) e in
     let ports : c.as_slice-ports.result.now ≡ m.ports = c.as_slice-ports.ensures ∙ ap (λ (y : Module). y.ports) (let f = c.top.ensures in let q : c.top.result.now ≡ m = cc in q) in
-    let values : c.as_slice-4.result.now ≡ c.look.new.values = c.as_slice-4.ensures.value ∙ back x.values c.look.new.values c.as_mut_slice.result.now c.look.auto.values c.as_mut_slice.ensures.value in
-    let done : IsEvaluated m x.counts false x.steady.items [] [] [] x.held.items x.memories.items c.look.new.values =
-    subst (λ (l : List ℕ). IsEvaluated m x.counts false l [] [] [] x.held.items x.memories.items c.look.new.values) c.as_slice.ensures.value
-    (subst (λ (l : List ℕ). IsEvaluated m x.counts false c.as_slice.result.now [] [] [] l x.memories.items c.look.new.values) c.as_slice-2.ensures.value
-    (subst (λ (l : List (List ℕ)). IsEvaluated m x.counts false c.as_slice.result.now [] [] [] c.as_slice-2.result.now l c.look.new.values) c.as_slice-3.ensures.value (c.look.ensures.evaluated m top))) in
-    let read : c.value_at.result ≡ get_or c.look.new.values (port_net (slice_get m.ports (length m.ports - 1))) 0 = c.value_at.ensures ∙ ap (λ (l : List ℕ). get_or l (port_net (slice_get c.as_slice-ports.result.now (length c.as_slice-ports.result.now - 1))) 0) values ∙ ap (λ (l : List Port). get_or c.look.new.values (port_net (slice_get l (length l - 1))) 0) ports in
-    subst (λ (s : State). IsDone m s (eqb c.value_at.result 1)) c.self.view_is
-    (done_is x.design.now m x.counts x.program.literals.items x.program.lines.items x.steady.items x.held.items x.values.items c.look.new.values x.memories.items (eqb c.value_at.result 1) c.self.invariant top done (ap (λ n. eqb n 1) read))
+    let values : c.as_slice-5.result.now ≡ c.evaluate.new.values = c.as_slice-5.ensures.value ∙ back x.values c.evaluate.new.values c.as_mut_slice.result.now c.evaluate.auto.values c.as_mut_slice.ensures.value in
+    let at : IsEvaluated s.flat x.counts false x.steady.items [] [] [] x.held.items x.memories.items c.evaluate.new.values =
+    subst (λ (l : List ℕ). IsEvaluated s.flat x.counts false l [] [] [] x.held.items x.memories.items c.evaluate.new.values) c.as_slice.ensures.value
+    (subst (λ (l : List ℕ). IsEvaluated s.flat x.counts false c.as_slice.result.now [] [] [] l x.memories.items c.evaluate.new.values) c.as_slice-3.ensures.value
+    (subst (λ (l : List (List ℕ)). IsEvaluated s.flat x.counts false c.as_slice.result.now [] [] [] c.as_slice-3.result.now l c.evaluate.new.values) c.as_slice-4.ensures.value done)) in
+    let read : c.value_at.result ≡ get_or c.evaluate.new.values (port_net (slice_get m.ports (length m.ports - 1))) 0 = c.value_at.ensures ∙ ap (λ (l : List ℕ). get_or l (port_net (slice_get c.as_slice-ports.result.now (length c.as_slice-ports.result.now - 1))) 0) values ∙ ap (λ (l : List Port). get_or c.evaluate.new.values (port_net (slice_get l (length l - 1))) 0) ports in
+    subst (λ (st : State). IsDone m st (eqb c.value_at.result 1)) c.self.view_is
+    (done_is s m c.evaluate.new.values (eqb c.value_at.result 1) top at (ap (λ n. eqb n 1) read))

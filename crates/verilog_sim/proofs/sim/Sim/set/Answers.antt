@@ -8,7 +8,6 @@ use Rattle.verilog_sim.proofs.sim.Sim.set.Goals as goal
 
 pub invariant_of-self : goal.invariant_of-self
 invariant_of-self c =
-    let x = c.self.inside in
-    set_kept x.design.now x.counts x.program.literals.items x.program.lines.items x.steady.items x.held.items x.values.items x.memories.items c.args.port c.args.value c.self.invariant
+    set_kept c.self.invariant c.args.port c.args.value
     (subst (λ (s : State). c.args.port < length s.steady) (sym c.self.view_is) c.requires.port)
     (subst (λ (s : State). (m : Module) → top_of s.design ≡ Some m → c.args.value < 2 ^ width_of m (get_or s.outer.steady c.args.port 0)) (sym c.self.view_is) c.requires.value)

@@ -1,0 +1,14 @@
+pub mod ByteTests
+pub mod GapLemmas
+pub mod Words
+pub mod Fronts
+pub mod Numbers
+pub mod Places
+pub mod Readings
+pub mod Examples
+pub mod SmallSource
+pub mod FirstFaults
+pub mod Values
+pub mod Excesses
+pub mod Twins
+pub mod Projects

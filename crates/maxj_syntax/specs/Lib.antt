@@ -1,0 +1,9 @@
+pub mod Tokens
+pub mod Scanning
+pub mod Classes
+pub mod Reading
+pub mod Tree
+pub mod Derivation
+pub mod Productions
+pub mod Faults
+pub mod Source

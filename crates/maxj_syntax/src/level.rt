@@ -1,0 +1,28 @@
+// How tightly operators bind.
+
+/// The levels of operators, the tightest first.
+#[derive(Clone, Copy, Debug, PartialEq, Eq)]
+pub enum Level {
+    /// The prefixes `-`, `~` and `!`.
+    Prefixes,
+    /// `*`, `/` and `%`.
+    Products,
+    /// `+` and `-`.
+    Sums,
+    /// `<<` and `>>`.
+    Shifts,
+    /// `<`, `<=`, `>` and `>=`.
+    Orders,
+    /// `===`, `!==`, `==` and `!=`.
+    Equalities,
+    /// `&`.
+    BitAnds,
+    /// `^`.
+    BitXors,
+    /// `|`.
+    BitOrs,
+    /// `&&`.
+    Ands,
+    /// `||`.
+    Ors,
+}

@@ -1,0 +1,13 @@
+use Rattle.std.proofs.Common.{get_or, []}
+use Rattle.std.specs.Prelude.{sum_by}
+use Rattle.rtl_ir.specs.declared.design.Instance.{Instance}
+use Rattle.verilog_sim.specs.Start.{cells_after}
+use Rattle.verilog_sim.specs.Flattened.{AreFlattened}
+use Rattle.verilog_sim.proofs.flatten.flatten.Given as goal
+
+abbrev pub invariant-loop-instance : goal.invariant-loop-instance
+invariant-loop-instance l = AreFlattened l.design l.top l.parts l.places.items
+
+-- the cells of all instances that have not yet become parts
+abbrev pub decreases-loop-instance : goal.decreases-loop-instance
+decreases-loop-instance l = sum_by (λ (i : Instance). get_or (cells_after [] l.design.modules) i.«module» 0) l.parts.instances.items
