@@ -70,7 +70,8 @@ def holds(kind, text, words, wanted, wanted_words, most_seconds):
         left = (work / "y.txt").read_text().split() if (work / "y.txt").exists() else []
     good = said == wanted and [int(word, 16) for word in left] == wanted_words
     ended = f"{said}, status {status}" if status is not None else f"stopped after {most_seconds} s"
-    print(f"{kind}, {len(text)} bytes: {ended}, {seconds:.2f} s, {memory / 2**20:.0f} MiB" + ("" if good else f", NOT as wanted: {left}"))
+    seen = f"{memory / 2**20:.0f} MiB" if memory else "over before its memory was seen"
+    print(f"{kind}, {len(text)} bytes: {ended}, {seconds:.2f} s, {seen}" + ("" if good else f", NOT as wanted: {left}"))
     return good
 
 
