@@ -151,3 +151,45 @@ faulty (ReadsAt.token {rest = rest} {t = t} word n r) (IsFault.followed number f
 
 pub not_read : {bytes left : List ℕ} {place : ℕ} {us : List PlacedToken} → AreTokens bytes us → HasFault bytes place left → ⊥
 not_read s h = let (vs, k, w) = rest_behind h.read s refl in faulty w h.fault
+
+-- bytes have one first fault
+
+fault_gap : {text left : List ℕ} → IsFault text left → (gap rest : List ℕ) → text ≡ gap ++ rest → Gaps gap rest → ⊥
+fault_gap (IsFault.stuck s) gap rest e g = s.no_gap gap rest e g
+fault_gap (IsFault.followed number f) gap rest e g = f.next.begins gap rest (sym f.split ∙ e) g
+
+fault_token : {text left : List ℕ} → IsFault text left → (word rest : List ℕ) (t : Token) → text ≡ word ++ rest → Next word rest t → ⊥
+fault_token (IsFault.stuck s) word rest t e n = s.no_token word rest t e (opened n)
+fault_token (IsFault.followed number f) word rest t e n =
+    let same = same_next Gaps token_of OpensNone (opened n) f.next (sym e ∙ f.split) in
+    let token : Some t ≡ Some f.token = sym n.is ∙ ap token_of same.0 ∙ f.next.is in
+    true_or_not f.followed n.apart.1 (some_is (sym token)) (sym same.1)
+
+at_one_place : {xs ys left behind : List ℕ} → xs ≡ ys → IsFault xs left → IsFault ys behind → behind ≡ left
+at_one_place e (IsFault.stuck s) (IsFault.stuck t) = sym e
+at_one_place {behind = behind} e (IsFault.stuck s) (IsFault.followed number f) = absurd (s.no_token number behind f.token (e ∙ f.split) f.next)
+at_one_place {left = left} e (IsFault.followed number f) (IsFault.stuck t) = absurd (t.no_token number left f.token (sym e ∙ f.split) f.next)
+at_one_place e (IsFault.followed number f) (IsFault.followed other g) = sym (same_next Gaps token_of OpensNone f.next g.next (sym f.split ∙ e ∙ g.split)).1
+
+one_fault_behind : {xs ys rest back left behind : List ℕ} {ts us : List Token} → Reads Gaps token_of Apart xs ts rest → Reads Gaps token_of Apart ys us back → xs ≡ ys → IsFault rest left → IsFault back behind → behind ≡ left
+one_fault_behind Reads.end Reads.end e f g = at_one_place e f g
+one_fault_behind Reads.end (Reads.skip {rest = rest} gap k s) e f g = absurd (fault_gap f gap rest e k)
+one_fault_behind Reads.end (Reads.token {rest = rest} {t = t} word n s) e f g = absurd (fault_token f word rest t e n)
+one_fault_behind (Reads.skip {rest = rest} gap k r) Reads.end e f g = absurd (fault_gap g gap rest (sym e) k)
+one_fault_behind (Reads.token {rest = rest} {t = t} word n r) Reads.end e f g = absurd (fault_token g word rest t (sym e) n)
+one_fault_behind (Reads.skip gap k r) (Reads.skip other l s) e f g = one_fault_behind r s (gaps k l e).1 f g
+one_fault_behind (Reads.skip {rest = rest} gap k r) (Reads.token word n s) e f g = absurd (n.begins gap rest (sym e) k)
+one_fault_behind (Reads.token word n r) (Reads.skip {rest = rest} gap k s) e f g = absurd (n.begins gap rest e k)
+one_fault_behind (Reads.token word n r) (Reads.token other m s) e f g = one_fault_behind r s (same_next Gaps token_of Apart n m e).1 f g
+
+pub one_left : {bytes left behind : List ℕ} {place other : ℕ} → HasFault bytes place left → HasFault bytes other behind → behind ≡ left
+one_left h g = one_fault_behind h.read g.read refl h.fault g.fault
+
+pub one_place : {bytes left behind : List ℕ} {place other : ℕ} → HasFault bytes place left → HasFault bytes other behind → other ≡ place
+one_place {left = left} {behind = behind} h g =
+    let a = ap length h.split in
+    let b = ap length g.split in
+    let e = ap length (one_left h g) in
+    let i = h.at in
+    let j = g.at in
+    omega (arith, a, b, e, i, j, length-append h.before left, length-append g.before behind)

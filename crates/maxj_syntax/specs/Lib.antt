@@ -7,3 +7,12 @@ pub mod Derivation
 pub mod Productions
 pub mod Faults
 pub mod Source
+pub mod Kinds
+pub mod Symbols
+pub mod Moves
+pub mod TokenClasses
+pub mod Table
+pub mod Choosing
+pub mod Steps
+pub mod Building
+pub mod Outcomes

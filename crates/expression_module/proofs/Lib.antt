@@ -1,0 +1,14 @@
+mod Operations
+mod Carried
+mod Items
+mod Names
+mod Insides
+mod Differ
+mod Formed
+mod Driven
+mod Levels
+mod Accepted
+mod Shown
+mod Runs
+mod Form
+mod Whole

@@ -1,0 +1,4 @@
+pub mod Designs
+pub mod Streams
+pub mod Straight
+pub mod Values

@@ -1,0 +1,220 @@
+-- The exits of the parser.
+use Rattle.std.proofs.Common.{◌≡◌, ℕ, zero, suc, ◌+◌, ◌<◌, ◌≤◌, ◌-◌, List, [], ◌∷◌, ◌++◌, Bool, true, false, Option, Some, None, refl, sym, ap, subst, ◌∙◌, length, arith, reverse, drop, get_or, map, drop-cons, add-one, ◌==◌}
+use Rattle.std.proofs.lemmas.List.{length-drop}
+use Rattle.std.proofs.Math.Seq.{drop-length}
+use Rattle.std.proofs.Math.ListN.{length-map, get_or-map}
+use Rattle.grammar.specs.Stack.{head_of}
+use Rattle.maxj_syntax.specs.declared.tree.Node.{Node as Cell}
+use Rattle.maxj_syntax.specs.declared.tree.Class.{Class}
+use Rattle.maxj_syntax.specs.declared.tree.Program.{Program}
+use Rattle.maxj_syntax.specs.declared.build.Unfinished.{Unfinished}
+use Rattle.maxj_syntax.specs.declared.build.Builder.{Builder}
+use Rattle.maxj_syntax.specs.declared.kind.Kind.{Kind}
+use Rattle.maxj_syntax.specs.declared.symbol.TokenClass.{TokenClass}
+use Rattle.maxj_syntax.specs.declared.symbol.Effect.{Effect}
+use Rattle.maxj_syntax.specs.declared.symbol.Rule.{Rule}
+use Rattle.maxj_syntax.specs.declared.symbol.Symbol.{Symbol as SymbolOf}
+use Rattle.maxj_syntax.specs.declared.symbol.Fixed.{Fixed}
+use Rattle.maxj_syntax.specs.declared.symbol.Fixed.TheVariants as F
+use Rattle.maxj_syntax.specs.declared.symbol.Action.{Action}
+use Rattle.std.specs.List.{list_any}
+use Rattle.maxj_syntax.specs.declared.symbol.TokenClass.TheVariants as C
+use Rattle.maxj_syntax.specs.Tokens.{written}
+use Rattle.maxj_syntax.specs.Kinds.{kind_of}
+use Rattle.maxj_syntax.specs.TokenClasses.{class_has}
+use Rattle.maxj_syntax.specs.Choosing.{admits}
+use Rattle.maxj_syntax.proofs.ByteTests.{clash}
+use Rattle.maxj_syntax.proofs.ClassLemmas.{accepts, accepted}
+use Rattle.maxj_syntax.specs.declared.token.Placed.{Placed}
+use Rattle.maxj_syntax.specs.declared.parser.Settled.{Settled}
+use Rattle.maxj_syntax.specs.declared.parser.Settled.TheVariants as T
+use Rattle.maxj_syntax.specs.Tokens.{Token}
+use Rattle.maxj_syntax.specs.Scanning.{PlacedToken}
+use Rattle.maxj_syntax.specs.Reading.{placed_view, token_view}
+use Rattle.maxj_syntax.specs.Tree.{ClassTree, ClassesAre}
+use Rattle.maxj_syntax.specs.TokenClasses.{Accepts}
+use Rattle.maxj_syntax.specs.Productions.{is_name}
+use Rattle.maxj_syntax.specs.Faults.{FirstBad, IsMisplaced, place_of}
+use Rattle.maxj_syntax.specs.Symbols.{Symbol, Mark, Name, Sub, Call, fixed_view}
+use Rattle.maxj_syntax.specs.Choosing.{Is, Choice, choose, chain}
+use Rattle.maxj_syntax.specs.Steps.{Entry, At, Below, Ground, On}
+use Rattle.maxj_syntax.specs.Building.{IsBottom, AreBottom, Holds, Takes, Reached, bottom, todo, Settles, IsTheFile, AreUnder, AreOpen, IsTaken, IsRefused, IsRule, IsExpanded, view_of}
+use Rattle.maxj_syntax.proofs.Predict.{leads_stay}
+use Rattle.maxj_syntax.proofs.Machine.{step_rule, stuck_rule, rule_less, stuck_mark, stuck_name, stuck_end, step_mark, step_name}
+use Rattle.maxj_syntax.proofs.Judge.{bad_place, whole_file}
+
+bottom_open : (tokens : List PlacedToken) (nodes : List Cell) (classes : List Class) (os : List Unfinished) → AreBottom (length tokens) os → classes ≡ [] → AreOpen nodes classes tokens (reverse os) bottom (Ground [])
+bottom_open tokens nodes classes [] a e = absurd a
+bottom_open tokens nodes classes (o ∷ []) a e = ((sym (ap (λ n. drop n tokens) a.0 ∙ drop-length tokens), a.1, a.2, a.3, a.4), subst (λ l. ClassesAre nodes l []) (sym e) tt)
+bottom_open tokens nodes classes (o ∷ p ∷ os) a e = absurd a
+
+pub start_reached : (tokens : List PlacedToken) (stack : List SymbolOf) (builder : Builder) → todo stack ≡ Sub Rule.File ∷ [] → IsBottom (length tokens) builder → Reached tokens tokens (todo stack) builder
+start_reached tokens stack builder e f = subst (λ l. Reached tokens tokens l builder) (sym e) (
+  leads_stay Is Choice (Sub Rule.File ∷ []) tokens,
+  (λ t p. refl, tt),
+  bottom,
+  Ground [],
+  bottom_open tokens builder.nodes builder.classes builder.unfinished.items f.0 f.1,
+  λ c q x. x,
+  λ c q x. x,
+)
+
+at_place : (tokens : List PlacedToken) (at : ℕ) → at ≤ length tokens → length tokens - length (drop at tokens) ≡ at
+at_place tokens at h = omega (arith, h, length-drop at tokens)
+
+next_token : (tokens : List PlacedToken) (at : ℕ) (d : PlacedToken) → at < length tokens → drop at tokens ≡ get_or tokens at d ∷ drop (at + 1) tokens
+next_token tokens at d h = rw add-one (drop-cons tokens at d h)
+
+same_head : {t u : PlacedToken} {ts us : List PlacedToken} → t ∷ ts ≡ u ∷ us → t ≡ u
+same_head e = cc
+
+-- another token than the one that the stack begins with
+pub bad_taken : (tokens : List PlacedToken) (at : ℕ) (d : PlacedToken) (s : Settled) (after : List Symbol) (builder : Builder) → at < length tokens → IsRefused s (get_or tokens at d).token → Settles s tokens (drop at tokens) after builder → FirstBad tokens at
+bad_taken tokens at d (T.Token k e) after builder h never r =
+    subst (λ n. FirstBad tokens n) (at_place tokens at (omega (arith, h))) (bad_place tokens (drop at tokens) _ builder r
+    (stuck_mark (drop at tokens) k e after (λ t zs f i. never (subst (λ x. Accepts k x.token) (sym (same_head (sym (next_token tokens at d h) ∙ f))) i))))
+bad_taken tokens at d (T.Name w e) after builder h never r =
+    subst (λ n. FirstBad tokens n) (at_place tokens at (omega (arith, h))) (bad_place tokens (drop at tokens) _ builder r
+    (stuck_name (drop at tokens) w.now e after (λ t zs f i. never (subst (λ x. (x.token ≡ Token.Word w.now) × (is_name w.now ≡ true)) (sym (same_head (sym (next_token tokens at d h) ∙ f))) i))))
+bad_taken tokens at d T.Empty after builder h never r =
+    subst (λ n. FirstBad tokens n) (at_place tokens at (omega (arith, h))) (bad_place tokens (drop at tokens) [] builder r (rw (next_token tokens at d h) (stuck_end (get_or tokens at d) (drop (at + 1) tokens))))
+bad_taken tokens at d T.Stuck after builder h never r = subst (λ n. FirstBad tokens n) (at_place tokens at (omega (arith, h))) r
+
+-- the end of the tokens
+pub bad_end : (tokens ys : List PlacedToken) (s : Settled) (after : List Symbol) (builder : Builder) → ys ≡ [] → (s ≡ T.Empty → ⊥) → Settles s tokens ys after builder → FirstBad tokens (length tokens)
+bad_end tokens ys T.Empty after builder z never r = absurd (never refl)
+bad_end tokens ys (T.Token k e) after builder z never r =
+    let n : length tokens - length ys ≡ length tokens = rw z (omega arith) in
+    subst (λ n. FirstBad tokens n) n (bad_place tokens ys _ builder r (stuck_mark ys k e after (λ t zs f i. none t zs (sym z ∙ f))))
+  where
+    none : (t : PlacedToken) (zs : List PlacedToken) → [] ≡ t ∷ zs → ⊥
+    none t zs f = absurd (cc)
+bad_end tokens ys (T.Name w e) after builder z never r =
+    let n : length tokens - length ys ≡ length tokens = rw z (omega arith) in
+    subst (λ n. FirstBad tokens n) n (bad_place tokens ys _ builder r (stuck_name ys w.now e after (λ t zs f i. none t zs (sym z ∙ f))))
+  where
+    none : (t : PlacedToken) (zs : List PlacedToken) → [] ≡ t ∷ zs → ⊥
+    none t zs f = absurd (cc)
+bad_end tokens ys T.Stuck after builder z never r = let n : length tokens - length ys ≡ length tokens = rw z (omega arith) in subst (λ n. FirstBad tokens n) n r
+
+-- the token that the stack begins with
+pub read_on : (tokens : List PlacedToken) (at : ℕ) (d : PlacedToken) (s : Settled) (f : Effect) (after : List Symbol) (old new : Builder) → at < length tokens → IsTaken s (get_or tokens at d).token f → Takes tokens f (get_or tokens at d).token (drop at tokens) (drop (at + 1) tokens) old new
+    → Settles s tokens (drop at tokens) after old → Reached tokens (drop (at + 1) tokens) after new
+read_on tokens at d (T.Token k e) f after old new h i t r =
+    let g = next_token tokens at d h in
+    let u : Takes tokens e (get_or tokens at d).token (drop at tokens) (drop (at + 1) tokens) old new = subst (λ x. Takes tokens x (get_or tokens at d).token (drop at tokens) (drop (at + 1) tokens) old new) (sym i.1) t in
+    step_mark tokens (get_or tokens at d) (drop (at + 1) tokens) k e after old new i.0 (subst (λ l. Takes tokens e (get_or tokens at d).token l (drop (at + 1) tokens) old new) g u) (subst (λ l. Reached tokens l (Mark k e ∷ after) old) g r)
+read_on tokens at d (T.Name w e) f after old new h i t r =
+    let g = next_token tokens at d h in
+    let u : Takes tokens e (get_or tokens at d).token (drop at tokens) (drop (at + 1) tokens) old new = subst (λ x. Takes tokens x (get_or tokens at d).token (drop at tokens) (drop (at + 1) tokens) old new) (sym i.1) t in
+    step_name tokens (get_or tokens at d) (drop (at + 1) tokens) w.now e after old new i.0 (subst (λ l. Takes tokens e (get_or tokens at d).token l (drop (at + 1) tokens) old new) g u) (subst (λ l. Reached tokens l (Name w.now e ∷ after) old) g r)
+read_on tokens at d T.Empty f after old new h i t r = absurd i
+read_on tokens at d T.Stuck f after old new h i t r = absurd i
+
+grounded : (nodes : List Cell) (classes : List Class) (tokens : List PlacedToken) (os : List Unfinished) (b : Entry) (cs : List ClassTree) → AreOpen nodes classes tokens os b (Ground cs) → ClassesAre nodes classes cs
+grounded nodes classes tokens [] b cs a = absurd a
+grounded nodes classes tokens (o ∷ []) b cs a = a.1
+grounded nodes classes tokens (o ∷ p ∷ os) b cs a = absurd a.1
+
+pub finished : (tokens ys : List PlacedToken) (builder : Builder) (p : Program) → ys ≡ [] → p.nodes ≡ builder.nodes → p.classes ≡ builder.classes → Reached tokens ys [] builder → IsTheFile tokens p
+finished tokens ys builder p z f g r =
+    let q : Reached tokens [] [] builder = subst (λ l. Reached tokens l [] builder) z r in
+    let w = whole_file tokens builder q in
+    let h : Holds tokens builder q.2 (Ground w.0) = subst (λ s. Holds tokens builder q.2 s) w.2 q.4 in
+    let a = grounded builder.nodes builder.classes tokens (reverse builder.unfinished.items) q.2 w.0 h in
+    record {
+      classes = w.0;
+      file = w.3;
+      only = w.4;
+      program = subst (λ l. ClassesAre l p.classes w.0) (sym f) (subst (λ l. ClassesAre builder.nodes l w.0) (sym g) a);
+    }
+
+-- the place of a token, or the size
+pub token_place : (ts : List Placed) (size n : ℕ) (d : Placed) → n < length ts → (get_or ts n d).at ≡ place_of (view_of ts) size n
+token_place [] size n d h = absurd (omega (arith, h))
+token_place (t ∷ ts) size zero d h = refl
+token_place (t ∷ ts) size (suc n) d h = token_place ts size n d (omega (arith, h))
+
+pub end_place : (ts : List Placed) (size n : ℕ) → n ≡ length (view_of ts) → size ≡ place_of (view_of ts) size n
+end_place [] size n h = refl
+end_place (t ∷ ts) size zero h = absurd (omega (arith, h))
+end_place (t ∷ ts) size (suc n) h = end_place ts size n (omega (arith, h))
+
+pub is_rule : (f : Fixed) → ((k : TokenClass) (e : Effect) → f ≡ F.Mark k e → ⊥) → ((a : Action) → f ≡ F.Act a → ⊥) → IsRule (fixed_view f)
+is_rule (F.Mark k e) g h = absurd (g k e refl)
+is_rule (F.Sub r) g h = tt
+is_rule F.ClassName g h = tt
+is_rule (F.FirstParam m) g h = tt
+is_rule (F.Act a) g h = absurd (h a refl)
+
+-- what the code asks of a token
+pub admits_some : (g : List TokenClass) (n : Option Kind) (k : Kind) (e b : Bool) → e ≡ (length g == 0) → e ≡ false → n ≡ Some k → b ≡ list_any (λ d. class_has d k) g → b ≡ admits g n
+admits_some [] n k e b f h i j = absurd (cc)
+admits_some (c ∷ cs) n k e b f h i j = j ∙ sym (ap (λ x. admits (c ∷ cs) x) i)
+
+pub name_yes : (t : Token) (w : List ℕ) (b : Bool) → t ≡ Token.Word w → b ≡ class_has C.Name (kind_of t) → b ≡ true → (t ≡ Token.Word w) × (is_name w ≡ true)
+name_yes t w b e f g = (e, subst (λ v. is_name v ≡ true) (ap written e) (accepts C.Name t (sym f ∙ g)).1)
+
+pub name_no : (t : Token) (w : List ℕ) (b : Bool) → b ≡ class_has C.Name (kind_of t) → b ≡ false → (t ≡ Token.Word w) × (is_name w ≡ true) → ⊥
+name_no t w b f g h =
+    let i : w ≡ written t = sym (ap written h.0) in
+    clash (accepted C.Name t (h.0 ∙ ap (λ v. Token.Word v) i, subst (λ v. is_name v ≡ true) i h.1)) (sym f ∙ g)
+
+pub taken_token : (s : Settled) (k : TokenClass) (e : Effect) (t : Token) (j : Kind) (b : Bool) → s ≡ T.Token k e → b ≡ class_has k j → j ≡ kind_of t → b ≡ true → IsTaken s t e
+taken_token s k e t j b f g h i = subst (λ x. IsTaken x t e) (sym f) (accepts k t (ap (λ x. class_has k x) (sym h) ∙ sym g ∙ i), refl)
+
+pub refused_token : (s : Settled) (k : TokenClass) (e : Effect) (t : Token) (j : Kind) (b : Bool) → s ≡ T.Token k e → b ≡ class_has k j → j ≡ kind_of t → b ≡ false → IsRefused s t
+refused_token s k e t j b f g h i = subst (λ x. IsRefused x t) (sym f) (λ a. clash (accepted k t a) (ap (λ x. class_has k x) (sym h) ∙ sym g ∙ i))
+
+-- the same of the tokens that the code has
+view_at : (ts : List Placed) (n : ℕ) (d : Placed) → get_or (view_of ts) n (placed_view d) ≡ placed_view (get_or ts n d)
+view_at ts n d = get_or-map placed_view ts n d
+
+view_length : (ts : List Placed) → length (view_of ts) ≡ length ts
+view_length ts = length-map ts placed_view
+
+pub start_file : (ts : List Placed) (stack : List SymbolOf) (builder : Builder) (n : ℕ) → todo stack ≡ Sub Rule.File ∷ [] → n ≡ length ts → IsBottom n builder → Reached (view_of ts) (view_of ts) (todo stack) builder
+start_file ts stack builder n e f g = start_reached (view_of ts) stack builder e (subst (λ m. IsBottom m builder) (f ∙ sym (view_length ts)) g)
+
+pub misplaced_token : (ts : List Placed) (size at : ℕ) (d : Placed) (s : Settled) (after : List Symbol) (builder : Builder) → at < length ts → IsRefused s (token_view (get_or ts at d).token) → Settles s (view_of ts) (drop at (view_of ts)) after builder → IsMisplaced (view_of ts) size (get_or ts at d).at
+misplaced_token ts size at d s after builder h never r =
+    let l : at < length (view_of ts) = (let m = view_length ts in omega (arith, h, m)) in
+    record {
+      number = at;
+      bad = bad_taken (view_of ts) at (placed_view d) s after builder l (subst (λ t. IsRefused s t.token) (sym (view_at ts at d)) never) r;
+      at = token_place ts size at d h;
+    }
+
+pub misplaced_end : (ts : List Placed) (size n : ℕ) (s : Settled) (after : List Symbol) (builder : Builder) → n ≡ length ts → (s ≡ T.Empty → ⊥) → Settles s (view_of ts) (drop n (view_of ts)) after builder → IsMisplaced (view_of ts) size size
+misplaced_end ts size n s after builder h never r =
+    let z : drop n (view_of ts) ≡ [] = ap (λ m. drop m (view_of ts)) (h ∙ sym (view_length ts)) ∙ drop-length (view_of ts) in
+    record { number = length (view_of ts); bad = bad_end (view_of ts) (drop n (view_of ts)) s after builder z never r; at = end_place ts size (length (view_of ts)) refl }
+
+pub read_token : (ts : List Placed) (at : ℕ) (d : Placed) (s : Settled) (f : Effect) (after : List Symbol) (old new : Builder) → at < length ts → IsTaken s (token_view (get_or ts at d).token) f → Takes (view_of ts) f (token_view (get_or ts at d).token) (drop at (view_of ts)) (drop (at + 1) (view_of ts)) old new
+    → Settles s (view_of ts) (drop at (view_of ts)) after old → Reached (view_of ts) (drop (at + 1) (view_of ts)) after new
+read_token ts at d s f after old new h i t r =
+    let l : at < length (view_of ts) = (let m = view_length ts in omega (arith, h, m)) in
+    let e = sym (view_at ts at d) in
+    read_on (view_of ts) at (placed_view d) s f after old new l (subst (λ u. IsTaken s u.token f) e i) (subst (λ u. Takes (view_of ts) f u.token (drop at (view_of ts)) (drop (at + 1) (view_of ts)) old new) e t) r
+
+pub finished_file : (ts : List Placed) (n : ℕ) (builder : Builder) (p : Program) → n ≡ length ts → p.nodes ≡ builder.nodes → p.classes ≡ builder.classes → Reached (view_of ts) (drop n (view_of ts)) [] builder → IsTheFile (view_of ts) p
+finished_file ts n builder p h f g r =
+    let z : drop n (view_of ts) ≡ [] = ap (λ m. drop m (view_of ts)) (h ∙ sym (view_length ts)) ∙ drop-length (view_of ts) in
+    finished (view_of ts) (drop n (view_of ts)) builder p z f g r
+
+-- a rule on top of the stack
+pub expanded_on : (tokens ys : List PlacedToken) (next : Option PlacedToken) (p : Symbol) (old rest new : List Symbol) (builder : Builder) (b : Bool) → head_of ys ≡ next → IsRule p → (IsRule p → IsExpanded p next rest new b) → b ≡ true → old ≡ p ∷ rest → Reached tokens ys old builder
+    → Reached tokens ys new builder
+expanded_on tokens ys next p old rest new builder b e i x t f r =
+    let y : IsExpanded p (head_of ys) rest new true = subst (λ n. IsExpanded p n rest new true) (sym e) (subst (λ c. IsExpanded p next rest new c) t (x i)) in
+    step_rule tokens ys p rest new builder i y (subst (λ l. Reached tokens ys l builder) f r)
+
+pub expanded_less : (next : Option PlacedToken) (p : Symbol) (old rest new : List Symbol) (b : Bool) → IsRule p → (IsRule p → IsExpanded p next rest new b) → b ≡ true → old ≡ p ∷ rest → chain new < chain old
+expanded_less next p old rest new b i x t f = rule_less p next rest old new i (subst (λ c. IsExpanded p next rest new c) t (x i)) f
+
+pub stuck_on : (tokens ys : List PlacedToken) (next : Option PlacedToken) (p : Symbol) (old rest new : List Symbol) (builder : Builder) (b : Bool) → head_of ys ≡ next → IsRule p → (IsRule p → IsExpanded p next rest new b) → b ≡ false → old ≡ p ∷ rest → Reached tokens ys old builder
+    → FirstBad tokens (length tokens - length ys)
+stuck_on tokens ys next p old rest new builder b e i x t f r =
+    let y : IsExpanded p next rest new false = subst (λ c. IsExpanded p next rest new c) t (x i) in
+    let q : Reached tokens ys (p ∷ rest) builder = subst (λ l. Reached tokens ys l builder) f r in
+    bad_place tokens ys (p ∷ rest) builder q (stuck_rule tokens ys builder p rest i (ap (λ n. choose p n) e ∙ y) q)

@@ -1,0 +1,9 @@
+pub mod Growing
+pub mod Ranks
+pub mod Options
+pub mod Extensions
+pub mod Carries
+pub mod Multiples
+pub mod Signs
+pub mod Casting
+pub mod Rows

@@ -1,0 +1,104 @@
+// Numbers as words of another width.
+ghost use Rattle.std.specs.Prelude.{◌≡◌, ◌+◌, ◌≤◌, ◌<◌, ◌^◌, length, IfOk};
+ghost use Rattle.fix_arith.specs.Types.{width_of, is_signed};
+ghost use Rattle.fix_arith.specs.Values.{value_of, reduced};
+ghost use Rattle.fix_arith.specs.Rounding.{floor_of};
+ghost use Rattle.rtl_ops.specs.Signals.{HasSignal, Makes};
+ghost use Rattle.rtl_ops.specs.Wires.{IsOpen};
+
+use crate::signal::Signal;
+use crate::wires::{concat, literal, part, repeat};
+use fix_arith::StreamType;
+use mx_base::NoMemory;
+use mx_bits::Word;
+use rtl_ir::Module;
+use std::alloc::Global;
+
+/// The type of whole numbers of this width that has negative ones where `t` has them.
+pub fn whole_type(t: StreamType, width: u8) -> StreamType
+    ensures width { width_of result ≡ width }
+    ensures signed { is_signed result ≡ is_signed t }
+{
+    if t.is_signed() {
+        StreamType::Int(width)
+    } else {
+        StreamType::UInt(width)
+    }
+}
+
+/// The bits that stand before a number, so many as the width says: all of them 1 where the number is
+/// below 0, and 0 else.
+pub fn sign_bits(
+    alloc: Global,
+    netlist: &mut Module,
+    t: StreamType,
+    a: Signal,
+    width: u8,
+) -> Result<Signal, NoMemory>
+    requires range { IsOpen netlist.old }
+    requires room { length netlist.old.nets + 2 ≤ 2 ^ 32 }
+    requires a { HasSignal netlist.old a }
+    requires a_type { a.width ≡ width_of t }
+    requires some { 1 ≤ width }
+    requires at_most { width ≤ 128 }
+    ensures { IfOk result (Makes netlist.old netlist.new 2 width
+        (λ v. reduced width (floor_of (value_of t (v a.net)) (2 ^ width_of t)))) }
+{
+    if !t.is_signed() {
+        return literal(alloc, netlist, Word::new(0, width));
+    }
+    let sign = part(alloc, netlist, a, a.width - 1, a.width - 1)?;
+    repeat(alloc, netlist, width, sign)
+}
+
+/// A number's word of this width: its low bits, or all of them with the sign before them.
+pub fn resized(
+    alloc: Global,
+    netlist: &mut Module,
+    t: StreamType,
+    a: Signal,
+    width: u8,
+) -> Result<Signal, NoMemory>
+    requires range { IsOpen netlist.old }
+    requires room { length netlist.old.nets + 3 ≤ 2 ^ 32 }
+    requires a { HasSignal netlist.old a }
+    requires a_type { a.width ≡ width_of t }
+    requires some { 1 ≤ width }
+    requires at_most { width ≤ 128 }
+    ensures { IfOk result (Makes netlist.old netlist.new 3 width
+        (λ v. reduced width (value_of t (v a.net)))) }
+{
+    if width == a.width {
+        return Ok(a);
+    }
+    if width < a.width {
+        return part(alloc, netlist, a, width - 1, 0);
+    }
+    let high = sign_bits(alloc, netlist, t, a, width - a.width)?;
+    concat(alloc, netlist, high, a)
+}
+
+/// A number over two to `bits`, rounded down, as a word of this width.
+pub fn floor(
+    alloc: Global,
+    netlist: &mut Module,
+    t: StreamType,
+    a: Signal,
+    bits: u8,
+    width: u8,
+) -> Result<Signal, NoMemory>
+    requires range { IsOpen netlist.old }
+    requires room { length netlist.old.nets + 4 ≤ 2 ^ 32 }
+    requires a { HasSignal netlist.old a }
+    requires a_type { a.width ≡ width_of t }
+    requires some { 1 ≤ width }
+    requires at_most { width ≤ 128 }
+    ensures { IfOk result (Makes netlist.old netlist.new 4 width
+        (λ v. reduced width (floor_of (value_of t (v a.net)) (2 ^ bits)))) }
+{
+    if a.width <= bits {
+        return sign_bits(alloc, netlist, t, a, width);
+    }
+    let high = part(alloc, netlist, a, a.width - 1, bits)?;
+    resized(alloc, netlist, whole_type(t, a.width - bits), high, width)
+}
