@@ -16,6 +16,7 @@ use Rattle.expression_module.specs.Values.{IsInner, Shows, AddsStep, AddsResult}
 use Rattle.expression_module.specs.Designs.{IsSound}
 use Rattle.expression_module.proofs.Operations.{shown_at, shown_more}
 
+-- a net is kept by what grows
 pub inner_kept : (m n : Module) → Grows m n → (w k : ℕ) → IsInner m w k → IsInner n w k
 inner_kept m n g w k h = record {
   net = omega (arith, h.net, ap length g.nets ∙ length-append m.nets g.more_nets);

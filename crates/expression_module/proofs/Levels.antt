@@ -75,6 +75,7 @@ no_output (p ∷ ps) k n h past =
 inner_rank : (x : Inside) (n : ℕ) → is_output the_ports n ≡ false → rank x n ≡ n
 inner_rank x n h = ap (λ b. cond b (11 + length x.wires) n) h
 
+-- the nets that are read, one by one
 each_inner : (ps : List Port) (j : ℕ) (ns : List ℕ) → AreInner ps ns → Each (λ i n. is_output ps n ≡ false) j ns
 each_inner ps j [] h = tt
 each_inner ps j (n ∷ ns) h = (h.0, each_inner ps (j + 1) ns h.1)

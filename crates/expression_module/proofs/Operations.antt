@@ -29,7 +29,7 @@ inner_of : (m : Module) (w n : ℕ) → 1 ≤ w → width_of m n ≡ w → is_ou
 inner_of m w n some width inner = record { net = within m.nets n (omega arith); width = width; inner = inner }
 
 -- the wire of the gate
-pub gate_added : (old new : Module) (n : ℕ) → IsFragment old new Not Truncate (UInt 1 ∷ []) (2 ∷ []) 0 (UInt 1) n → AddsGate old new n
+gate_added : (old new : Module) (n : ℕ) → IsFragment old new Not Truncate (UInt 1 ∷ []) (2 ∷ []) 0 (UInt 1) n → AddsGate old new n
 gate_added old new n f = record {
   adds = f.adds;
   is_open = f.range;
