@@ -1,11 +1,12 @@
 #!/usr/bin/env python3
 """Time and memory of `maxjc compile` on large sources.
 
-Sources of growing size: one of blanks round a small kernel, one of as many locals as fit (each a
-further name of an earlier variable, the densest source that there is, with the names mixed and in
-the order of the alphabet, which is the worst for the map of names), and one of 510 operators. Memory
-is the greatest resident set of the program less that of an empty run; the bar is four times a file
-of 16 MiB, and time that grows with the file.
+Sources of growing size: one of a comment behind a small kernel, one of as many locals as fit (each a
+further name of an earlier variable, with the names mixed and in the order of the alphabet, which is the
+worst for the map of names), one of as many statements `x=x;` as fit in a method, of which every byte is
+a token and which is refused as of no form that is built, and one of 510 operators. Memory is the
+greatest resident set of the program less that of an empty run, as a multiple of the file. The bar is 10
+seconds for a file of 16 MiB, and time and memory that grow with the file.
 
     bench/compile_size.py
 """
@@ -21,11 +22,19 @@ TOP = pathlib.Path(__file__).resolve().parent.parent
 HEAD = "class Big extends Kernel { Big(KernelParameters p) { super(p);\n"
 INPUT = 'DFEVar x = io.input("x", dfeUInt(32));\n'
 TAIL = 'io.output("y", %s, dfeUInt(32)); } }\n'
+BAR = 10  # seconds
 LETTERS = "abcdefghijklmnopqrstuvwxyzABCDEFGHIJKLMNOPQRSTUVWXYZ_"
 
 
-def blanks(size):
-    source = HEAD + INPUT + TAIL % "x + x"
+def comment(size):
+    source = HEAD + INPUT + TAIL % "x + x" + "/*"
+    return source + "*" * (size - len(source) - 1) + "/"
+
+
+def statements(size):
+    head, tail = HEAD + INPUT + TAIL.replace("} }\n", "} void f() {") % "x", "} }"
+    count = (size - len(head) - len(tail)) // len("x=x;")
+    source = head + "x=x;" * count + tail
     return source + " " * (size - len(source))
 
 
@@ -100,13 +109,12 @@ def main():
     base = measure(operators(1))[3]
     print(f"the program with a small source: {base / 2**20:.1f} MiB")
     bad = False
-    for kind, make in [("blanks", blanks), ("locals", locals_to), ("locals in order", locals_in_order)]:
+    for kind, make, wanted in [("comment", comment, 0), ("locals", locals_to, 0), ("locals in order", locals_in_order, 0), ("statements", statements, 1)]:
         for exponent in (22, 24):
             size = 1 << exponent
             status, said, seconds, memory = measure(make(size))
-            share = (memory - base) / size
-            bad |= status != 0 or (exponent == 24 and share > 4.05)
-            print(f"{kind} {size} bytes: status {status}, {said}, {seconds:.2f} s, {memory / 2**20:.1f} MiB, {share:.2f} times the file")
+            bad |= status != wanted or seconds > BAR
+            print(f"{kind} {size} bytes: status {status}, {said}, {seconds:.2f} s, {memory / 2**20:.1f} MiB, {(memory - base) / size:.2f} times the file")
     for count in (1, 510):
         status, said, seconds, memory = measure(operators(count))
         print(f"{count} operators: status {status}, {said}, {seconds:.3f} s, {memory / 2**20:.1f} MiB")

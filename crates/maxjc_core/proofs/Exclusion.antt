@@ -2,9 +2,13 @@
 use Rattle.std.proofs.Common.{◌≡◌, ◌<◌, ℕ, List, Some, None, length, arith, refl, subst}
 use Rattle.std.specs.Prelude.{IsSome}
 use Rattle.mx_base.specs.Files.{Held, Name, Holds}
+use Rattle.maxj_syntax.specs.Tree.{ClassTree}
+use Rattle.maxj_syntax.specs.Source.{IsSourceOf, Fault, HasFirst}
+use Rattle.maxj_syntax.proofs.Sources.{one_source, no_fault}
+use Rattle.expression_source.specs.Source.{Source, IsSource}
 use Rattle.maxjc_core.specs.Command.{Names}
 use Rattle.maxjc_core.specs.Lines.{Cause}
-use Rattle.maxjc_core.specs.Causes.{file_limit, IsWithin, IsPast, Stands, IsBuilt, IsOfNoForm}
+use Rattle.maxjc_core.specs.Causes.{file_limit, IsWithin, IsPast, Stands, IsBuilt, IsOfSource}
 use Rattle.maxjc_core.specs.Stops.{IsCompiled}
 
 -- a file that is held is told
@@ -25,15 +29,19 @@ not_past held name bytes past within =
 pub excluded : (names : Names) (held : Held) (cause : Cause) → Stands names held cause → IsBuilt names held → ⊥
 excluded names held cause (Stands.source_too_large past) built = not_past held names.source _ past built.files.source_is
 excluded names held cause (Stands.table_too_large after) built = not_past held names.table _ after.then_table built.files.table_is
-excluded names held cause (Stands.not_built files none) built =
+excluded names held _ (Stands.of_source files _ (IsOfSource.no_form none)) built =
     let same = same_bytes held names.source files.source built.files.source files.source_is.holds built.files.source_is.holds in
-    subst IsOfNoForm same none built.kernel built.is
+    let classes : none.classes ≡ built.classes = one_source built.files.source none.classes built.classes (subst (λ (b : List ℕ). IsSourceOf b none.classes) same none.is) built.is_source in
+    subst (λ (cs : List ClassTree). (s : Source) → IsSource cs s → ⊥) classes none.no_form built.kernel built.is
+excluded names held _ (Stands.of_source files _ (IsOfSource.fault fault first)) built =
+    let same = same_bytes held names.source files.source built.files.source files.source_is.holds built.files.source_is.holds in
+    no_fault built.files.source built.classes fault built.is_source (subst (λ (b : List ℕ). HasFirst b fault) same first)
 
 -- where a cause stands the source is held
 pub told_from_cause : (names : Names) (held : Held) (cause : Cause) → Stands names held cause → IsSome held
 told_from_cause names held cause (Stands.source_too_large past) = told held names.source past.bytes past.holds
 told_from_cause names held cause (Stands.table_too_large after) = told held names.source after.source after.source_is.holds
-told_from_cause names held cause (Stands.not_built files none) = told held names.source files.source files.source_is.holds
+told_from_cause names held _ (Stands.of_source files cause is) = told held names.source files.source files.source_is.holds
 
 pub built_from_compiled : (names : Names) (held : Held) (text line : List ℕ) → IsCompiled names held text line → IsBuilt names held
-built_from_compiled names held text line c = record { files = c.files; kernel = c.compiles.kernel; is = c.compiles.is }
+built_from_compiled names held text line c = record { files = c.files; classes = c.compiles.classes; is_source = c.compiles.is_source; kernel = c.compiles.kernel; is = c.compiles.is }

@@ -8,4 +8,5 @@ pub mod RunClauses
 pub mod OneCommand
 pub mod Sources
 pub mod Exclusion
-pub mod Summing
+pub mod Answering
+pub mod Writing

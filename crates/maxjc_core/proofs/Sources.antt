@@ -1,18 +1,20 @@
 -- From a source to what is made of it.
 use Rattle.std.proofs.Common.{◌≡◌, ℕ, ◌≤◌, List, [], ◌∷◌, ◌++◌, length, refl, sym, ap, subst, ◌∙◌}
-use Rattle.std.specs.Prelude.{Bool, true, false, ◌&&◌, ◌||◌, codes}
+use Rattle.std.specs.Prelude.{Option, Bool, true, false, ◌&&◌, ◌||◌, codes}
 use Rattle.std.specs.List.{list_all}
 use mathlib.Core.Path.{fun_ext}
 use Rattle.grammar.specs.Bytes.{is_letter, is_digit}
 use Rattle.rtl_ir.specs.Ports as ports
 use Rattle.rtl_ir.specs.Ports.{Shape}
-use Rattle.sum_source.specs.Tokens.{is_plain_name, is_name_start, is_name_byte, is_word}
-use Rattle.sum_source.specs.Source.{Source, output_of}
-use Rattle.sum_source.specs.Steps.{result_of}
-use Rattle.sum_source.specs.Projects.{Says, IsProject}
-use Rattle.sum_source.specs.declared.project.Project.{Project}
-use Rattle.sum_module.specs.Straight.{shape_of}
-use Rattle.sum_module.specs.Designs.{IsSound, IsStraightForm}
+use Rattle.maxj_syntax.specs.Tree.{ClassTree}
+use Rattle.maxj_syntax.specs.Source.{IsSourceOf}
+use Rattle.maxj_syntax.specs.Tokens.{is_name_start, is_name_byte, is_word}
+use Rattle.expression_source.specs.Names.{is_plain_name}
+use Rattle.expression_source.specs.Source.{Source, output_of}
+use Rattle.expression_source.specs.Steps.{result_of}
+use Rattle.expression_source.specs.Projects.{Says, IsProject}
+use Rattle.expression_source.specs.declared.project.Project.{Project}
+use Rattle.expression_module.specs.Designs.{shape_of, IsSound, IsStraightForm}
 use Rattle.maxjc_core.specs.Compiling.{kernel_shape, operators_in, Compiles}
 use Rattle.maxjc_core.specs.Emitting.{Emits}
 use Rattle.maxjc_core.specs.declared.compile.Compiled.{Compiled}
@@ -40,8 +42,8 @@ plain (b ∷ bs) h =
     let rest = (both (is_name_start b) (list_all is_name_byte bs) word).1 in
     rw (letter, named_bytes bs rest) refl
 
-pub sound : (bytes : List ℕ) (p : Project) → IsProject bytes p → IsSound p
-sound bytes p is =
+pub sound : (classes : List ClassTree) (p : Project) → IsProject classes p → IsSound p
+sound classes p is =
     let s = is.source in
     let says = is.says in
     let allowed = is.is.allowed in
@@ -49,9 +51,10 @@ sound bytes p is =
       name = subst (λ n. ports.is_plain_name n ≡ true) (sym says.name) (plain s.name allowed.name.0);
       input = subst (λ n. ports.is_plain_name n ≡ true) (sym says.input) (plain s.input allowed.input.0);
       output = subst (λ n. ports.is_plain_name n ≡ true) (sym says.output) (plain s.output allowed.output.0);
-      some = subst (λ n. 1 ≤ n) (sym says.width) allowed.some;
-      narrow = subst (λ n. n ≤ 128) (sym says.width) allowed.narrow;
+      some = subst (λ n. 1 ≤ n) (sym says.width) allowed.width.some;
+      narrow = subst (λ n. n ≤ 128) (sym says.width) allowed.width.narrow;
       order = says.order;
+      arithmetic = says.arithmetic;
       few = subst (λ n. n ≤ 510) (sym says.operators) allowed.few;
       within = says.within;
     }
@@ -59,12 +62,14 @@ sound bytes p is =
 same_shape : (s : Source) (p : Project) → Says s p → shape_of p ≡ kernel_shape s
 same_shape s p says = rw (says.name, says.input, says.output, says.width) refl
 
-pub compiles : (bytes : List ℕ) (p : Project) (c : Compiled) → IsProject bytes p → Emits p c → Compiles bytes c.text.items c.summary.items
-compiles bytes p c is emits =
+pub compiles : (bytes : List ℕ) (classes : List ClassTree) (p : Project) (c : Compiled) → IsSourceOf bytes classes → IsProject classes p → Emits p c → Compiles bytes c.text.items c.summary.items
+compiles bytes classes p c is_source is emits =
     let s = is.source in
     let says = is.says in
     let f : result_of p.width p.steps p.result ≡ output_of s = fun_ext says.value in
     record {
+      classes = classes;
+      is_source = is_source;
       kernel = s;
       is = is.is;
       design = emits.design;
@@ -73,6 +78,6 @@ compiles bytes p c is emits =
       straight =
           subst (λ (shape : Shape). IsStraightForm shape (operators_in s) (output_of s) emits.design) (same_shape s p says)
           (subst (λ (n : ℕ). IsStraightForm (shape_of p) n (output_of s) emits.design) says.operators
-          (subst (λ (g : ℕ → ℕ). IsStraightForm (shape_of p) (length p.steps) g emits.design) f emits.is));
+          (subst (λ (g : ℕ → Option ℕ). IsStraightForm (shape_of p) (length p.steps) g emits.design) f emits.is));
       summary = emits.line ∙ ap (λ n. codes "kernel " ++ n ++ codes " fifo 0\n") says.name;
     }

@@ -1,9 +1,11 @@
 -- Why `compile` refuses a project, by what its files hold.
 use Rattle.std.specs.Prelude.{ℕ, ◌⊎◌, ◌≤◌, ◌<◌, List, length}
 use Rattle.mx_base.specs.Files.{Held, Holds, Lacks}
-use Rattle.sum_source.specs.Source.{Source, IsSource}
+use Rattle.maxj_syntax.specs.Source.{IsSourceOf, Fault, HasFirst}
+use Rattle.maxj_syntax.specs.Tree.{ClassTree}
+use Rattle.expression_source.specs.Source.{Source, IsSource}
 use Rattle.maxjc_core.specs.Command.{Name, Names}
-use Rattle.maxjc_core.specs.Lines.{Cause, TooLarge, NotBuilt}
+use Rattle.maxjc_core.specs.Lines.{Cause, TooLarge, SourceFault, NotBuilt}
 
 -- the most bytes of a file that is read whole: 2 ^ 24
 abbrev pub file_limit : ℕ
@@ -20,11 +22,18 @@ pub record IsPast (limit : ℕ) (held : Held) (name : Name) : Type 0 where
   pub holds : Holds held name bytes
   pub past : limit < length bytes
 
--- the bytes are of no form that is built
-abbrev pub IsOfNoForm : List ℕ → Type 0
-IsOfNoForm bytes = (s : Source) → IsSource bytes s → ⊥
+-- the bytes are a source, and it is of no form that is built
+pub record IsOfNoForm (bytes : List ℕ) : Type 0 where
+  pub classes : List ClassTree
+  pub is : IsSourceOf bytes classes
+  pub no_form : (s : Source) → IsSource classes s → ⊥
 
--- the table is read after a source within the limit, and the form is looked for after both
+-- the cause for which the bytes of a source are refused: their first fault, or that they are of no form that is built
+pub data IsOfSource (bytes : List ℕ) : Cause → Type 0 where
+  fault : (fault : Fault) → HasFirst bytes fault → IsOfSource bytes (SourceFault fault)
+  no_form : IsOfNoForm bytes → IsOfSource bytes NotBuilt
+
+-- the table is read after a source within the limit, and the source is looked at after both
 pub record IsReadable (names : Names) (held : Held) : Type 0 where
   pub source : List ℕ
   pub source_is : IsWithin file_limit held names.source source
@@ -41,7 +50,7 @@ pub record AfterSource (names : Names) (held : Held) (P : Type 0) : Type 0 where
 pub data Stands (names : Names) (held : Held) : Cause → Type 0 where
   source_too_large : IsPast file_limit held names.source → Stands names held (TooLarge names.source)
   table_too_large : AfterSource names held (IsPast file_limit held names.table) → Stands names held (TooLarge names.table)
-  not_built : (files : IsReadable names held) → IsOfNoForm files.source → Stands names held NotBuilt
+  of_source : (files : IsReadable names held) (cause : Cause) → IsOfSource files.source cause → Stands names held cause
 
 -- a file that is to be read isn't held
 abbrev pub IsMissing : Names → Held → Type 0
@@ -50,5 +59,7 @@ IsMissing names held = Lacks held names.source ⊎ AfterSource names held (Lacks
 -- a project that is compiled: its files are held and within the limit, and the source is of the form that is built
 pub record IsBuilt (names : Names) (held : Held) : Type 0 where
   pub files : IsReadable names held
+  pub classes : List ClassTree
+  pub is_source : IsSourceOf files.source classes
   pub kernel : Source
-  pub is : IsSource files.source kernel
+  pub is : IsSource classes kernel

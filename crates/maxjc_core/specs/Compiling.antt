@@ -5,10 +5,12 @@ use Rattle.rtl_ir.specs.declared.design.Design.{Design}
 use Rattle.rtl_ir.specs.Ports.{Shape}
 use Rattle.rtl_text.specs.Text.{TextOf}
 use Rattle.rtl_reading.specs.Reads.{ReadsAs}
-use Rattle.sum_source.specs.Source.{Source, IsSource, Local, operators_of, output_of}
-use Rattle.sum_module.specs.Designs.{IsStraightForm}
+use Rattle.maxj_syntax.specs.Source.{IsSourceOf}
+use Rattle.maxj_syntax.specs.Tree.{ClassTree}
+use Rattle.expression_source.specs.Source.{Source, IsSource, Local, operators_of, output_of}
+use Rattle.expression_module.specs.Designs.{IsStraightForm}
 
--- the ports that the text of a kernel of sums has
+-- the ports that the text of a kernel has
 abbrev pub kernel_shape : Source → Shape
 kernel_shape s = record {
   kernels = s.name ∷ [];
@@ -17,19 +19,21 @@ kernel_shape s = record {
   outputs = (s.output, decimal s.digits) ∷ [];
 }
 
--- how many `+` and `-` a source has
+-- how many operators a source has
 abbrev pub operators_in : Source → ℕ
-operators_in s = sum_by (λ (l : Local). operators_of l.sum) s.locals + operators_of s.result
+operators_in s = sum_by (λ (l : Local). operators_of l.value) s.locals + operators_of s.result
 
 -- the summary: `kernel NAME fifo 0`
 abbrev pub summary_of : Source → List ℕ
 summary_of s = codes "kernel " ++ s.name ++ codes " fifo 0\n"
 
 -- The bytes of a source, the text made of them, and the line said: the text is a text of a design of the straight form of
--- that kernel, reading it gives that design back, and every run of this design agrees with a prefix of the sums.
+-- that kernel, reading it gives that design back, and every run of this design agrees with a prefix of the kernel's words.
 pub record Compiles (source text line : List ℕ) : Type 0 where
+  pub classes : List ClassTree
+  pub is_source : IsSourceOf source classes
   pub kernel : Source
-  pub is : IsSource source kernel
+  pub is : IsSource classes kernel
   pub design : Design
   pub text_of : TextOf text design
   pub reads : ReadsAs text design

@@ -3,8 +3,8 @@ use Rattle.std.specs.Prelude.{◌≡◌, ◌++◌, codes}
 use Rattle.rtl_ir.specs.declared.design.Design.{Design}
 use Rattle.rtl_text.specs.Text.{TextOf}
 use Rattle.rtl_reading.specs.Reads.{ReadsAs}
-use Rattle.sum_source.specs.declared.project.Project.{Project}
-use Rattle.sum_module.specs.Designs.{IsDesignOf}
+use Rattle.expression_source.specs.declared.project.Project.{Project}
+use Rattle.expression_module.specs.Designs.{IsDesignOf}
 use Rattle.maxjc_core.specs.declared.compile.Compiled.{Compiled}
 
 -- the text is one of a design of the project, which reading it gives back, and the summary names the kernel

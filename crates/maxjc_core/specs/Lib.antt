@@ -13,4 +13,4 @@ pub mod RunCauses
 pub mod RunEnds
 pub mod LoadStops
 pub mod RunStops
-pub mod Summing
+pub mod Writing

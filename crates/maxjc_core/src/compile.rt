@@ -1,23 +1,25 @@
 // Reads a project and compiles it. No file is changed here.
-ghost use Rattle.std.specs.Prelude.{◌≡◌, ◌≤◌, ◌<◌, ◌⊎◌, ◌++◌, ◌∷◌, List, ℕ, Err, IfOk, IfErr, IfSome, IfNone, length, codes, OnOk};
+ghost use Rattle.std.specs.Prelude.{◌≡◌, ◌≤◌, ◌<◌, ◌^◌, ◌⊎◌, ◌++◌, ◌∷◌, List, ℕ, Err, IfOk, IfErr, IfSome, IfNone, length, codes, OnOk};
 ghost use Rattle.mx_base.specs.Counts.{Rose};
 ghost use Rattle.mx_base.specs.Files.{Holds, Lacks};
-ghost use Rattle.maxjc_core.specs.Causes.{file_limit, IsMissing, IsOfNoForm};
+ghost use Rattle.maxjc_core.specs.Causes.{file_limit, IsMissing, IsOfSource};
 ghost use Rattle.maxjc_core.specs.Lines.{TooLarge};
 ghost use Rattle.maxjc_core.specs.Compiling.{Compiles};
 ghost use Rattle.maxjc_core.specs.Stops.{IfRefused, Answers};
 ghost use Rattle.maxjc_core.specs.Named.{names_told};
 ghost use Rattle.maxjc_core.specs.Emitting.{Emits};
-ghost use Rattle.sum_module.specs.Designs.{IsSound};
+ghost use Rattle.expression_module.specs.Designs.{IsSound};
+ghost use Rattle.maxj_syntax.specs.Outcomes.{FailsToRead};
 
 use crate::command::Compile;
 use crate::files::{FILE_LIMIT, read_file};
 use crate::refusal::Refusal;
 use crate::stop::Stop;
+use expression_module::kernel_design;
+use expression_source::{Project, read_kernel};
+use maxj_syntax::{SourceError, parse};
 use mx_base::{Files, NoMemory, Text};
 use std::alloc::Global;
-use sum_module::sum_design;
-use sum_source::{Project, read_sum};
 use verilog_print::print;
 
 /// The text of a project, and the line that sums it up.
@@ -43,20 +45,41 @@ fn emit(alloc: Global, project: &Project) -> Result<Compiled, NoMemory>
     ensures { IfOk result (λ c. Emits project.now c) }
 {
     let summary = summary_of(alloc, project)?;
-    let design = sum_design(alloc, project)?;
+    let design = kernel_design(alloc, project)?;
     let mut text = Vec::new(alloc);
     print(alloc, &design, &mut text)?;
     Ok(Compiled { text, summary })
 }
 
-// What is made of the bytes of a source, if they are of the form that is built.
-fn build(alloc: Global, source: &[u8]) -> Result<Option<Compiled>, NoMemory>
-    ensures some { IfOk result (λ built. IfSome built (λ c. Compiles source.now c.text.items c.summary.items)) }
-    ensures none { IfOk result (λ built. IfNone built (IsOfNoForm source.now)) }
+// The refusal of a source by its first fault.
+fn refused<'a>(error: SourceError) -> Stop<'a>
+    ensures cause { (bytes : List ℕ) → FailsToRead bytes error → IfRefused result (IsOfSource bytes) }
+    ensures no_read { result ≡ Stop.ReadFault → ⊥ }
 {
-    match read_sum(alloc, source)? {
-        Some(project) => Ok(Some(emit(alloc, &project)?)),
-        None => Ok(None),
+    match error {
+        SourceError::StrayByte(place) => Stop::Refused(Refusal::StrayByte(place)),
+        SourceError::NoToken(place) => Stop::Refused(Refusal::NoSourceToken(place)),
+        SourceError::Misplaced(place) => Stop::Refused(Refusal::Misplaced(place)),
+        SourceError::Outside(place) => Stop::Refused(Refusal::OutOfProfile(place)),
+        SourceError::Excess(place) => Stop::Refused(Refusal::TooDeep(place)),
+        SourceError::NoProject => Stop::Refused(Refusal::NoProject),
+        SourceError::NoMemory => Stop::NoMemory,
+    }
+}
+
+// What is made of the bytes of a source, or why they are refused.
+fn build<'a>(alloc: Global, source: &[u8]) -> Result<Compiled, Stop<'a>>
+    requires { length source.now < 2 ^ 32 }
+    ensures made { IfOk result (λ c. Compiles source.now c.text.items c.summary.items) }
+    ensures refused { IfErr result (λ stop. IfRefused stop (IsOfSource source.now)) }
+    ensures no_read { result ≡ Err Stop.ReadFault → ⊥ }
+{
+    match parse(alloc, source) {
+        Ok(program) => match read_kernel(alloc, &program)? {
+            Some(project) => Ok(emit(alloc, &project)?),
+            None => Err(Stop::Refused(Refusal::NotBuilt)),
+        },
+        Err(error) => Err(refused(error)),
     }
 }
 
@@ -97,11 +120,7 @@ pub fn compile<'a, F: Files>(
 {
     match read_file(alloc, files, names.source, FILE_LIMIT) {
         Ok(source) => match skip_table(alloc, files, names.table) {
-            Ok(()) => match build(alloc, source.as_slice()) {
-                Ok(Some(compiled)) => Ok(compiled),
-                Ok(None) => Err(Stop::Refused(Refusal::NotBuilt)),
-                Err(_) => Err(Stop::NoMemory),
-            },
+            Ok(()) => build(alloc, source.as_slice()),
             Err(stop) => Err(stop),
         },
         Err(stop) => Err(stop),

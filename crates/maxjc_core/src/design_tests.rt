@@ -1,21 +1,22 @@
 // The design of a kernel: it keeps the rules, and it is simulated.
 ghost use Rattle.std.specs.Prelude.{IfOk};
-ghost use Rattle.sum_module.specs.Designs.{IsSound};
+ghost use Rattle.expression_module.specs.Designs.{IsSound};
 
+use expression_module::kernel_design;
+use expression_source::{Project, Step};
 use mx_base::{List, NoMemory, Text};
+use mx_bits::Op;
 use rtl_check::check;
 use std::alloc::Global;
 use std::test::Fail;
-use sum_module::sum_design;
-use sum_source::{Project, Step};
 use verilog_sim::Sim;
 
 // The kernel of 8 bits whose output is `x + x`.
 fn double(alloc: Global) -> Result<Project, NoMemory>
     ensures { IfOk result (λ p. IsSound p) }
 {
-    let twice = Step {
-        minus: false,
+    let twice = Step::Joined {
+        op: Op::Add,
         left: 0,
         right: 0,
     };
@@ -32,7 +33,7 @@ fn double(alloc: Global) -> Result<Project, NoMemory>
 #[test]
 fn a_design_is_accepted_and_simulated(rt: HostRuntime) -> Result<(), Fail> {
     let alloc = rt.alloc();
-    let design = sum_design(alloc, &double(alloc)?)?;
+    let design = kernel_design(alloc, &double(alloc)?)?;
     assert!(rt; check(alloc, &design).is_ok());
     let mut simulated = false;
     if let Ok(mut sim) = Sim::new(alloc, &design, 0) {

@@ -8,7 +8,19 @@ use rtl_ir::RtlError;
 pub enum Refusal<'a> {
     /// F1: this file has more bytes than its limit.
     TooLarge(&'a Text),
-    /// N0: the source or text is of no form that is built.
+    /// S1: a byte at this place stands in no source outside comments.
+    StrayByte(u32),
+    /// S2: no token begins at this place of the source.
+    NoSourceToken(u32),
+    /// S3: no source has the token at this place after those before it.
+    Misplaced(u32),
+    /// S4: the token at this place is out of profile.
+    OutOfProfile(u32),
+    /// S5: the token at this place stands too deep or too far.
+    TooDeep(u32),
+    /// S6: the classes are no project.
+    NoProject,
+    /// N0: the source is of no form that is built.
     NotBuilt,
     /// V1: no token begins at this place of the text.
     NoToken(u32),

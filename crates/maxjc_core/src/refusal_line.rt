@@ -101,6 +101,12 @@ pub fn refusal_line(alloc: Global, refusal: &Refusal<'_>) -> Result<Vec<u8>, NoM
 {
     match refusal {
         Refusal::TooLarge(name) => name_line(alloc, b"refused F1 ", name),
+        Refusal::StrayByte(place) => number_line(alloc, b"refused S1 ", *place as u64, b"\n"),
+        Refusal::NoSourceToken(place) => number_line(alloc, b"refused S2 ", *place as u64, b"\n"),
+        Refusal::Misplaced(place) => number_line(alloc, b"refused S3 ", *place as u64, b"\n"),
+        Refusal::OutOfProfile(place) => number_line(alloc, b"refused S4 ", *place as u64, b"\n"),
+        Refusal::TooDeep(place) => number_line(alloc, b"refused S5 ", *place as u64, b"\n"),
+        Refusal::NoProject => Ok(b"refused S6\n".to_vec(alloc)?),
         Refusal::NotBuilt => Ok(b"refused N0\n".to_vec(alloc)?),
         Refusal::NoToken(place) => number_line(alloc, b"refused V1 ", *place as u64, b"\n"),
         Refusal::Syntax(place) => number_line(alloc, b"refused V2 ", *place as u64, b"\n"),

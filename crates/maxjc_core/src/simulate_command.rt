@@ -13,7 +13,7 @@ ghost use Rattle.maxjc_core.specs.RunEnds.{IsRunDone, IsRunLimited, IsRunRefused
 ghost use Rattle.maxjc_core.specs.RunStops.{end_status, end_line, stop_status, stop_cause};
 ghost use Rattle.simulation.specs.declared.stop.Stop.TheVariants as stops;
 ghost use Rattle.maxjc_core.specs.Named.{run_told};
-ghost use Rattle.maxjc_core.specs.Summing.{WritesAllSums};
+ghost use Rattle.maxjc_core.specs.Writing.{WritesAllWords};
 ghost use Rattle.maxjc_core.specs.Ends.{IsQuiet, IsSilent, IsCutOff, WriteFailed};
 
 use crate::Status;
@@ -96,9 +96,9 @@ pub fn run_simulate<F: Files, S: Say, G: Fn(u64, u64, u32) -> bool>(
     ensures ends_limited { (l : IsLoaded (run_told names.entry) (F.held files.old)) → IsSmall l → (restart : Families) (vs : List Families) (edges : ℕ)
         → Ends (G.post stalls.now.test) (setup l) restart vs (ends.Limit edges) → (result ≡ Status.EdgeLimit) ⊎ IsCutOff result }
 
-    // Of a text that `compile` wrote the output holds the kernel's sums of the words that were taken.
-    ensures sums_done { result ≡ Status.Done → IsSome (F.held files.old) → WritesAllSums (run_told names.entry) (F.held files.old) (F.held files.new) }
-    ensures sums_limited { result ≡ Status.EdgeLimit → IsSome (F.held files.old) → WritesAllSums (run_told names.entry) (F.held files.old) (F.held files.new) }
+    // Of a text that `compile` wrote the output holds words that agree with what the kernel says of those that were taken.
+    ensures words_done { result ≡ Status.Done → IsSome (F.held files.old) → WritesAllWords (run_told names.entry) (F.held files.old) (F.held files.new) }
+    ensures words_limited { result ≡ Status.EdgeLimit → IsSome (F.held files.old) → WritesAllWords (run_told names.entry) (F.held files.old) (F.held files.new) }
 
     // `Refused` comes exactly where a cause stands, unless a call fails or memory is short.
     ensures refused { result ≡ Status.Refused → IsRunRefused (G.post stalls.now.test) (run_told names.entry) (F.held files.old) (S.said say.old) (S.said say.new) }

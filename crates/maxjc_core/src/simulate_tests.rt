@@ -245,6 +245,28 @@ const SOURCE: &[u8] = b"class Double extends Kernel {
 }
 ";
 
+const SQUARE: &[u8] = b"class Double extends Kernel {
+  Double(KernelParameters p) {
+    super(p);
+    DFEVar x = io.input(\"x\", dfeUInt(128));
+    io.output(\"y\", x * x, dfeUInt(128)); // modulo 2^128
+  }
+}
+";
+
+const LOGIC: &[u8] = b"import a.b.*;
+public class Double extends Kernel {
+  Double(final KernelParameters p) {
+    super(p);
+    final DFEVar x = io.input(\"x\", dfeUInt(8));
+    DFEVar one = x / x; /* where x isn't 0 */
+    DFEVar three = one + one + one;
+    DFEVar half = three * x / (one + one);
+    io.output(\"y\", (half & ~x | one) ^ x, dfeUInt(8));
+  }
+}
+";
+
 fn compile_words(alloc: Global) -> Result<Vec<Text>, Fail> {
     let mut words = Vec::new(alloc);
     for word in [
@@ -259,15 +281,19 @@ fn compile_words(alloc: Global) -> Result<Vec<Text>, Fail> {
     Ok(words)
 }
 
-// The text that is compiled is simulated under the program's pattern.
-#[test]
-fn a_compiled_text_is_simulated(rt: HostRuntime) -> Result<(), Fail> {
-    let alloc = rt.alloc();
+// The words that a source gives, compiled and simulated under the program's pattern.
+fn expect_words(
+    rt: &impl Abort,
+    alloc: Global,
+    source: &[u8],
+    x: &[u8],
+    y: &[u8],
+) -> Result<(), Fail> {
     let mut files = MemFiles::new(alloc, Vec::new(alloc))?;
-    files.put(&text(alloc, b"source")?, SOURCE)?;
+    files.put(&text(alloc, b"source")?, source)?;
     files.put(&text(alloc, b"table")?, b"{}")?;
     files.put(&text(alloc, b"run")?, STALLED)?;
-    files.put(&text(alloc, b"x.txt")?, b"01\n02\n03\n")?;
+    files.put(&text(alloc, b"x.txt")?, x)?;
     let mut say = MemSay::new(alloc, Vec::new(alloc))?;
     let ended = run(alloc, &compile_words(alloc)?, &mut files, &mut say);
     assert_eq!(rt; ended, Status::Done);
@@ -277,7 +303,27 @@ fn a_compiled_text_is_simulated(rt: HostRuntime) -> Result<(), Fail> {
         say.bytes(),
         b"kernel Double fifo 0\nnot done after 1000 edges\n".as_slice()
     );
-    let y = read_whole(alloc, &mut files, &text(alloc, b"y.txt")?, 100)?;
-    assert_eq!(rt; y.as_slice(), b"02\n04\n06\n".as_slice());
+    let left = read_whole(alloc, &mut files, &text(alloc, b"y.txt")?, 100)?;
+    assert_eq!(rt; left.as_slice(), y);
+    Ok(())
+}
+
+#[test]
+fn compiled_texts_are_simulated(rt: HostRuntime) -> Result<(), Fail> {
+    for (source, x, y) in [
+        (
+            SOURCE,
+            b"01\n02\n03\n".as_slice(),
+            b"02\n04\n06\n".as_slice(),
+        ),
+        (
+            SQUARE,
+            b"ffffffffffffffffffffffffffffffff\n",
+            b"00000000000000000000000000000001\n",
+        ),
+        (LOGIC, b"10\n7f\n80\n", b"19\n7e\nc1\n"),
+    ] {
+        expect_words(&rt, rt.alloc(), source, x, y)?;
+    }
     Ok(())
 }

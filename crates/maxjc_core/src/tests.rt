@@ -26,13 +26,13 @@ output wire [7:0] out$y$data,
 output wire [0:0] out$y$valid,
 input wire [0:0] out$y$ready,
 output wire [0:0] done);
-wire [0:0] w0;
-wire [7:0] w1;
-assign w0 = ~hold$Double;
-assign w1 = in$x$data + in$x$data;
-assign out$y$data = w1;
-assign out$y$valid = in$x$valid & w0;
-assign in$x$ready = out$y$ready & w0;
+wire [0:0] w11;
+wire [7:0] w12;
+assign w11 = ~hold$Double;
+assign w12 = in$x$data + in$x$data;
+assign out$y$data = w12;
+assign out$y$valid = in$x$valid & w11;
+assign in$x$ready = out$y$ready & w11;
 assign done = 1'h0;
 endmodule
 ";
@@ -44,6 +44,10 @@ const OFFSETS: &[u8] = b"class Sum3 extends Kernel {
     io.output(\"y\", stream.offset(x, -1) + x + stream.offset(x, 1), dfeUInt(32));
   }
 }
+";
+
+const TWO_CLASSES: &[u8] = b"class A extends Kernel { A(KernelParameters p) { super(p); } }
+class B extends Kernel { B(KernelParameters p) { super(p); } }
 ";
 
 const USAGE: &[u8] =
@@ -115,15 +119,17 @@ fn a_kernel_of_one_sum_is_compiled(rt: HostRuntime) -> Result<(), Fail> {
 }
 
 #[test]
-fn what_is_of_no_form_is_refused(rt: HostRuntime) -> Result<(), Fail> {
-    let alloc = rt.alloc();
-    for source in [
-        OFFSETS,
-        b"".as_slice(),
-        b"class".as_slice(),
-        b"\xc8".as_slice(),
+fn sources_are_refused(rt: HostRuntime) -> Result<(), Fail> {
+    for (source, said) in [
+        (OFFSETS, b"refused N0\n".as_slice()),
+        (b"", b"refused S3 0\n"),
+        (b"class", b"refused S3 5\n"),
+        (b"\xc8", b"refused S1 0\n"),
+        (b"class #", b"refused S2 6\n"),
+        (b"class goto", b"refused S4 6\n"),
+        (TWO_CLASSES, b"refused S6\n"),
     ] {
-        expect_end(&rt, alloc, source, Status::Refused, b"refused N0\n")?;
+        expect_end(&rt, rt.alloc(), source, Status::Refused, said)?;
     }
     Ok(())
 }

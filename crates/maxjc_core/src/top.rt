@@ -12,7 +12,7 @@ ghost use Rattle.maxjc_core.specs.Causes.{Stands, IsMissing, IsBuilt};
 ghost use Rattle.maxjc_core.specs.Loading.{IsLoaded, setup};
 ghost use Rattle.maxjc_core.specs.RunCauses.{IsSmall, StandsIn, LacksInput};
 ghost use Rattle.maxjc_core.specs.RunEnds.{IsRunDone, IsRunLimited, IsRunRefused, AreFirstWords, ChangesOutputs};
-ghost use Rattle.maxjc_core.specs.Summing.{WritesAllSums};
+ghost use Rattle.maxjc_core.specs.Writing.{WritesAllWords};
 ghost use Rattle.maxjc_core.specs.Ends.{IsQuiet, KeepsFiles, IsSilent, IsCutOff, WriteFailed, IsDone, IsRefused};
 
 use crate::Status;
@@ -74,12 +74,12 @@ pub fn maxjc<F: Files, S: Say, G: Fn(u64, u64, u32) -> bool>(
     ensures run_ends_limited { (names : RunNames) → command_of words.now.items ≡ Some (Simulate names) → (l : IsLoaded names (F.held files.old)) → IsSmall l
         → (restart : Families) (vs : List Families) (edges : ℕ) → Ends (G.post stalls.now.test) (setup l) restart vs (ends.Limit edges) → (result ≡ Status.EdgeLimit) ⊎ IsCutOff result }
 
-    // Of a text that `compile` wrote the output file holds the kernel's sums of the words that were taken, which agree with a
-    // prefix of the sums.
-    ensures run_sums_done { (names : RunNames) → command_of words.now.items ≡ Some (Simulate names) → result ≡ Status.Done → IsSome (F.held files.old)
-        → WritesAllSums names (F.held files.old) (F.held files.new) }
-    ensures run_sums_limited { (names : RunNames) → command_of words.now.items ≡ Some (Simulate names) → result ≡ Status.EdgeLimit → IsSome (F.held files.old)
-        → WritesAllSums names (F.held files.old) (F.held files.new) }
+    // Of a text that `compile` wrote the output file holds words that agree with what the kernel says of the words that were
+    // taken, and so with a prefix of what it says of all words.
+    ensures run_words_done { (names : RunNames) → command_of words.now.items ≡ Some (Simulate names) → result ≡ Status.Done → IsSome (F.held files.old)
+        → WritesAllWords names (F.held files.old) (F.held files.new) }
+    ensures run_words_limited { (names : RunNames) → command_of words.now.items ≡ Some (Simulate names) → result ≡ Status.EdgeLimit → IsSome (F.held files.old)
+        → WritesAllWords names (F.held files.old) (F.held files.new) }
 
     // `Refused` comes exactly where a cause stands, unless a call fails or memory is short.
     ensures run_refused { (names : RunNames) → command_of words.now.items ≡ Some (Simulate names) → result ≡ Status.Refused → IsRunRefused (G.post stalls.now.test) names (F.held files.old) (S.said say.old) (S.said say.new) }

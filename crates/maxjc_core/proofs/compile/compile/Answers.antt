@@ -1,40 +1,29 @@
-use Rattle.std.proofs.Common.{inl, inr, ⊎_elim}
+use Rattle.std.proofs.Common.{◌≡◌, inl, inr, ⊎_elim, refl}
 use Rattle.mx_base.specs.Files.{Held}
-use Rattle.maxjc_core.specs.Causes.{file_limit, IsOfNoForm, Stands}
-use Rattle.maxjc_core.specs.Compiling.{Compiles}
+use Rattle.maxjc_core.specs.Causes.{file_limit, Stands}
 use Rattle.maxjc_core.specs.Named.{names_told}
 use Rattle.maxjc_core.proofs.Reading.{found, within, read_stops, missing_stops}
+use Rattle.maxjc_core.proofs.Answering.{answers_of}
 use Rattle.maxjc_core.proofs.compile.compile.Goals as goal
 
-pub returns-in-Ok-Some-clause-answers : goal.returns-in-Ok-Some-clause-answers
-returns-in-Ok-Some-clause-answers g c = λ told.
+pub returns-in-Ok-skip_table-clause-answers : goal.returns-in-Ok-skip_table-clause-answers
+returns-in-Ok-skip_table-clause-answers g c =
     let held : Held = g.F.Files.held c.args.files.now in
+    let names = names_told c.args.names in
     let same = c.in-Ok.ensures.same in
-    let table = found held c.args.names.table.now told (λ l. let e = c.in-Ok-skip_table.ensures.lacking (rw same l) in cc) in
-    let made : Compiles c.in-Ok.source.items c.in-Ok-Some.compiled.text.items c.in-Ok-Some.compiled.summary.items =
-    rw (c.in-Ok-Some.field-0-is, c.as_slice.ensures.value) at c.in-Ok-Some.ensures.some in
-    record {
-      files = record {
+    answers_of names held c.in-Ok.source.items c.build.result
+    (λ told.
+    let table = found held c.args.names.table.now told (λ l. let e = c.in-Ok-skip_table.ensures.lacking (rw same l) in cc) in (
+      record {
         source = c.in-Ok.source.items;
         source_is = within held c.args.names.source.now _ told (λ l. let e = c.in-Ok.ensures.lacking l in cc) c.in-Ok.ensures.whole c.in-Ok.ensures.fits;
         table = table.0;
         table_is = record { holds = table.1; within = c.in-Ok-skip_table.ensures.fits table.0 (rw same table.1) };
-      };
-      compiles = made;
-    }
-
-pub returns-in-Ok-None-clause-answers : goal.returns-in-Ok-None-clause-answers
-returns-in-Ok-None-clause-answers g c = λ told.
-    let held : Held = g.F.Files.held c.args.files.now in
-    let same = c.in-Ok.ensures.same in
-    let table = found held c.args.names.table.now told (λ l. let e = c.in-Ok-skip_table.ensures.lacking (rw same l) in cc) in
-    let none : IsOfNoForm c.in-Ok.source.items = rw (c.in-Ok-None.field-0-is, c.as_slice.ensures.value) at c.in-Ok-None.ensures.none in
-    Stands.not_built (record {
-      source = c.in-Ok.source.items;
-      source_is = within held c.args.names.source.now _ told (λ l. let e = c.in-Ok.ensures.lacking l in cc) c.in-Ok.ensures.whole c.in-Ok.ensures.fits;
-      table = table.0;
-      table_is = record { holds = table.1; within = c.in-Ok-skip_table.ensures.fits table.0 (rw same table.1) };
-    }) none
+      },
+      refl,
+    ))
+    (rw c.as_slice.ensures.value at c.build.ensures.made)
+    (rw c.as_slice.ensures.value at c.build.ensures.refused)
 
 pub returns-in-Ok-clause-answers : goal.returns-in-Ok-clause-answers
 returns-in-Ok-clause-answers g c =

@@ -7,7 +7,7 @@ use Rattle.maxjc_core.specs.RunCauses.{StandsIn, IsFaulty}
 use Rattle.maxjc_core.specs.RunStops.{stop_cause}
 use Rattle.maxjc_core.proofs.RunEnding.{IsMade, IsSimulated, simulated, ends_so}
 use Rattle.maxjc_core.proofs.RunClauses.{stopped_not_done, stopped_not_limited, run_done, run_limited, answers_done, answers_limited, fails_done, fails_limited, stands_not, lacks_not, lacks_cut_off, others_so, refused_stands, read_fault_so, begun_stopped, fault_told, failed_so, reads_no_other, writes_no_other, quiet_reads, quiet_writes}
-use Rattle.maxjc_core.proofs.Summing.{sums_so}
+use Rattle.maxjc_core.proofs.Writing.{words_so}
 use Rattle.maxjc_core.proofs.simulate_command.run_simulate.Goals as goal
 
 pub returns-in-Ok-simulate-clause-done : goal.returns-in-Ok-simulate-clause-done
@@ -146,24 +146,24 @@ returns-in-Err-Refused-clause-refused g c = λ refused.
     let faulty : IsSome held → IsFaulty names held cause = rw c.in-Err-Refused.field-0-is at c.in-Err-Refused.ensures.answers in
     record { cause = cause; stands = λ told. StandsIn.before cause (faulty told); said = c.refuse.ensures.said refused }
 
-pub returns-in-Ok-simulate-clause-sums_done : goal.returns-in-Ok-simulate-clause-sums_done
-returns-in-Ok-simulate-clause-sums_done g c =
+pub returns-in-Ok-simulate-clause-words_done : goal.returns-in-Ok-simulate-clause-words_done
+returns-in-Ok-simulate-clause-words_done g c =
     let held : Held = g.F.Files.held c.args.files.now in
     let made : IsMade (run_told c.args.names) held c.in-Ok.field-0.design c.in-Ok.field-0.plan = record { can = c.in-Ok.ensures.can_run; loaded = c.in-Ok.ensures.answers } in
     let sim : IsSimulated (λ pick edge port. g.G.Fn.post c.args.stalls.now.test (pick, (edge, (port, tt)))) c.in-Ok.field-0.design c.in-Ok.field-0.plan held (g.F.Files.held c.simulate.new.files) (Ok c.in-Ok-simulate.outcome) =
     simulated c.in-Ok.ensures.same c.in-Ok-simulate.ensures.tells c.in-Ok-simulate.ensures.exact c.in-Ok-simulate.ensures.cells c.in-Ok-simulate.ensures.too_many in
-    λ ended is. sums_so c.in-Ok-simulate.outcome made sim
+    λ ended is. words_so c.in-Ok-simulate.outcome made sim
 
-pub returns-in-Ok-simulate-clause-sums_limited : goal.returns-in-Ok-simulate-clause-sums_limited
-returns-in-Ok-simulate-clause-sums_limited g c =
+pub returns-in-Ok-simulate-clause-words_limited : goal.returns-in-Ok-simulate-clause-words_limited
+returns-in-Ok-simulate-clause-words_limited g c =
     let held : Held = g.F.Files.held c.args.files.now in
     let made : IsMade (run_told c.args.names) held c.in-Ok.field-0.design c.in-Ok.field-0.plan = record { can = c.in-Ok.ensures.can_run; loaded = c.in-Ok.ensures.answers } in
     let sim : IsSimulated (λ pick edge port. g.G.Fn.post c.args.stalls.now.test (pick, (edge, (port, tt)))) c.in-Ok.field-0.design c.in-Ok.field-0.plan held (g.F.Files.held c.simulate.new.files) (Ok c.in-Ok-simulate.outcome) =
     simulated c.in-Ok.ensures.same c.in-Ok-simulate.ensures.tells c.in-Ok-simulate.ensures.exact c.in-Ok-simulate.ensures.cells c.in-Ok-simulate.ensures.too_many in
-    λ ended is. sums_so c.in-Ok-simulate.outcome made sim
+    λ ended is. words_so c.in-Ok-simulate.outcome made sim
 
-pub returns-in-Ok-clause-sums_done : goal.returns-in-Ok-clause-sums_done
-returns-in-Ok-clause-sums_done g c = λ ended is. absurd (stopped_not_done c.in-Err.stop c.stopped.result c.stopped.ensures.ends ended)
+pub returns-in-Ok-clause-words_done : goal.returns-in-Ok-clause-words_done
+returns-in-Ok-clause-words_done g c = λ ended is. absurd (stopped_not_done c.in-Err.stop c.stopped.result c.stopped.ensures.ends ended)
 
-pub returns-in-Ok-clause-sums_limited : goal.returns-in-Ok-clause-sums_limited
-returns-in-Ok-clause-sums_limited g c = λ ended is. absurd (stopped_not_limited c.in-Err.stop c.stopped.result c.stopped.ensures.ends ended)
+pub returns-in-Ok-clause-words_limited : goal.returns-in-Ok-clause-words_limited
+returns-in-Ok-clause-words_limited g c = λ ended is. absurd (stopped_not_limited c.in-Err.stop c.stopped.result c.stopped.ensures.ends ended)

@@ -13,7 +13,7 @@ use Rattle.maxjc_core.specs.Named.{run_told}
 use Rattle.maxjc_core.specs.RunCauses.{IsSmall, LacksInput}
 use Rattle.maxjc_core.specs.RunEnds.{AreFirstWords}
 use Rattle.maxjc_core.specs.declared.status.Status.TheVariants.{Done, EdgeLimit, Refused, ReadFault}
-use Rattle.maxjc_core.specs.Summing.{WritesAllSums}
+use Rattle.maxjc_core.specs.Writing.{WritesAllWords}
 use Rattle.maxjc_core.proofs.OneCommand.{same_run_names}
 use Rattle.maxjc_core.proofs.top.maxjc.Goals as goal
 
@@ -68,18 +68,18 @@ returns-in-Some-Simulate-clause-run_others g c = λ names is.
     let same = same_run_names c.args.words.now.items (run_told c.in-Some-Simulate.names) names told is in
     rw (sym same) c.run_simulate.ensures.others
 
-pub returns-in-Some-Simulate-clause-run_sums_done : goal.returns-in-Some-Simulate-clause-run_sums_done
-returns-in-Some-Simulate-clause-run_sums_done g c = λ names is.
+pub returns-in-Some-Simulate-clause-run_words_done : goal.returns-in-Some-Simulate-clause-run_words_done
+returns-in-Some-Simulate-clause-run_words_done g c = λ names is.
     let told : command_of c.args.words.now.items ≡ Some (Simulate (run_told c.in-Some-Simulate.names)) = rw (c.deref.ensures.value, c.in-Some-Simulate.field-0-is) at c.in-Some-Simulate.ensures.some in
     let same = same_run_names c.args.words.now.items (run_told c.in-Some-Simulate.names) names told is in
     let held : Held = g.F.Files.held c.args.files.now in
     let status = c.run_simulate.result in
-    subst (λ (n : RunNames). status ≡ Done → IsSome held → WritesAllSums n held (g.F.Files.held c.run_simulate.new.files)) same c.run_simulate.ensures.sums_done
+    subst (λ (n : RunNames). status ≡ Done → IsSome held → WritesAllWords n held (g.F.Files.held c.run_simulate.new.files)) same c.run_simulate.ensures.words_done
 
-pub returns-in-Some-Simulate-clause-run_sums_limited : goal.returns-in-Some-Simulate-clause-run_sums_limited
-returns-in-Some-Simulate-clause-run_sums_limited g c = λ names is.
+pub returns-in-Some-Simulate-clause-run_words_limited : goal.returns-in-Some-Simulate-clause-run_words_limited
+returns-in-Some-Simulate-clause-run_words_limited g c = λ names is.
     let told : command_of c.args.words.now.items ≡ Some (Simulate (run_told c.in-Some-Simulate.names)) = rw (c.deref.ensures.value, c.in-Some-Simulate.field-0-is) at c.in-Some-Simulate.ensures.some in
     let same = same_run_names c.args.words.now.items (run_told c.in-Some-Simulate.names) names told is in
     let held : Held = g.F.Files.held c.args.files.now in
     let status = c.run_simulate.result in
-    subst (λ (n : RunNames). status ≡ EdgeLimit → IsSome held → WritesAllSums n held (g.F.Files.held c.run_simulate.new.files)) same c.run_simulate.ensures.sums_limited
+    subst (λ (n : RunNames). status ≡ EdgeLimit → IsSome held → WritesAllWords n held (g.F.Files.held c.run_simulate.new.files)) same c.run_simulate.ensures.words_limited

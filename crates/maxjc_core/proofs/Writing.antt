@@ -1,5 +1,5 @@
--- A simulation of a text that `compile` wrote gives sums.
-use Rattle.std.proofs.Common.{◌≡◌, ℕ, List, [], ◌∷◌, map, Some, Ok, refl, sym, subst, ap, ◌∙◌, arith}
+-- A simulation of a text that `compile` wrote gives the words of its kernel.
+use Rattle.std.proofs.Common.{◌≡◌, ℕ, List, [], ◌∷◌, map, Option, Some, Ok, refl, sym, subst, ap, ◌∙◌, arith}
 use Rattle.std.specs.Prelude.{slice_get}
 use Rattle.mx_base.specs.Files.{Name, Held, Holds}
 use Rattle.rtl_ir.specs.declared.design.Design.{Design}
@@ -8,9 +8,10 @@ use Rattle.rtl_ir.specs.Flat.{Families, top_of}
 use Rattle.rtl_ir.specs.Parts.{own_of}
 use Rattle.rtl_ir.specs.Ports.{Shape, HasShape, outer_of}
 use Rattle.rtl_ir.specs.Run.{moved, IsDriven}
-use Rattle.rtl_ir.specs.Streams.{Streams, StreamsAs}
+use Rattle.expression_module.specs.Streams.{Streams, StreamsAs}
 use Rattle.stall_source.specs.Stalls.{Answers}
-use Rattle.sum_source.specs.Source.{Source, IsSource, output_of}
+use Rattle.maxj_syntax.specs.Tree.{ClassTree}
+use Rattle.expression_source.specs.Source.{Source, IsSource, output_of}
 use Rattle.top_ports.specs.Shapes.{IsTopShape, AreByKernel}
 use Rattle.simulation.specs.declared.plan.Plan.{Plan}
 use Rattle.simulation.specs.Inputs.{InputFile, words_of, input_files}
@@ -22,7 +23,7 @@ use Rattle.simulation.specs.Answers.{Finishes}
 use Rattle.maxjc_core.specs.Command.{RunNames}
 use Rattle.maxjc_core.specs.Compiling.{Compiles, kernel_shape}
 use Rattle.maxjc_core.specs.Loading.{IsLoaded, setup}
-use Rattle.maxjc_core.specs.Summing.{WritesSums, WritesAllSums}
+use Rattle.maxjc_core.specs.Writing.{WritesWords, WritesAllWords}
 use Rattle.top_ports.proofs.ShapeLists.{one_alone}
 use Rattle.maxjc_core.specs.LoadStops.{IsOnlyDesign}
 use Rattle.simulation.specs.Answers.{end_of}
@@ -40,8 +41,8 @@ single f (x ∷ z ∷ xs) y e = absurd (cc)
 one_file : (held : Held) (inputs : List (Name × ℕ)) (i : Name × ℕ) → inputs ≡ i ∷ [] → (f : InputFile) × (input_files held inputs ≡ f ∷ [])
 one_file held inputs i e = single (λ (f : InputFile). f.name) (input_files held inputs) i.0 (ap (λ (xs : List (Name × ℕ)). map (λ (f : InputFile). f.name) (input_files held xs)) e)
 
--- the words that left are the sums of those that were taken
-pub record Summed (f : ℕ → ℕ) (words : List ℕ) (now : Held) (output : Name × ℕ) : Type 0 where
+-- the words that left agree with f of those that were taken
+pub record Streamed (f : ℕ → Option ℕ) (words : List ℕ) (now : Held) (output : Name × ℕ) : Type 0 where
   pub taken : List ℕ
   pub left : List ℕ
   pub streams : Streams f words taken left
@@ -50,15 +51,15 @@ pub record Summed (f : ℕ → ℕ) (words : List ℕ) (now : Held) (output : Na
 first_of : {A : Type 0} (xs : List A) (x : A) → xs ≡ x ∷ [] → slice_get xs 0 ≡ Some x
 first_of xs x e = rw e refl
 
-summed :
-    (f : ℕ → ℕ) (d : Design) (m : Module) (s : Shape) (p : Plan) (held now : Held) (stalls : Answers) (restart : Families) (vs : List Families)
+streamed :
+    (f : ℕ → Option ℕ) (d : Design) (m : Module) (s : Shape) (p : Plan) (held now : Held) (stalls : Answers) (restart : Families) (vs : List Families)
     → StreamsAs d m (outer_of s m) f
     → IsRun stalls (setup_of d m s p held) restart vs
     → AreWritten now (own_of (restart ∷ vs)) (outer_of s m).outputs p.outputs
     → (file : InputFile) → input_files held p.inputs ≡ file ∷ []
     → (output : Name × ℕ) → p.outputs ≡ output ∷ []
-    → Summed f (words_of file) now output
-summed f d m s p held now stalls restart vs streams run written file files output one =
+    → Streamed f (words_of file) now output
+streamed f d m s p held now stalls restart vs streams run written file files output one =
     let words : map words_of (input_files held p.inputs) ≡ words_of file ∷ [] = ap (map words_of) files in
     let driven = subst (λ (ws : List (List ℕ)). IsDriven (outer_of s m) (setup_of d m s p held).steady ws run.events (own_of (restart ∷ vs))) words run.driven in
     record {
@@ -75,8 +76,8 @@ run_of stalls l restart vs end (Ends.limit run all is) = run
 run_of stalls l restart vs end (Ends.stopped fault run few is stops) = run
 
 -- the shape of a kernel's ports is one of a top module
-kernel_top : (source : List ℕ) (k : Source) → IsSource source k → IsTopShape (kernel_shape k)
-kernel_top source k is = record {
+kernel_top : (classes : List ClassTree) (k : Source) → IsSource classes k → IsTopShape (kernel_shape k)
+kernel_top classes k is = record {
   shape = record {
     some = omega arith;
     kernels = rw (plain k.name is.allowed.name.0) refl;
@@ -102,25 +103,25 @@ streams_read source line l d only c =
     let tops : straight.top ≡ l.fit.is.top = cc in
     let shapes : kernel_shape c.kernel ≡ l.fit.is.shape =
     one_alone l.fit.is.top (kernel_shape c.kernel) l.fit.is.shape
-    (record { is = kernel_top source c.kernel c.is; has = subst (λ (m : Module). HasShape m (kernel_shape c.kernel)) tops straight.has_shape }) l.fit.is.is_run in (
+    (record { is = kernel_top c.classes c.kernel c.is; has = subst (λ (m : Module). HasShape m (kernel_shape c.kernel)) tops straight.has_shape }) l.fit.is.is_run in (
       subst (λ (s : Shape). StreamsAs l.fit.design l.fit.is.top (outer_of s l.fit.is.top) (output_of c.kernel)) shapes
           (subst (λ (m : Module). StreamsAs l.fit.design m (outer_of (kernel_shape c.kernel) m) (output_of c.kernel)) tops
           (subst (λ (d : Design). StreamsAs d straight.top (outer_of (kernel_shape c.kernel) straight.top) (output_of c.kernel)) same straight.streams)),
       sym shapes,
     )
 
-pub sums_written :
+pub words_written :
     (stalls : Answers) (source line : List ℕ) {names : RunNames} {before : Held} (l : IsLoaded names before) (d : Design) → IsOnlyDesign l.files.text d → (c : Compiles source l.files.text line) (now : Held) (end : End)
     → Finishes stalls (setup l) l.fit.plan.outputs now end
-    → WritesSums c.kernel l now
-sums_written stalls source line {names} {before} l d only c now end finishes =
+    → WritesWords c.kernel l now
+words_written stalls source line {names} {before} l d only c now end finishes =
     let (streams, shapes) = streams_read source line l d only c in
     let p = l.fit.plan in
     let inputs = single (λ (i : Name × ℕ). i.1) p.inputs _ (l.fit.planned.input_widths ∙ ap (map (λ (i : Name × ℕ). i.1)) (l.fit.are.inputs ∙ ap (λ (s : Shape). s.inputs) shapes)) in
     let outputs = single (λ (i : Name × ℕ). i.1) p.outputs _ (l.fit.planned.output_widths ∙ ap (map (λ (i : Name × ℕ). i.1)) (l.fit.are.outputs ∙ ap (λ (s : Shape). s.outputs) shapes)) in
     let files = one_file before p.inputs inputs.0 inputs.1 in
     let run = run_of stalls l finishes.restart finishes.vs end finishes.ends in
-    let sum = summed (output_of c.kernel) l.fit.design l.fit.is.top l.fit.is.shape p before now stalls finishes.restart finishes.vs streams run finishes.written files.0 files.1 outputs.0 outputs.1 in
+    let words = streamed (output_of c.kernel) l.fit.design l.fit.is.top l.fit.is.shape p before now stalls finishes.restart finishes.vs streams run finishes.written files.0 files.1 outputs.0 outputs.1 in
     record {
       input = inputs.0;
       one_input = inputs.1;
@@ -128,17 +129,17 @@ sums_written stalls source line {names} {before} l d only c now end finishes =
       one_output = outputs.1;
       file = files.0;
       files = files.1;
-      taken = sum.taken;
-      left = sum.left;
-      streams = sum.streams;
-      written = sum.written;
+      taken = words.taken;
+      left = words.left;
+      streams = words.streams;
+      written = words.written;
     }
 
 -- what the run that was made wrote
-pub sums_so : {names : RunNames} {stalls : Answers} {held now : Held} {d : Design} {p : Plan} (o : Outcome) → IsMade names held d p → IsSimulated stalls d p held now (Ok o) → WritesAllSums names held now
-sums_so {names} {stalls} {held} {now} {d} {p} o made sim l source line c =
+pub words_so : {names : RunNames} {stalls : Answers} {held now : Held} {d : Design} {p : Plan} (o : Outcome) → IsMade names held d p → IsSimulated stalls d p held now (Ok o) → WritesAllWords names held now
+words_so {names} {stalls} {held} {now} {d} {p} o made sim l source line c =
     let is = told_loaded l in
     let made_as = made.loaded is in
     let only = subst (λ (t : List ℕ). IsOnlyDesign t d) (same_file held names.text made_as.files.text l.files.text made_as.files.text_is l.files.text_is) made_as.is.only in
     let finishes = of_loaded l made (λ s outputs. Finishes stalls s outputs now (end_of o)) (sim.tells made.can.is.top made.can.is.shape made.can.is.is_top made.can.is.is_run.has is) in
-    sums_written stalls source line l d only c now (end_of o) finishes
+    words_written stalls source line l d only c now (end_of o) finishes

@@ -1,9 +1,0 @@
-pub mod Examples
-pub mod Words
-pub mod Nexts
-pub mod SumLemmas
-pub mod Walks
-pub mod HeadLemmas
-pub mod LocalLemmas
-pub mod OutputLemmas
-pub mod ProjectLemmas

@@ -1,9 +1,0 @@
-pub mod Tokens
-pub mod Source
-pub mod Steps
-pub mod Projects
-pub mod Classes
-pub mod Scanning
-pub mod Scopes
-pub mod Reading
-pub mod Outputs
