@@ -21,29 +21,31 @@ TOP = pathlib.Path(__file__).resolve().parent.parent
 BAR = 40
 
 
-def printed(size):
-    lines = [simulate_speed.HEAD, "assign out$y$data = in$x$data;\n"]
-    length, number = sum(map(len, lines)) + len("endmodule\n"), 0
+def filled(size, output, line_of, end):
+    """A text of so many bytes: the head, the output's assignment, as many lines as fit, the end, and blanks."""
+    lines = [simulate_speed.HEAD, output]
+    length, number = sum(map(len, lines)) + len(end), 0
     while True:
-        line = f"wire [31:0] w{number};\nassign w{number} = in$x$data + in$x$data;\n"
+        line = line_of(number)
         if length + len(line) > size:
-            break
+            return "".join(lines) + end + " " * (size - length)
         lines.append(line)
         length, number = length + len(line), number + 1
-    return "".join(lines) + "endmodule\n" + " " * (size - length)
+
+
+def printed(size):
+    def line_of(number):
+        return f"wire [31:0] w{number};\nassign w{number} = in$x$data + in$x$data;\n"
+
+    return filled(size, "assign out$y$data = in$x$data;\n", line_of, "endmodule\n")
 
 
 def dense(size):
-    lines = [simulate_speed.HEAD, "assign out$y$data=in$x$data;"]
-    length, number = sum(map(len, lines)) + len("endmodule"), 0
-    while True:
+    def line_of(number):
         name = compile_size.name_of(number)
-        line = f"wire[0:0]{name};assign {name}=go;"
-        if length + len(line) > size:
-            break
-        lines.append(line)
-        length, number = length + len(line), number + 1
-    return "".join(lines) + "endmodule" + " " * (size - length)
+        return f"wire[0:0]{name};assign {name}=go;"
+
+    return filled(size, "assign out$y$data=in$x$data;", line_of, "endmodule")
 
 
 def measure(text):

@@ -10,7 +10,7 @@ use Rattle.expression_source.specs.Source.{Name, Expression, Variable, Turned, J
 use Rattle.expression_source.specs.Nodes.{EachAt, SomeAt, StandAt}
 use Rattle.expression_source.specs.Scopes.{Declares}
 use Rattle.expression_source.specs.Reading.{Numbers, Stands, IsKnown, IsSound, value_at, Shows, ReadsAs, IsReadable, IsFree, IsDeclarable, LocalIs, Stage, IsSteady, IsGood, AreGood, operators_in, LocalsAre, MayStand}
-use Rattle.expression_source.proofs.Words.{bytes_refl, bytes_same, true_or_false, not_true, clash, some_is, none_is}
+use Rattle.text_scan.proofs.ByteTests.{bytes_refl, bytes_same, true_or_false, not_true, clash, some_is, none_some}
 use Rattle.expression_source.proofs.Standing.{none_below, some_below}
 use Rattle.expression_source.proofs.Forms.{same_expression}
 use Rattle.expression_source.proofs.Operations.{shows_stay}
@@ -178,7 +178,7 @@ is_good : (p : Name) (s : Stage) (l : Local) → IsSteady s → IsDeclarable p s
 is_good p s l h d = record {
   variable = d.free.1;
   other = d.free.0;
-  fresh = λ c. none_is (s.numbers l.variable) d.free.2 (h.known l.variable c);
+  fresh = λ c. none_some (s.numbers l.variable) d.free.2 (h.known l.variable c);
   closed = closed s h l.value d.known;
 }
 

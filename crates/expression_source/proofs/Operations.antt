@@ -11,7 +11,7 @@ use Rattle.expression_source.specs.declared.stop.Stop.{Stop}
 use Rattle.expression_source.specs.Source.{Name, Expression, Variable, Turned, Joined, Value, operators_of, expression_value}
 use Rattle.expression_source.specs.Steps.{IsBefore, InOrder, HasSign, IsArithmetic, step_value, values_of}
 use Rattle.expression_source.specs.Reading.{Numbers, Stands, IsVariableAt, IsTurnedAt, IsJoinedAt, IsKnown, IsSound, IsAdded, value_at, Shows, Computes, IsReadable, ReadsAs}
-use Rattle.expression_source.proofs.Words.{some_is}
+use Rattle.text_scan.proofs.ByteTests.{some_is}
 use Rattle.expression_source.proofs.Forms.{says_one}
 
 values_push : (width : ℕ) (values : List (Option ℕ)) (steps : List Step) (s : Step) → values_of width values (steps ++ s ∷ []) ≡ values_of width values steps ++ step_value width (values_of width values steps) s ∷ []

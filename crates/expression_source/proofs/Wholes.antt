@@ -14,7 +14,7 @@ use Rattle.expression_source.specs.Reading.{Numbers, IsSound, Shows, ReadsAs, Is
 use Rattle.expression_source.specs.declared.read.Frame.{Frame}
 use Rattle.expression_source.specs.declared.project.Project.{Project}
 use Rattle.expression_source.specs.declared.project.Step.{Step}
-use Rattle.expression_source.proofs.Words.{bytes_refl, some_is, none_is}
+use Rattle.text_scan.proofs.ByteTests.{bytes_refl, some_is, none_some}
 use Rattle.expression_source.proofs.Locals.{contains_cases, contains_here, contains_more, same_or_other, closed, is_known, same_locals}
 use Rattle.expression_source.proofs.Kernels.{same_head, BodyAgrees, body_agrees}
 
@@ -103,7 +103,7 @@ first_steady none numbers v steps rest h = record {
   ];
   names = λ name k. elim (same_or_other v name) [
     | inl same ↦ subst (λ x. Contains (v ∷ []) x) same (contains_here v [])
-    | inr differ ↦ absurd (none_is (numbers name) (h.declares.others name differ ∙ h.empty name) k)
+    | inr differ ↦ absurd (none_some (numbers name) (h.declares.others name differ ∙ h.empty name) k)
   ];
   sound = first_sound none numbers v steps h;
   few = first_few none numbers v steps h;

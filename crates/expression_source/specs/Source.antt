@@ -10,7 +10,7 @@ use Rattle.fix_arith.specs.declared.types.StreamType.TheVariants.{UInt}
 use Rattle.fix_arith.specs.Table.{applied}
 use Rattle.maxj_syntax.specs.declared.tree.NodeKind.{NodeKind}
 use Rattle.maxj_syntax.specs.declared.tree.NodeKind.TheVariants as N
-use Rattle.maxj_syntax.specs.Tokens.{is_decimal_integer}
+use Rattle.maxj_tokens.specs.Tokens.{is_decimal_integer}
 use Rattle.maxj_syntax.specs.Tree.{Tree, Node, Trees, Nil, Cons, join, one, two, ClassTree}
 use Rattle.expression_source.specs.Names.{is_plain_name, is_taken}
 

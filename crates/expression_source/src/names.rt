@@ -1,30 +1,18 @@
 // Which words are names.
-ghost use Rattle.std.specs.Prelude.{◌≡◌, ◌≤◌, ◌↔◌, IsTrue, length, true, false, List, ℕ};
-ghost use Rattle.std.specs.Borrow.{Bor};
-ghost use Rattle.std.specs.List.{list_any, list_all};
-ghost use Rattle.std.specs.Str.{bytes_eq};
-ghost use Rattle.grammar.specs.Bytes.{is_letter};
-ghost use Rattle.maxj_syntax.specs.Tokens.{is_name_byte};
-ghost use Rattle.expression_source.specs.Names.{is_taken, is_plain_name, starts_with_letter};
+ghost use Rattle.std.specs.Prelude.{◌≡◌, ◌≤◌, ◌↔◌, IsTrue, length, true, false};
+ghost use Rattle.maxj_tokens.specs.Tokens.{is_among};
+ghost use Rattle.expression_source.specs.Names.{own_words, is_taken, is_plain_name, starts_with_letter};
 ghost use Rattle.expression_source.specs.Source.{IsPortName};
+
+use maxj_tokens::{is_among, is_foreign_word, is_word};
+use text_scan::is_letter;
 
 /// The most bytes of a port's name.
 const LONGEST_PORT: usize = 64;
 
-fn is_among(word: &[u8], words: &[&[u8]]) -> bool
-    ensures { result ≡ list_any (λ (w : Bor (List ℕ)). bytes_eq word.now w.now) words.now }
-{
-    for other in words {
-        if word == *other {
-            return true;
-        }
-    }
-    false
-}
-
-/// Whether a word is one that the language keeps for itself.
-pub fn is_taken(word: &[u8]) -> bool
-    ensures { result ≡ is_taken word.now }
+/// Whether a word is one that the grammar quotes, or that the sources of kernels use.
+fn is_own_word(word: &[u8]) -> bool
+    ensures { result ≡ is_among word.now own_words }
 {
     is_among(
         word,
@@ -63,50 +51,16 @@ pub fn is_taken(word: &[u8]) -> bool
             b"super",
             b"io",
             b"dfeUInt",
-            b"break",
-            b"continue",
-            b"do",
-            b"switch",
-            b"case",
-            b"default",
-            b"try",
-            b"catch",
-            b"finally",
-            b"throw",
-            b"throws",
-            b"interface",
-            b"enum",
-            b"implements",
-            b"abstract",
-            b"synchronized",
-            b"instanceof",
-            b"double",
-            b"float",
-            b"long",
-            b"byte",
-            b"short",
-            b"char",
-            b"null",
-            b"volatile",
-            b"native",
-            b"assert",
-            b"goto",
         ],
     )
 }
 
-/// A to Z and a to z.
-fn is_letter(byte: u8) -> bool
-    ensures { result ≡ is_letter byte }
+/// Whether a word is one that the language keeps for itself.
+#[tactic(auto, unfolding(crate::specs::Names::is_taken))]
+pub fn is_taken(word: &[u8]) -> bool
+    ensures { result ≡ is_taken word.now }
 {
-    b'A' <= byte && byte <= b'Z' || b'a' <= byte && byte <= b'z'
-}
-
-/// A letter, a digit or `_`.
-fn is_name_byte(byte: u8) -> bool
-    ensures { result ≡ is_name_byte byte }
-{
-    is_letter(byte) || b'0' <= byte && byte <= b'9' || byte == b'_'
+    is_own_word(word) || is_foreign_word(word)
 }
 
 fn starts_with_letter(word: &[u8]) -> bool
@@ -122,15 +76,7 @@ fn starts_with_letter(word: &[u8]) -> bool
 fn is_plain_name(text: &[u8]) -> bool
     ensures { result ≡ is_plain_name text.now }
 {
-    if !starts_with_letter(text) {
-        return false;
-    }
-    for byte in text {
-        if !is_name_byte(*byte) {
-            return false;
-        }
-    }
-    true
+    starts_with_letter(text) && is_word(text)
 }
 
 /// Whether a text is the name of a port: a plain name of at most 64 bytes.

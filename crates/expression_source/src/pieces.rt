@@ -2,7 +2,7 @@
 ghost use Rattle.std.specs.Prelude.{◌≡◌, ◌≤◌, ◌∷◌, [], ◌++◌, List, ℕ, Bool, true, false, IsTrue, IfSome, IfNone, length, codes};
 ghost use Rattle.std.specs.List.{list_all};
 ghost use Rattle.grammar.specs.Bytes.{is_digit, decimal};
-ghost use Rattle.maxj_syntax.specs.Tokens.{is_decimal_integer};
+ghost use Rattle.maxj_tokens.specs.Tokens.{is_decimal_integer};
 ghost use Rattle.maxj_syntax.specs.Tree.{Tree, Trees, IsAt};
 ghost use Rattle.expression_source.specs.Source.{Name, IsLeaf, IsPort, IsPortName, IsWidth, IsIoCall, IsDeclaration, IsAllowedWidth, quoted};
 ghost use Rattle.expression_source.specs.Nodes.{EachAt, SomeAt, StandAt};
@@ -10,6 +10,7 @@ ghost use Rattle.expression_source.specs.Nodes.{EachAt, SomeAt, StandAt};
 use crate::names::is_port_name;
 use crate::nodes::{is_leaf, leaf_word, node_of};
 use maxj_syntax::{Node, NodeKind};
+use text_scan::is_digit;
 
 /// The most bits of a word.
 const WIDEST: u16 = 128;
@@ -40,13 +41,6 @@ pub fn read_port(nodes: &[Node], number: u32) -> Option<&[u8]>
 pub struct Width<'a> {
     pub digits: &'a [u8],
     pub bits: u8,
-}
-
-/// 0 to 9.
-fn is_digit(byte: u8) -> bool
-    ensures { result ≡ is_digit byte }
-{
-    b'0' <= byte && byte <= b'9'
 }
 
 fn are_digits(text: &[u8]) -> bool

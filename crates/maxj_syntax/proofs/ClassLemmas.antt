@@ -1,22 +1,22 @@
 -- A class has the kinds of its tokens, and no others.
-use Rattle.std.proofs.Common.{◌≡◌, ℕ, List, [], ◌∷◌, Bool, true, false, ◌||◌, Option, Some, None, refl, sym, ap, subst, ◌∙◌, ◌⊎◌, inl, inr}
+use Rattle.std.proofs.Common.{◌≡◌, ℕ, List, Bool, true, false, ◌||◌, Option, Some, None, refl, sym, ap, subst, ◌∙◌}
 use Rattle.std.specs.Str.{bytes_eq}
 use Rattle.maxj_syntax.specs.declared.level.Level.{Level}
-use Rattle.maxj_syntax.specs.declared.sign.Sign.{Sign}
-use Rattle.maxj_syntax.specs.declared.sign.Sign.TheVariants as S
+use Rattle.maxj_tokens.specs.declared.sign.Sign.{Sign}
+use Rattle.maxj_tokens.specs.declared.sign.Sign.TheVariants as S
 use Rattle.maxj_syntax.specs.declared.kind.Word.{Word}
 use Rattle.maxj_syntax.specs.declared.kind.Word.TheVariants as W
 use Rattle.maxj_syntax.specs.declared.kind.Kind.{Kind}
 use Rattle.maxj_syntax.specs.declared.kind.Kind.TheVariants as K
 use Rattle.maxj_syntax.specs.declared.symbol.TokenClass.{TokenClass}
 use Rattle.maxj_syntax.specs.declared.symbol.TokenClass.TheVariants as C
-use Rattle.maxj_syntax.specs.Tokens.{Token, written}
-use Rattle.maxj_syntax.specs.Reading.{sign_bytes}
-use Rattle.maxj_syntax.specs.Tokens.{is_word}
+use Rattle.maxj_tokens.specs.Tokens.{Token, written}
+use Rattle.maxj_tokens.specs.Reading.{sign_bytes}
+use Rattle.maxj_tokens.specs.Tokens.{is_word}
 use Rattle.maxj_syntax.specs.Kinds.{word_bytes, word_kind, kind_of, known_word, kind_of_word, first_sign, all_signs, kind_of_sign}
-use Rattle.maxj_syntax.specs.TokenClasses.{same, among, without, names, operators, kinds_in, class_has, leaf_kind, IsWordOf, IsSignOf, IsNameToken, Accepts}
-use Rattle.maxj_syntax.specs.Productions.{is_name, is_among, modifiers, type_words, value_words, assigning_signs, counting_signs, signs_of, IsLiteral}
-use Rattle.maxj_syntax.proofs.ByteTests.{bytes_same, clash}
+use Rattle.maxj_syntax.specs.TokenClasses.{same, among, names, operators, kinds_in, class_has, leaf_kind, IsWordOf, IsSignOf, IsNameToken, Accepts}
+use Rattle.maxj_syntax.specs.Productions.{modifiers, type_words, value_words, assigning_signs, counting_signs, signs_of, IsLiteral}
+use Rattle.text_scan.proofs.ByteTests.{bytes_same, clash}
 use Rattle.maxj_syntax.proofs.KindLemmas.{Each, each_bytes, each_kind, same_is, is_same, sign_token, word_token, word_kind_is, sign_kind_is, name_kind, plain_name, without_has, has_without}
 
 or_first : (b : Bool) → b ≡ true → (c : Bool) → (b || c) ≡ true

@@ -1,8 +1,9 @@
 -- The tokens of a source end within it.
-use Rattle.std.proofs.Common.{◌≡◌, ◌∙◌, ℕ, zero, suc, ◌+◌, ◌<◌, ◌^◌, Bool, true, false, List, [], ◌∷◌, ◌++◌, length, get_or, Option, Some, None, if◌then◌else◌, refl, sym, ap, arith, length-append}
+use Rattle.std.proofs.Common.{◌≡◌, ℕ, zero, suc, ◌+◌, ◌<◌, ◌^◌, Bool, true, false, List, [], ◌∷◌, length, get_or, Some, None, if◌then◌else◌, sym, ap, arith, length-append}
 use Rattle.std.specs.List.{All}
-use Rattle.maxj_syntax.specs.Tokens.{Token, written, token_of, is_word, is_integer, is_decimal, is_string, is_sign}
-use Rattle.maxj_syntax.specs.Scanning.{PlacedToken, ReadsAt}
+use Rattle.maxj_tokens.specs.Tokens.{Token, written, token_of, is_word, is_integer, is_decimal, is_string, is_sign}
+use Rattle.maxj_tokens.specs.Scanning.{PlacedToken, ReadsAt}
+use Rattle.text_scan.specs.Places as places
 use Rattle.maxj_syntax.specs.Building.{EndsIn}
 
 written_some : (u t : Token) → Some u ≡ Some t → written t ≡ written u
@@ -28,8 +29,8 @@ none : (n : ℕ) (d : PlacedToken) → n < length {A = PlacedToken} [] → EndsI
 none n d h = absurd (omega (arith, h))
 
 pub ends_in : {n : ℕ} {bytes left : List ℕ} {ts : List PlacedToken} → ReadsAt n bytes ts left → n + length bytes < 2 ^ 32 → All EndsIn ts
-ends_in ReadsAt.end h = none
-ends_in (ReadsAt.skip {rest = rest} gap g r) h = ends_in r (omega (arith, h, length-append gap rest))
-ends_in {n = n} (ReadsAt.token {rest = rest} {t = t} {ts = ts} word w r) h =
+ends_in places.ReadsAt.end h = none
+ends_in (places.ReadsAt.skip {rest = rest} gap g r) h = ends_in r (omega (arith, h, length-append gap rest))
+ends_in {n = n} (places.ReadsAt.token {rest = rest} {t = t} {ts = ts} word w r) h =
     let e : length (written t) ≡ length word = ap length (written_is word t w.is) in
     more (record { token = t; place = n }) ts (omega (arith, h, e, length-append word rest)) (ends_in r (omega (arith, h, length-append word rest)))

@@ -1,5 +1,5 @@
 -- The exits of the parser.
-use Rattle.std.proofs.Common.{◌≡◌, ℕ, zero, suc, ◌+◌, ◌<◌, ◌≤◌, ◌-◌, List, [], ◌∷◌, ◌++◌, Bool, true, false, Option, Some, None, refl, sym, ap, subst, ◌∙◌, length, arith, reverse, drop, get_or, map, drop-cons, add-one, ◌==◌}
+use Rattle.std.proofs.Common.{◌≡◌, ℕ, zero, suc, ◌+◌, ◌<◌, ◌≤◌, ◌-◌, List, [], ◌∷◌, Bool, true, false, Option, Some, refl, sym, ap, subst, ◌∙◌, length, arith, reverse, drop, get_or, drop-cons, add-one, ◌==◌}
 use Rattle.std.proofs.lemmas.List.{length-drop}
 use Rattle.std.proofs.Math.Seq.{drop-length}
 use Rattle.std.proofs.Math.ListN.{length-map, get_or-map}
@@ -19,26 +19,25 @@ use Rattle.maxj_syntax.specs.declared.symbol.Fixed.TheVariants as F
 use Rattle.maxj_syntax.specs.declared.symbol.Action.{Action}
 use Rattle.std.specs.List.{list_any}
 use Rattle.maxj_syntax.specs.declared.symbol.TokenClass.TheVariants as C
-use Rattle.maxj_syntax.specs.Tokens.{written}
+use Rattle.maxj_tokens.specs.Tokens.{written, Token}
 use Rattle.maxj_syntax.specs.Kinds.{kind_of}
 use Rattle.maxj_syntax.specs.TokenClasses.{class_has}
 use Rattle.maxj_syntax.specs.Choosing.{admits}
-use Rattle.maxj_syntax.proofs.ByteTests.{clash}
+use Rattle.text_scan.proofs.ByteTests.{clash}
 use Rattle.maxj_syntax.proofs.ClassLemmas.{accepts, accepted}
-use Rattle.maxj_syntax.specs.declared.token.Placed.{Placed}
+use Rattle.maxj_tokens.specs.declared.token.Placed.{Placed}
 use Rattle.maxj_syntax.specs.declared.parser.Settled.{Settled}
 use Rattle.maxj_syntax.specs.declared.parser.Settled.TheVariants as T
-use Rattle.maxj_syntax.specs.Tokens.{Token}
-use Rattle.maxj_syntax.specs.Scanning.{PlacedToken}
-use Rattle.maxj_syntax.specs.Reading.{placed_view, token_view}
+use Rattle.maxj_tokens.specs.Scanning.{PlacedToken}
+use Rattle.maxj_tokens.specs.Reading.{placed_view, token_view}
 use Rattle.maxj_syntax.specs.Tree.{ClassTree, ClassesAre}
 use Rattle.maxj_syntax.specs.TokenClasses.{Accepts}
 use Rattle.maxj_syntax.specs.Productions.{is_name}
 use Rattle.maxj_syntax.specs.Faults.{FirstBad, IsMisplaced, place_of}
-use Rattle.maxj_syntax.specs.Symbols.{Symbol, Mark, Name, Sub, Call, fixed_view}
+use Rattle.maxj_syntax.specs.Symbols.{Symbol, Mark, Name, Sub, fixed_view}
 use Rattle.maxj_syntax.specs.Choosing.{Is, Choice, choose, chain}
-use Rattle.maxj_syntax.specs.Steps.{Entry, At, Below, Ground, On}
-use Rattle.maxj_syntax.specs.Building.{IsBottom, AreBottom, Holds, Takes, Reached, bottom, todo, Settles, IsTheFile, AreUnder, AreOpen, IsTaken, IsRefused, IsRule, IsExpanded, view_of}
+use Rattle.maxj_syntax.specs.Steps.{Entry, Ground}
+use Rattle.maxj_syntax.specs.Building.{IsBottom, AreBottom, Holds, Takes, Reached, bottom, todo, Settles, IsTheFile, AreOpen, IsTaken, IsRefused, IsRule, IsExpanded, view_of}
 use Rattle.maxj_syntax.proofs.Predict.{leads_stay}
 use Rattle.maxj_syntax.proofs.Machine.{step_rule, stuck_rule, rule_less, stuck_mark, stuck_name, stuck_end, step_mark, step_name}
 use Rattle.maxj_syntax.proofs.Judge.{bad_place, whole_file}

@@ -1,23 +1,17 @@
 -- What is put on the stack in place of a rule that speaks of a name.
-use Rattle.std.proofs.Common.{◌≡◌, ℕ, Bool, true, false, not, ◌&&◌, List, [], ◌∷◌, ◌++◌, Option, Some, None, if◌then◌else◌, refl, sym, ap, subst, ◌∙◌, codes}
+use Rattle.std.proofs.Common.{◌≡◌, ℕ, Bool, true, false, ◌&&◌, List, [], ◌∷◌, ◌++◌, Option, Some, None, refl, sym, ap, ◌∙◌, codes}
 use Rattle.std.specs.Str.{bytes_eq}
-use Rattle.maxj_syntax.specs.declared.sign.Sign.TheVariants as S
+use Rattle.maxj_tokens.specs.declared.sign.Sign.TheVariants as S
 use Rattle.maxj_syntax.specs.declared.kind.Kind.{Kind}
 use Rattle.maxj_syntax.specs.declared.kind.Word.TheVariants as W
-use Rattle.maxj_syntax.specs.declared.tree.NodeKind.TheVariants as N
 use Rattle.maxj_syntax.specs.declared.symbol.TokenClass.{TokenClass}
 use Rattle.maxj_syntax.specs.declared.symbol.TokenClass.TheVariants as C
-use Rattle.maxj_syntax.specs.declared.symbol.Effect.TheVariants.{Skip, Push, Text}
-use Rattle.maxj_syntax.specs.declared.symbol.Action.TheVariants.{Begin}
-use Rattle.maxj_syntax.specs.declared.symbol.Rule.{Rule}
-use Rattle.maxj_syntax.specs.declared.symbol.Rule.TheVariants as R
-use Rattle.maxj_syntax.specs.Scanning.{PlacedToken}
+use Rattle.maxj_tokens.specs.Scanning.{PlacedToken}
 use Rattle.maxj_syntax.specs.Symbols.{Inside, Symbol, Mark, Name, Sub, Call, Act}
 use Rattle.maxj_syntax.specs.Symbols as Y
-use Rattle.maxj_syntax.specs.Moves.{sign, word, is_own, and_members}
-use Rattle.maxj_syntax.specs.Table.{choices, guards}
+use Rattle.maxj_syntax.specs.Moves.{word, is_own}
 use Rattle.maxj_syntax.specs.Choosing.{admits, pick, kind_at, name_next, text_next, choose, named_guards, named_choices, bound, body, begins_member, member_choice, member_choices, member_guards, void_choice, word_choice, name_choice, ctor_choice, memory_choice, type_choice}
-use Rattle.maxj_syntax.specs.Building.{IsExpanded, IsChosen}
+use Rattle.maxj_syntax.specs.Building.{IsExpanded}
 
 first_picked : (g : List TokenClass) (gs : List (List TokenClass)) (c : List Symbol) (cs : List (List Symbol)) (k : Option Kind) → admits g k ≡ true → pick (g ∷ gs) (c ∷ cs) k ≡ Some c
 first_picked g gs c cs k e = rw e refl
@@ -54,12 +48,6 @@ pub same_param : (m : Bool) (t : Option PlacedToken) → name_next (Y.FirstParam
 same_param m None = refl
 same_param m (Some t) = refl
 
-pub class_name_none : (t : Option PlacedToken) → name_next Y.ClassName t ≡ false → choose (Call Y.ClassName) t ≡ None
-class_name_none t e = plain Y.ClassName t e
-
-pub first_param_none : (m : Bool) (t : Option PlacedToken) → name_next Y.ClassName t ≡ false → choose (Call (Y.FirstParam m)) t ≡ None
-first_param_none m t e = plain (Y.FirstParam m) t (same_param m t ∙ e)
-
 abbrev pub kernel_inside : List ℕ → Inside
 kernel_inside w = record { manager = false; class = w; unmade = true }
 
@@ -75,24 +63,12 @@ pub parent_manager : (w : List ℕ) (t : Option PlacedToken) (old new : List Sym
 parent_manager w t old new n e f =
     (word W.CustomManager ∷ body (manager_inside w), plain (Y.Parent w) t (no_parent w t) ∙ not_first (C.Word W.Kernel ∷ []) ((C.Word W.CustomManager ∷ []) ∷ []) (word W.Kernel ∷ body (kernel_inside w)) ((word W.CustomManager ∷ body (manager_inside w)) ∷ []) (kind_at t) n ∙ first_picked (C.Word W.CustomManager ∷ []) [] (word W.CustomManager ∷ body (manager_inside w)) [] (kind_at t) e, f)
 
-pub parent_none : (w : List ℕ) (t : Option PlacedToken) → admits (C.Word W.Kernel ∷ []) (kind_at t) ≡ false → admits (C.Word W.CustomManager ∷ []) (kind_at t) ≡ false → choose (Call (Y.Parent w)) t ≡ None
-parent_none w t n m =
-    plain (Y.Parent w) t (no_parent w t) ∙ not_first (C.Word W.Kernel ∷ []) ((C.Word W.CustomManager ∷ []) ∷ []) (word W.Kernel ∷ body (kernel_inside w)) ((word W.CustomManager ∷ body (manager_inside w)) ∷ []) (kind_at t) n
-    ∙ not_first (C.Word W.CustomManager ∷ []) [] (word W.CustomManager ∷ body (manager_inside w)) [] (kind_at t) m
-
 pub member_taken : (i : Inside) (t : Option PlacedToken) (old new : List Symbol) → admits begins_member (kind_at t) ≡ true → new ≡ member_choice i ++ old → IsExpanded (Call (Y.Members i)) t old new true
 member_taken i t old new e f = (member_choice i, plain (Y.Members i) t (no_members i t) ∙ step i.unmade, f)
   where
     step : (u : Bool) → pick (member_guards u) (member_choices u i) (kind_at t) ≡ Some (member_choice i)
     step true = rw e refl
     step false = rw e refl
-
-pub member_none : (i : Inside) (t : Option PlacedToken) (old new : List Symbol) → admits begins_member (kind_at t) ≡ false → new ≡ old → IsExpanded (Call (Y.Members i)) t old new (not i.unmade)
-member_none i t old new e f = step i.unmade refl
-  where
-    step : (u : Bool) → i.unmade ≡ u → IsExpanded (Call (Y.Members i)) t old new (not u)
-    step true g = plain (Y.Members i) t (no_members i t) ∙ ap (λ u. pick (member_guards u) (member_choices u i) (kind_at t)) g ∙ (rw e refl)
-    step false g = ([], plain (Y.Members i) t (no_members i t) ∙ ap (λ u. pick (member_guards u) (member_choices u i) (kind_at t)) g ∙ (rw e refl), f)
 
 pub head_void : (i : Inside) (t : Option PlacedToken) (old new : List Symbol) → name_next Y.ClassName t ≡ false → admits (C.Word W.Void ∷ []) (kind_at t) ≡ true → new ≡ void_choice i ++ old → IsExpanded (Call (Y.Head i)) t old new true
 head_void i t old new n e f = (void_choice i, plain (Y.Head i) t (same_name i t ∙ n) ∙ first_picked (C.Word W.Void ∷ []) ((C.TypeWord ∷ []) ∷ []) (void_choice i) (word_choice i ∷ []) (kind_at t) e, f)
@@ -124,11 +100,6 @@ after_type i true true t old new n k f = (type_choice i, plain (Y.After i true t
 after_type i true false t old new n k f = (type_choice i, plain (Y.After i true false) t (no_after i true false t) ∙ (rw n refl), f)
 after_type i false true t old new n k f = (type_choice i, plain (Y.After i false true) t (no_after i false true t) ∙ (rw k refl), f)
 after_type i false false t old new n k f = (type_choice i, plain (Y.After i false false) t (no_after i false false t), f)
-
--- a rule of the table
-pub rule_expanded : (r : Rule) (t : Option PlacedToken) (k : Option Kind) (old new : List Symbol) (b : Bool) → k ≡ kind_at t → IsChosen r k old new b → IsExpanded (Sub r) t old new b
-rule_expanded r t k old new true e h = (h.0, subst (λ j. pick (guards r) (choices r) j ≡ Some h.0) e h.1, h.2)
-rule_expanded r t k old new false e h = subst (λ j. pick (guards r) (choices r) j ≡ None) e h
 
 -- what was asked of the kind is so of the next token
 pub asked : (g : List TokenClass) {k j : Option Kind} {b v : Bool} → b ≡ admits g k → k ≡ j → b ≡ v → admits g j ≡ v

@@ -1,6 +1,5 @@
 -- The table passes the test of a grammar whose choice the next token tells.
-use Rattle.std.proofs.Common.{◌≡◌, ℕ, zero, suc, ◌+◌, List, [], ◌∷◌, Bool, true, false, ◌&&◌, ◌||◌, if◌then◌else◌, Option, Some, None, refl, sym, ap, subst, ◌∙◌, bit_or, arith, ◌⊎◌, inl, inr, codes}
-use Rattle.std.specs.List.{list_any}
+use Rattle.std.proofs.Common.{◌≡◌, ℕ, List, [], ◌∷◌, Bool, true, false, ◌&&◌, ◌||◌, if◌then◌else◌, Option, Some, None, refl, sym, ap, subst, ◌∙◌, bit_or, ◌⊎◌, inl, inr}
 use Rattle.std.specs.Str.{bytes_eq}
 use Rattle.grammar.specs.Stack.{all_empty, may_all, Predicts, AllFollow}
 use Rattle.maxj_syntax.specs.declared.level.Level.{Level}
@@ -8,22 +7,21 @@ use Rattle.maxj_syntax.specs.declared.kind.Kind.{Kind}
 use Rattle.maxj_syntax.specs.declared.symbol.TokenClass.{TokenClass}
 use Rattle.maxj_syntax.specs.declared.symbol.TokenClass.TheVariants as C
 use Rattle.maxj_syntax.specs.declared.symbol.Effect.{Effect}
-use Rattle.maxj_syntax.specs.declared.symbol.Effect.TheVariants.{Push, Text}
 use Rattle.maxj_syntax.specs.declared.symbol.Form.{Form}
 use Rattle.maxj_syntax.specs.declared.symbol.Site.{Site}
 use Rattle.maxj_syntax.specs.declared.symbol.Rule.{Rule}
 use Rattle.maxj_syntax.specs.declared.symbol.Rule.TheVariants as R
-use Rattle.maxj_syntax.specs.Tokens.{Token, written}
-use Rattle.maxj_syntax.specs.Scanning.{PlacedToken}
+use Rattle.maxj_tokens.specs.Tokens.{Token, written}
+use Rattle.maxj_tokens.specs.Scanning.{PlacedToken}
 use Rattle.maxj_syntax.specs.Kinds.{kind_of}
-use Rattle.maxj_syntax.specs.TokenClasses.{number, kinds_in, class_has, Accepts}
+use Rattle.maxj_syntax.specs.TokenClasses.{number, class_has, Accepts}
 use Rattle.maxj_syntax.specs.Productions.{is_name}
 use Rattle.maxj_syntax.specs.Symbols.{Inside, Symbol, Mark, Name, Sub, Call, Act}
 use Rattle.maxj_syntax.specs.Symbols as Y
-use Rattle.maxj_syntax.specs.Table.{choices, guards, first, nullable, peek, weight}
-use Rattle.maxj_syntax.specs.Choosing.{has, within, apart, implies, set_of, Among, IsBound, Is, Choice, begins, empties, goes_on, all_begin, may, peeks, admits, pick, kind_at, name_next, text_next, choose, is_otherwise, is_last, covers, ordered, follows, choice_fits, choices_fit, nameless, lighter, named_choices, named_guards, named_first, named_nullable, named_peek, named_weight, binds, bound, begins_member, member_choices, member_guards}
-use Rattle.std.proofs.lemmas.Slice.Eq.{bytes_eq-Decides}
-use Rattle.maxj_syntax.proofs.ByteTests.{and_true, or_true, clash, not_true, bytes_same}
+use Rattle.maxj_syntax.specs.Table.{choices, guards}
+use Rattle.maxj_syntax.specs.Lookahead.{first, nullable, peek, weight}
+use Rattle.maxj_syntax.specs.Choosing.{has, within, apart, implies, set_of, Among, Is, Choice, begins, empties, goes_on, all_begin, may, peeks, admits, pick, kind_at, name_next, choose, is_otherwise, is_last, covers, ordered, follows, choice_fits, choices_fit, nameless, lighter, named_choices, named_guards, named_first, named_nullable, named_peek, named_weight, binds, bound, begins_member, member_choices, member_guards}
+use Rattle.text_scan.proofs.ByteTests.{or_true, clash, not_true, bytes_same, bytes_refl}
 use Rattle.maxj_syntax.proofs.Sets.{within_has, apart_has, or_has_left, or_has_right, classes_have, have_classes}
 use Rattle.maxj_syntax.proofs.ClassLemmas.{accepted, accepts}
 
@@ -398,15 +396,12 @@ exact_end_at (Act x) qs a h = ap Some a
 class_begins : (c : TokenClass) (t : PlacedToken) → Accepts c t.token → has (set_of (c ∷ [])) (number (kind_of t.token)) ≡ true
 class_begins c t i = classes_have (kind_of t.token) (c ∷ []) (or_false (class_has c (kind_of t.token)) (accepted c t.token i))
 
-bytes_self : (w : List ℕ) → bytes_eq w w ≡ true
-bytes_self w = (bytes_eq-Decides w w).1 refl
-
 is_may_at : (p : Symbol) (t : PlacedToken) → Is p t → may p t ≡ true
 is_may_at (Mark c e) t i = class_begins c t i
 is_may_at (Name w e) t i =
     let f : written t.token ≡ w = ap written i.0 in
     let g : Accepts C.Name t.token = (i.0 ∙ ap (λ v. Token.Word v) (sym f), subst (λ v. is_name v ≡ true) (sym f) i.1) in
-    let h : bytes_eq (written t.token) w ≡ true = subst (λ v. bytes_eq v w ≡ true) (sym f) (bytes_self w) in
+    let h : bytes_eq (written t.token) w ≡ true = subst (λ v. bytes_eq v w ≡ true) (sym f) (bytes_refl w) in
     rw (class_begins C.Name t g) h
 is_may_at (Sub r) t i = absurd i
 is_may_at (Call n) t i = absurd i

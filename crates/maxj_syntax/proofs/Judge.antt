@@ -1,11 +1,11 @@
 -- From what the parser reads to the productions: the classes, and the first bad token.
-use Rattle.std.proofs.Common.{◌≡◌, ℕ, zero, suc, ◌+◌, ◌<◌, ◌≤◌, ◌-◌, List, [], ◌∷◌, ◌++◌, refl, sym, ap, subst, ◌∙◌, append_assoc, arith, length, length-append, take, drop}
+use Rattle.std.proofs.Common.{◌≡◌, ◌+◌, ◌<◌, ◌-◌, List, [], ◌∷◌, ◌++◌, refl, sym, ap, subst, ◌∙◌, append_assoc, arith, length, length-append, take}
 use Rattle.std.proofs.lemmas.List.{append-nil}
-use Rattle.grammar.specs.Stack.{Runs, Starts, Leads, Refused}
+use Rattle.grammar.specs.Stack.{Runs, Starts, Refused}
 use Rattle.grammar.proofs.Leftmost.{starts_from_runs, starts_front}
 use Rattle.maxj_syntax.specs.declared.build.Builder.{Builder}
 use Rattle.maxj_syntax.specs.declared.symbol.Rule.{Rule}
-use Rattle.maxj_syntax.specs.Scanning.{PlacedToken, span_of}
+use Rattle.maxj_tokens.specs.Scanning.{PlacedToken, span_of}
 use Rattle.maxj_syntax.specs.Tree.{ClassTree}
 use Rattle.maxj_syntax.specs.Productions.{Part, IsFile}
 use Rattle.maxj_syntax.specs.Productions as S
@@ -13,12 +13,13 @@ use Rattle.maxj_syntax.specs.Derivation.{Derives}
 use Rattle.maxj_syntax.specs.Faults.{Begins, FirstBad}
 use Rattle.maxj_syntax.specs.Symbols.{Symbol, Mark, Name, Sub, Call, Act}
 use Rattle.maxj_syntax.specs.Choosing.{Is, Choice}
-use Rattle.maxj_syntax.specs.Steps.{Entry, At, Below, Ground, On, Goes, between, add_classes}
+use Rattle.maxj_syntax.specs.Steps.{Entry, Below, Ground, Goes, between}
 use Rattle.maxj_syntax.specs.Building.{Reached, bottom}
 use Rattle.maxj_syntax.proofs.Predict.{refused_after}
 use Rattle.maxj_syntax.proofs.Segments.{Seg}
 use Rattle.maxj_syntax.proofs.Sound.{sound}
-use Rattle.maxj_syntax.proofs.Complete.{complete, expand, expand_named}
+use Rattle.maxj_syntax.proofs.Runs.{expand, expand_named}
+use Rattle.maxj_syntax.proofs.Complete.{complete}
 use Rattle.maxj_syntax.proofs.MoveLemmas.{to_move}
 use Rattle.maxj_syntax.proofs.NamedMoves.{to_named}
 use Rattle.maxj_syntax.proofs.Productive.{ended_somehow}

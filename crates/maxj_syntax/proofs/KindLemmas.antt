@@ -1,23 +1,19 @@
 -- Kinds and classes: what the kind of a token says of the token.
-use Rattle.std.proofs.Common.{◌≡◌, ℕ, zero, suc, ◌+◌, List, [], ◌∷◌, Bool, true, false, not, ◌&&◌, ◌||◌, if◌then◌else◌, Option, Some, None, refl, sym, ap, subst, ◌∙◌, ◌⊎◌, inl, inr, nat_eq, slice_get, codes}
+use Rattle.std.proofs.Common.{length, ◌≡◌, ℕ, List, [], ◌∷◌, Bool, true, false, not, ◌&&◌, ◌||◌, Option, Some, None, refl, sym, ap, subst, ◌∙◌, ◌⊎◌, inl, inr, nat_eq, slice_get}
 use Rattle.std.proofs.lemmas.Bool.{eqb-true, eq-eqb}
-use Rattle.std.specs.List.{list_any}
 use Rattle.std.specs.Str.{bytes_eq}
-use Rattle.maxj_syntax.specs.declared.level.Level.{Level}
-use Rattle.maxj_syntax.specs.declared.sign.Sign.{Sign}
-use Rattle.maxj_syntax.specs.declared.sign.Sign.TheVariants as S
+use Rattle.maxj_tokens.specs.declared.sign.Sign.{Sign}
+use Rattle.maxj_tokens.specs.declared.sign.Sign.TheVariants as S
 use Rattle.maxj_syntax.specs.declared.kind.Word.{Word}
 use Rattle.maxj_syntax.specs.declared.kind.Word.TheVariants as W
 use Rattle.maxj_syntax.specs.declared.kind.Kind.{Kind}
 use Rattle.maxj_syntax.specs.declared.kind.Kind.TheVariants as K
-use Rattle.maxj_syntax.specs.declared.symbol.TokenClass.{TokenClass}
-use Rattle.maxj_syntax.specs.declared.symbol.TokenClass.TheVariants as C
-use Rattle.maxj_syntax.specs.Tokens.{Token, written, is_word}
-use Rattle.maxj_syntax.specs.Reading.{sign_bytes}
-use Rattle.maxj_syntax.specs.Kinds.{word_bytes, words, all_signs, first_word, known_word, first_sign, kind_of_word, kind_of_sign, word_kind, kind_of}
-use Rattle.maxj_syntax.specs.TokenClasses.{sign_number, word_number, number, same, among, without, names, operators, kinds_in, class_has, leaf_kind, IsWordOf, IsSignOf, IsNameToken, Accepts}
-use Rattle.maxj_syntax.specs.Productions.{is_name, is_among, reserved_words, modifiers, type_words, value_words, assigning_signs, counting_signs, signs_of, IsLiteral}
-use Rattle.maxj_syntax.proofs.ByteTests.{bytes_same as bytes_eq_is}
+use Rattle.maxj_tokens.specs.Tokens.{Token, is_word, is_among}
+use Rattle.maxj_tokens.specs.Reading.{sign_bytes}
+use Rattle.maxj_syntax.specs.Kinds.{word_bytes, words, of_length, words_of_length, all_signs, first_word, known_word, first_sign, kind_of_word, kind_of_sign, word_kind, kind_of}
+use Rattle.maxj_syntax.specs.TokenClasses.{number, same, among, without, names, IsNameToken}
+use Rattle.maxj_syntax.specs.Productions.{is_name, reserved_words}
+use Rattle.text_scan.proofs.ByteTests.{bytes_same as bytes_eq_is, clash}
 
 abbrev kinds : List Kind
 kinds = K.Sign S.Open ∷ K.Sign S.Close ∷ K.Sign S.OpenBrace ∷ K.Sign S.CloseBrace ∷ K.Sign S.OpenBracket ∷ K.Sign S.CloseBracket ∷ K.Sign S.Semicolon ∷ K.Sign S.Comma ∷ K.Sign S.Dot ∷ K.Sign S.Assign ∷ K.Sign S.Plus ∷ K.Sign S.Minus ∷ K.Sign S.Star ∷ K.Sign S.Slash ∷ K.Sign S.Percent ∷ K.Sign S.And ∷ K.Sign S.Or ∷ K.Sign S.Xor ∷ K.Sign S.Tilde ∷ K.Sign S.Not ∷ K.Sign S.Question ∷ K.Sign S.Colon ∷ K.Sign S.Less ∷ K.Sign S.Greater ∷ K.Sign S.LessEqual ∷ K.Sign S.GreaterEqual ∷ K.Sign S.Equal ∷ K.Sign S.NotEqual ∷ K.Sign S.Same ∷ K.Sign S.NotSame ∷ K.Sign S.ShiftLeft ∷ K.Sign S.ShiftRight ∷ K.Sign S.AndAnd ∷ K.Sign S.OrOr ∷ K.Sign S.PlusPlus ∷ K.Sign S.MinusMinus ∷ K.Sign S.PlusAssign ∷ K.Sign S.MinusAssign ∷ K.Sign S.StarAssign ∷ K.Sign S.Connect ∷ K.Word W.Package ∷ K.Word W.Import ∷ K.Word W.Static ∷ K.Word W.Public ∷ K.Word W.Private ∷ K.Word W.Protected ∷ K.Word W.Final ∷ K.Word W.Class ∷ K.Word W.Extends ∷ K.Word W.Void ∷ K.Word W.Return ∷ K.Word W.If ∷ K.Word W.Else ∷ K.Word W.While ∷ K.Word W.For ∷ K.Word W.New ∷ K.Word W.This ∷ K.Word W.True ∷ K.Word W.False ∷ K.Word W.Int ∷ K.Word W.Boolean ∷ K.Word W.Super ∷ K.Word W.Kernel ∷ K.Word W.CustomManager ∷ K.Word W.Memory ∷ K.Word W.DFEVar ∷ K.Word W.KernelParameters ∷ K.Word W.EngineParameters ∷ K.Name ∷ K.Whole ∷ K.Decimal ∷ K.Str ∷ K.Other ∷ []
@@ -131,9 +127,6 @@ word_token (Token.Sign s) x e = step (first_sign s all_signs) e
 word_token _ x e = absurd (cc)
 
 -- a word that is none of the grammar's is not among those that are no names
-abbrev reserved : Word → Bool
-reserved x = is_among (word_bytes x) reserved_words
-
 unknown_unreserved : (w : List ℕ) → known_word w ≡ None → is_among w reserved_words ≡ false
 unknown_unreserved w e = step (is_among w reserved_words) refl
   where
@@ -207,3 +200,20 @@ without_has k j ks e f = among_without k j ks ∙ (rw (e, f) refl)
 
 pub has_without : (k j : Kind) (ks : List Kind) → among k (without j ks) ≡ true → (among k ks ≡ true) × (same k j ≡ false)
 has_without k j ks e = let f : (among k ks && not (same k j)) ≡ true = sym (among_without k j ks) ∙ e in (and_left (among k ks) _ f, not_true (same k j) (and_right (among k ks) _ f))
+
+-- a word is the first of those that have as many bytes
+first_of_length : (bytes : List ℕ) (ws : List Word) → first_word bytes (of_length (length bytes) ws) ≡ first_word bytes ws
+first_of_length bytes [] = refl
+first_of_length bytes (w ∷ ws) = step (nat_eq (length bytes) (length (word_bytes w))) (bytes_eq bytes (word_bytes w)) refl refl (first_of_length bytes ws)
+  where
+    step : (a b : Bool) → nat_eq (length bytes) (length (word_bytes w)) ≡ a → bytes_eq bytes (word_bytes w) ≡ b → first_word bytes (of_length (length bytes) ws) ≡ first_word bytes ws → first_word bytes (of_length (length bytes) (w ∷ ws)) ≡ first_word bytes (w ∷ ws)
+    step true true e f h = rw (e, f) refl
+    step true false e f h = rw (e, f) h
+    step false false e f h = rw (e, f) h
+    step false true e f h = absurd (clash (same_length (bytes_eq_is bytes (word_bytes w) f)) e)
+      where
+        same_length : bytes ≡ word_bytes w → nat_eq (length bytes) (length (word_bytes w)) ≡ true
+        same_length g = eq-eqb (length bytes) (length (word_bytes w)) (ap length g)
+
+pub known_by_length : (bytes : List ℕ) → first_word bytes (words_of_length (length bytes)) ≡ known_word bytes
+known_by_length bytes = first_of_length bytes words

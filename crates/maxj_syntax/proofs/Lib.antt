@@ -1,11 +1,3 @@
-pub mod ByteTests
-pub mod GapLemmas
-pub mod Words
-pub mod Fronts
-pub mod Numbers
-pub mod Places
-pub mod Readings
-pub mod Examples
 pub mod SmallSource
 pub mod KindLemmas
 pub mod ClassLemmas
@@ -14,8 +6,11 @@ pub mod Predict
 pub mod Sets
 pub mod Fits
 pub mod Segments
+pub mod Meanings
 pub mod Sound
+pub mod Runs
 pub mod Complete
+pub mod Ranks
 pub mod Productive
 pub mod Nodes
 pub mod NamedMoves
@@ -26,9 +21,6 @@ pub mod Exits
 pub mod Expansions
 pub mod Ends
 pub mod Once
-pub mod FirstFaults
-pub mod Values
-pub mod Excesses
 pub mod Twins
 pub mod Projects
 pub mod Sources

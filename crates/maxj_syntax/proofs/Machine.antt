@@ -1,8 +1,8 @@
 -- The steps of the parser.
-use Rattle.std.proofs.Common.{◌≡◌, ℕ, zero, suc, ◌+◌, ◌<◌, ◌≤◌, ◌-◌, List, [], ◌∷◌, ◌++◌, Bool, true, false, ◌&&◌, if◌then◌else◌, nat_lt, Option, Some, None, refl, sym, ap, subst, ◌∙◌, append_assoc, arith, ◌⊎◌, inl, inr, length, take, drop, map, reverse}
+use Rattle.std.proofs.Common.{◌≡◌, ℕ, ◌+◌, ◌<◌, ◌≤◌, List, [], ◌∷◌, ◌++◌, Bool, true, false, ◌&&◌, if◌then◌else◌, nat_lt, Option, Some, None, refl, sym, ap, subst, ◌∙◌, arith, inl, inr, map, reverse}
 use Rattle.std.proofs.lemmas.Bool.{ltb-true}
 use Rattle.std.proofs.lemmas.List.{reverse-append}
-use Rattle.grammar.specs.Stack.{Runs, Starts, Leads, Refused, Ends, AllFollow, head_of, all_empty}
+use Rattle.grammar.specs.Stack.{Runs, Refused, Ends, AllFollow, head_of, all_empty}
 use Rattle.grammar.proofs.Leftmost.{starts_from_runs}
 use Rattle.maxj_syntax.specs.declared.build.Builder.{Builder}
 use Rattle.maxj_syntax.specs.declared.symbol.TokenClass.{TokenClass}
@@ -10,18 +10,19 @@ use Rattle.maxj_syntax.specs.declared.symbol.Effect.{Effect}
 use Rattle.maxj_syntax.specs.declared.symbol.Action.{Action}
 use Rattle.maxj_syntax.specs.declared.symbol.Rule.{Rule}
 use Rattle.maxj_syntax.specs.declared.symbol.Symbol.{Symbol as SymbolOf}
-use Rattle.maxj_syntax.specs.Tokens.{Token}
-use Rattle.maxj_syntax.specs.Scanning.{PlacedToken}
+use Rattle.maxj_tokens.specs.Tokens.{Token}
+use Rattle.maxj_tokens.specs.Scanning.{PlacedToken}
 use Rattle.maxj_syntax.specs.Productions.{is_name}
 use Rattle.maxj_syntax.specs.TokenClasses.{Accepts}
 use Rattle.maxj_syntax.specs.Symbols.{Symbol, Mark, Name, Sub, Call, Act, symbol_view}
 use Rattle.maxj_syntax.specs.Symbols as Y
 use Rattle.maxj_syntax.specs.Choosing.{Among, Is, Choice, may, empties, peeks, choose, weigh, chain, lighter, named_choices, named_weight, bound, binds}
-use Rattle.maxj_syntax.specs.Table.{choices, weight}
-use Rattle.maxj_syntax.specs.Steps.{Entry, At, Below, Goes, read_top, read_below, act_top, act_below}
-use Rattle.maxj_syntax.specs.Building.{Holds, Acts, Takes, AllEnds, Reached, todo, IsExpanded, IsRule}
+use Rattle.maxj_syntax.specs.Table.{choices}
+use Rattle.maxj_syntax.specs.Lookahead.{weight}
+use Rattle.maxj_syntax.specs.Steps.{Entry, Below, Goes, read_top, read_below, act_top, act_below}
+use Rattle.maxj_syntax.specs.Building.{Acts, Takes, AllEnds, Reached, todo, IsExpanded, IsRule}
 use Rattle.maxj_syntax.proofs.Predict.{leads_on, leads_pick, leads_eat, refused_pick, refused_eat, refused_rest, unique, unique_end, ends_before}
-use Rattle.maxj_syntax.proofs.Complete.{append, expand, expand_named}
+use Rattle.maxj_syntax.proofs.Runs.{append, expand, expand_named}
 use Rattle.maxj_syntax.proofs.MoveLemmas.{from_move, to_move}
 use Rattle.maxj_syntax.proofs.NamedMoves.{from_named, to_named}
 use Rattle.maxj_syntax.proofs.Fits.{predicts, rule_fits, named_fits, and_left, and_right}
@@ -216,6 +217,3 @@ pub rule_less : (p : Symbol) (next : Option PlacedToken) (ps old new : List Symb
 rule_less p next ps old new i x f =
     let k = predicts.sound p next x.0 x.1 in
     rw (f, x.2) (chain_less p x.0 ps (light p x.0 i k) (predicts.choice_empty p x.0 k))
-
-pub act_less : (a : Action) (old new : List Symbol) → old ≡ Act a ∷ new → chain new < chain old
-act_less a old new e = rw e (omega arith)

@@ -1,19 +1,11 @@
 -- The table holds the family of moves, and no more.
-use Rattle.std.proofs.Common.{◌≡◌, ℕ, true, false, List, [], ◌∷◌, ◌⊎◌, inl, inr, refl, subst}
+use Rattle.std.proofs.Common.{true, false, List, inl, inr, refl, subst}
 use Rattle.maxj_syntax.specs.declared.level.Level.{Level}
-use Rattle.maxj_syntax.specs.declared.sign.Sign.TheVariants as S
-use Rattle.maxj_syntax.specs.declared.kind.Word.TheVariants as W
-use Rattle.maxj_syntax.specs.declared.tree.NodeKind.TheVariants as N
-use Rattle.maxj_syntax.specs.declared.symbol.TokenClass.{TokenClass}
-use Rattle.maxj_syntax.specs.declared.symbol.TokenClass.TheVariants as C
-use Rattle.maxj_syntax.specs.declared.symbol.Effect.TheVariants.{Skip, Leaf, Push, Over, Text}
-use Rattle.maxj_syntax.specs.declared.symbol.Action.TheVariants.{Begin, Wrap, Turn, Into, End, Inner, Named, Hole, Memory, Declare, Keep}
 use Rattle.maxj_syntax.specs.declared.symbol.Form.{Form}
 use Rattle.maxj_syntax.specs.declared.symbol.Site.{Site}
 use Rattle.maxj_syntax.specs.declared.symbol.Rule.{Rule}
 use Rattle.maxj_syntax.specs.declared.symbol.Rule.TheVariants as R
-use Rattle.maxj_syntax.specs.Symbols.{Inside, Symbol, Mark, Name, Sub, Call, Act}
-use Rattle.maxj_syntax.specs.Symbols as Y
+use Rattle.maxj_syntax.specs.Symbols.{Symbol}
 use Rattle.maxj_syntax.specs.Productions.{Above}
 use Rattle.maxj_syntax.specs.Moves.{Move}
 use Rattle.maxj_syntax.specs.Choosing.{Among}

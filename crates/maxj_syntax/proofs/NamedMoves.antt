@@ -1,10 +1,9 @@
 -- The choices of the rules that speak of names are those moves, and no others.
-use Rattle.std.proofs.Common.{◌≡◌, ℕ, Bool, true, false, List, [], ◌∷◌, ◌⊎◌, inl, inr, refl, sym, subst}
-use Rattle.maxj_syntax.specs.Productions.{is_name}
+use Rattle.std.proofs.Common.{ℕ, Bool, true, false, List, inl, inr, refl, subst}
 use Rattle.maxj_syntax.specs.Symbols.{Inside, Symbol, Call}
 use Rattle.maxj_syntax.specs.Symbols as Y
 use Rattle.maxj_syntax.specs.Moves.{NamedMove}
-use Rattle.maxj_syntax.specs.Choosing.{Among, IsBound, Choice, named_choices, binds, bound, member_choice, member_choices, ctor_choice, memory_choice, type_choice, after_choices}
+use Rattle.maxj_syntax.specs.Choosing.{Among, IsBound, Choice, named_choices, member_choice, member_choices, ctor_choice, memory_choice, type_choice, after_choices}
 
 member_in : (i : Inside) (u : Bool) → Among (member_choice i) (member_choices u i)
 member_in i true = inl refl

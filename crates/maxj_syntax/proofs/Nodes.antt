@@ -1,5 +1,5 @@
 -- Nodes that hold trees, and what the steps do to them.
-use Rattle.std.proofs.Common.{◌≡◌, ℕ, zero, suc, ◌+◌, ◌<◌, ◌≤◌, Bool, List, [], ◌∷◌, ◌++◌, Some, refl, sym, ap, subst, ◌∙◌, append_assoc, length, length-append, arith, slice_get, reverse, drop, take, min, ◌-◌, codes}
+use Rattle.std.proofs.Common.{◌≡◌, ℕ, zero, suc, ◌<◌, ◌≤◌, Bool, List, [], ◌∷◌, ◌++◌, Some, refl, sym, ap, subst, ◌∙◌, length, length-append, arith, slice_get, reverse, drop, take, min, ◌-◌, codes}
 use Rattle.std.proofs.lemmas.List.{length-drop}
 use Rattle.std.proofs.lemmas.List.{reverse-append}
 use Rattle.mx_base.specs.declared.span.Span.{Span}
@@ -8,12 +8,11 @@ use Rattle.maxj_syntax.specs.declared.tree.NodeKind.TheVariants as N
 use Rattle.maxj_syntax.specs.declared.tree.Node.{Node as Cell}
 use Rattle.maxj_syntax.specs.declared.tree.Class.{Class}
 use Rattle.maxj_syntax.specs.declared.build.Unfinished.{Unfinished}
-use Rattle.maxj_syntax.specs.declared.build.Builder.{Builder}
-use Rattle.maxj_syntax.specs.declared.symbol.Action.TheVariants.{Into, Inner, Named, Declare, Keep}
-use Rattle.maxj_syntax.specs.Scanning.{PlacedToken, span_of}
+use Rattle.maxj_syntax.specs.declared.symbol.Action.TheVariants.{Into, Declare, Keep}
+use Rattle.maxj_tokens.specs.Scanning.{PlacedToken, span_of}
 use Rattle.maxj_syntax.specs.Tree.{Tree, Node, Trees, Nil, Cons, one, ClassTree, IsAt, AreAt, ClassIs, ClassesAre}
-use Rattle.maxj_syntax.specs.Steps.{Entry, At, Below, Ground, On, act_top, act_below, add, add_last, no_span, tree_of, start_of, turned, spanned, with_text, text_of, add_classes, class_of, memory_type, between}
-use Rattle.maxj_syntax.specs.Building.{IsOpen, AreUnder, AreOpen, Holds, IsLeaf}
+use Rattle.maxj_syntax.specs.Steps.{Entry, At, Below, Ground, On, act_top, act_below, add_last, no_span, tree_of, start_of, add_classes, class_of, memory_type, between}
+use Rattle.maxj_syntax.specs.Building.{IsOpen, AreUnder, AreOpen, IsLeaf}
 
 get_append : (xs ys : List Cell) (n : ℕ) (x : Cell) → slice_get xs n ≡ Some x → slice_get (xs ++ ys) n ≡ Some x
 get_append [] ys n x e = absurd (cc)
@@ -124,14 +123,6 @@ alone tokens nodes classes old mid new o b s P e f g k h =
     let i = top_of_list tokens nodes classes old mid o b s e h in
     let j = no_below tokens nodes classes mid s f i.1 in
     subst (λ r. P b r) (sym j.1) (k j.0 (onto tokens nodes classes new mid o b (Ground j.0) g i.0 (subst (λ r. AreUnder nodes classes tokens (reverse mid) r) j.1 i.1)))
-
--- the two on top become one, by nodes that don't change
-pub two_to_one : (tokens : List PlacedToken) (nodes : List Cell) (classes : List Class) (old mid os new : List Unfinished) (o p q : Unfinished) (b : Entry) (s : Below) (P : Entry → Below → Type 0) → old ≡ mid ++ o ∷ [] → mid ≡ os ++ p ∷ [] → new ≡ os ++ q ∷ []
-    → ((c : Entry) (r : Below) → IsOpen nodes tokens o b → IsOpen nodes tokens p c → ((e : Entry) → IsOpen nodes tokens q e → AreOpen nodes classes tokens (reverse new) e r) → P b (On c r)) → AreOpen nodes classes tokens (reverse old) b s → P b s
-two_to_one tokens nodes classes old mid os new o p q b s P e f g k h =
-    let i = top_of_list tokens nodes classes old mid o b s e h in
-    let j = next_below tokens nodes classes mid os p s f i.1 in
-    subst (λ r. P b r) (sym j.2) (k j.0 j.1 i.0 j.3 (λ d m. onto tokens nodes classes new os q d j.1 g m j.4))
 
 -- the one on top changes
 pub replaced : (tokens : List PlacedToken) (nodes : List Cell) (classes : List Class) (old os new : List Unfinished) (o p : Unfinished) (b e : Entry) (s : Below) → old ≡ os ++ o ∷ [] → new ≡ os ++ p ∷ [] → (IsOpen nodes tokens o b → IsOpen nodes tokens p e) → AreOpen nodes classes tokens (reverse old) b s

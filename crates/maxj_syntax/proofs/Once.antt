@@ -1,15 +1,14 @@
 -- The tokens have at most one list of classes.
-use Rattle.std.proofs.Common.{◌≡◌, ℕ, List, [], ◌∷◌, ◌++◌, Option, Some, refl, sym, ap, subst, ◌∙◌}
+use Rattle.std.proofs.Common.{◌≡◌, List, [], ◌∷◌, ◌++◌, Option, Some, refl, sym, subst}
 use Rattle.grammar.specs.Stack.{Runs, AllFollow, Ends, head_of}
 use Rattle.grammar.proofs.Leftmost.{starts_from_runs}
-use Rattle.maxj_syntax.specs.declared.symbol.Rule.{Rule}
-use Rattle.maxj_syntax.specs.Scanning.{PlacedToken}
+use Rattle.maxj_tokens.specs.Scanning.{PlacedToken}
 use Rattle.maxj_syntax.specs.Tree.{ClassTree}
 use Rattle.maxj_syntax.specs.Productions.{IsFile}
-use Rattle.maxj_syntax.specs.Symbols.{Symbol, Mark, Name, Sub, Call, Act}
+use Rattle.maxj_syntax.specs.Symbols.{Symbol, Sub, Call}
 use Rattle.maxj_syntax.specs.Choosing.{Is, Choice, may, empties, peeks, choose}
 use Rattle.maxj_syntax.specs.Steps.{Entry, Below, Ground, Goes}
-use Rattle.maxj_syntax.specs.Building.{AllEnds, bottom}
+use Rattle.maxj_syntax.specs.Building.{AllEnds}
 use Rattle.maxj_syntax.proofs.Predict.{unique, unique_end, ends_before}
 use Rattle.maxj_syntax.proofs.Fits.{predicts}
 use Rattle.maxj_syntax.proofs.MoveLemmas.{from_move}

@@ -1,6 +1,6 @@
 -- Derivations from a place in the tokens up to another.
-use Rattle.std.proofs.Common.{◌≡◌, List, [], ◌∷◌, ◌++◌, refl, sym, ap, subst, ◌∙◌}
-use Rattle.maxj_syntax.specs.Scanning.{PlacedToken}
+use Rattle.std.proofs.Common.{◌≡◌, List, [], ◌∷◌, ◌++◌, sym, subst}
+use Rattle.maxj_tokens.specs.Scanning.{PlacedToken}
 use Rattle.maxj_syntax.specs.Productions.{Part, Is, Choice}
 use Rattle.maxj_syntax.specs.Steps.{between}
 

@@ -1,5 +1,5 @@
 -- Sets of kinds as numbers.
-use Rattle.std.proofs.Common.{◌≡◌, ◌^◌, ◌||◌, ◌∙◌, ℕ, Bool, true, false, List, [], ◌∷◌, refl, sym, ap, subst, bit_or, bit_and, arith, ◌≤◌, nat_eq, ◌⊎◌, inl, inr}
+use Rattle.std.proofs.Common.{◌≡◌, ◌^◌, ◌∙◌, ℕ, Bool, true, false, List, [], ◌∷◌, refl, ap, bit_or, bit_and, arith, ◌≤◌, nat_eq, ◌⊎◌, inl, inr}
 use Rattle.std.proofs.lemmas.Nat.Bits.{bit_at_or, bit_at_and, bit_at-zero, bit_at-pow_same, bit_at-pow_other}
 use Rattle.std.proofs.lemmas.Bool.{eqb-true, eq-eqb}
 use Rattle.std.specs.Int.{bit_at}
@@ -8,7 +8,7 @@ use Rattle.std.specs.List.{list_any}
 use Rattle.maxj_syntax.specs.declared.kind.Kind.{Kind}
 use Rattle.maxj_syntax.specs.declared.symbol.TokenClass.{TokenClass}
 use Rattle.maxj_syntax.specs.TokenClasses.{number, same, among, kinds_in, class_has}
-use Rattle.maxj_syntax.proofs.ByteTests.{or_true, or_left, or_right, clash, not_true}
+use Rattle.text_scan.proofs.ByteTests.{or_true, or_left, or_right, clash}
 
 has_one : (s k : ℕ) → has s k ≡ true → bit_at s k ≡ 1
 has_one s k e = eqb-true (bit_at s k) 1 e

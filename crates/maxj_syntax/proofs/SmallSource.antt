@@ -1,13 +1,19 @@
 -- The tree of a small source, by the productions.
-use Rattle.std.proofs.Common.{ℕ, false, List, [], ◌∷◌, codes, refl, subst, take, drop}
+use Rattle.std.proofs.Common.{◌≡◌, ℕ, true, false, List, [], ◌∷◌, codes, refl, subst, take, drop}
 use Rattle.std.proofs.lemmas.List.{take-append-drop}
 use Rattle.mx_base.specs.declared.span.Span.{Span}
 use Rattle.maxj_syntax.specs.declared.tree.NodeKind.TheVariants as N
-use Rattle.maxj_syntax.specs.Tokens.{Token}
-use Rattle.maxj_syntax.specs.Scanning.{PlacedToken, span_of}
+use Rattle.maxj_tokens.specs.Tokens.{Token}
+use Rattle.maxj_tokens.specs.Scanning.{PlacedToken, span_of}
 use Rattle.maxj_syntax.specs.Tree.{Tree, Node, Nil, one, two}
 use Rattle.maxj_syntax.specs.Derivation.{Derives}
-use Rattle.maxj_syntax.specs.Productions.{Part, Is, Choice, Above, IsFile}
+use Rattle.maxj_syntax.specs.Productions.{Part, Is, Choice, Above, IsFile, is_name}
+
+kernel_is_name : is_name (codes "Kernel") ≡ true
+kernel_is_name = refl
+
+super_is_none : is_name (codes "super") ≡ false
+super_is_none = refl
 
 abbrev at : ℕ → Token → PlacedToken
 at n t = record { token = t; place = n }

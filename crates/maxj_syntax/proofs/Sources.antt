@@ -3,20 +3,21 @@ use Rattle.std.proofs.Common.{◌≡◌, ◌∙◌, ℕ, zero, suc, ◌+◌, ◌
 use Rattle.std.proofs.lemmas.Bool.{ltb-true, ltb-false}
 use Rattle.std.specs.Prelude.{IsTrue, ◌↔◌}
 use Rattle.grammar.proofs.Reading.{two_fronts}
-use Rattle.maxj_syntax.specs.Scanning.{PlacedToken, AreTokens, begins_stray}
+use Rattle.maxj_tokens.specs.Scanning.{PlacedToken, AreTokens, begins_stray}
 use Rattle.maxj_syntax.specs.Tree.{ClassTree, ProgramIs}
 use Rattle.maxj_syntax.specs.Productions.{IsFile}
-use Rattle.maxj_syntax.specs.Faults.{IsFirst, HasNone, IsOutside, IsExcess, Begins, FirstBad, IsMisplaced, place_of, IsNoProject}
+use Rattle.maxj_tokens.specs.Faults.{IsFirst, HasNone, IsOutside, IsExcess}
+use Rattle.maxj_syntax.specs.Faults.{Begins, FirstBad, IsMisplaced, place_of, IsNoProject}
 use Rattle.maxj_syntax.specs.Source.{AreWithin, IsSourceOf, Fault, HasFirst}
 use Rattle.maxj_syntax.specs.declared.tree.Program.{Program}
-use Rattle.maxj_syntax.specs.declared.scanner.ScanError.{ScanError}
-use Rattle.maxj_syntax.specs.declared.scanner.ScanError.TheVariants as ScanErrors
+use Rattle.maxj_tokens.specs.declared.scanner.ScanError.{ScanError}
+use Rattle.maxj_tokens.specs.declared.scanner.ScanError.TheVariants as ScanErrors
 use Rattle.maxj_syntax.specs.declared.parser.ParseError.{ParseError}
 use Rattle.maxj_syntax.specs.declared.parser.ParseError.TheVariants as ParseErrors
-use Rattle.maxj_syntax.specs.Reading.{Fails}
+use Rattle.maxj_tokens.specs.Reading.{Fails}
 use Rattle.maxj_syntax.specs.Building.{IsTheFile, FailsToParse}
 use Rattle.maxj_syntax.specs.Outcomes.{IsTheSource, IsTheFault, FailsToRead, of_scan, of_parse}
-use Rattle.maxj_syntax.proofs.Readings.{one_reading, not_read, one_left, one_place}
+use Rattle.maxj_tokens.proofs.Readings.{one_reading, not_read, one_left, one_place}
 use Rattle.maxj_syntax.proofs.Once.{one_file}
 
 pub one_source : (bytes : List ℕ) (cs ds : List ClassTree) → IsSourceOf bytes cs → IsSourceOf bytes ds → cs ≡ ds
@@ -37,9 +38,6 @@ no_fault bytes cs Fault.NoProject s h = s.project (subst IsNoProject (one_file s
 
 token_same : {t u : PlacedToken} {ts us : List PlacedToken} → t ∷ ts ≡ u ∷ us → t ≡ u
 token_same e = cc
-
-tail_same : {t u : PlacedToken} {ts us : List PlacedToken} → t ∷ ts ≡ u ∷ us → ts ≡ us
-tail_same e = cc
 
 module _ (F : List PlacedToken → PlacedToken → Type 0) where
   longer : (before : List PlacedToken) (t : PlacedToken) (behind : List PlacedToken) {us : List PlacedToken} {q : ℕ} (b : IsFirst F us q) (m : List PlacedToken) → F before t → b.before ≡ before ++ m → t ∷ behind ≡ m ++ b.token ∷ b.behind → b.token ≡ t

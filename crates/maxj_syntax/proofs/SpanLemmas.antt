@@ -1,13 +1,11 @@
 -- Spans of tokens, and what the parser reads of a list of them.
-use Rattle.std.proofs.Common.{◌≡◌, ℕ, zero, suc, ◌+◌, ◌-◌, ◌<◌, ◌≤◌, List, [], ◌∷◌, Option, Some, None, refl, sym, ap, subst, ◌∙◌, arith, take, drop, length, get_or, map}
+use Rattle.std.proofs.Common.{◌≡◌, ℕ, zero, suc, ◌+◌, ◌-◌, ◌<◌, ◌≤◌, List, [], ◌∷◌, refl, sym, ap, subst, ◌∙◌, arith, take, drop, length, get_or}
 use Rattle.std.specs.List.{All}
-use Rattle.std.specs.Option.{option_map}
 use Rattle.std.proofs.lemmas.List.{length-drop}
 use Rattle.std.proofs.Math.ListN.{get_or-map, length-map}
-use Rattle.mx_base.specs.declared.span.Span.{Span}
-use Rattle.maxj_syntax.specs.declared.token.Placed.{Placed}
-use Rattle.maxj_syntax.specs.Scanning.{PlacedToken, from_of, to_of, span_of}
-use Rattle.maxj_syntax.specs.Reading.{placed_view}
+use Rattle.maxj_tokens.specs.declared.token.Placed.{Placed}
+use Rattle.maxj_tokens.specs.Scanning.{PlacedToken, from_of, to_of, span_of}
+use Rattle.maxj_tokens.specs.Reading.{placed_view}
 use Rattle.maxj_syntax.specs.Building.{view_of, EndsIn}
 
 to_last : (n : ℕ) (ts : List PlacedToken) (d : PlacedToken) → n < length ts → to_of (take (suc n) ts) ≡ to_of (get_or ts n d ∷ [])
@@ -52,9 +50,6 @@ span_view ts s e d d2 x h k f =
     other [] n d e h = absurd (omega (arith, h))
     other (t ∷ ts) zero d e h = refl
     other (t ∷ ts) (suc n) d e h = other ts n d e (omega (arith, h))
-
-pub no_span_is : (ts : List PlacedToken) (s e : ℕ) → e ≤ s → record { from = 0; to = 0 } ≡ span_of (take (e - s) (drop s ts))
-no_span_is ts s e h = let z : e - s ≡ 0 = omega (arith, h) in rw z refl
 
 pub ends_at : (ts : List Placed) (n : ℕ) (d : Placed) → n < length ts → All EndsIn (view_of ts) → EndsIn (placed_view (get_or ts n d))
 ends_at ts n d h a = let l : n < length (view_of ts) = (let m = length-map ts placed_view in omega (arith, h, m)) in subst (λ t. EndsIn t) (get_or-map placed_view ts n d) (a n (placed_view d) l)

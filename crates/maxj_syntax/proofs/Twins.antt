@@ -10,7 +10,7 @@ use Rattle.maxj_syntax.specs.Tree.{ClassTree, ClassesAre}
 use Rattle.maxj_syntax.specs.Faults.{has_class, has_twins}
 use Rattle.maxj_syntax.specs.declared.tree.Node.{Node as Cell}
 use Rattle.maxj_syntax.specs.declared.tree.Class.{Class}
-use Rattle.maxj_syntax.proofs.ByteTests.{clash, not_true, true_or_false, bytes_same}
+use Rattle.text_scan.proofs.ByteTests.{clash, not_true, true_or_false, bytes_same}
 
 abbrev pub names : List Class → List (List ℕ)
 names cs = map (λ (c : Class). c.name) cs

@@ -1,5 +1,5 @@
 -- How nodes hold trees that are being built, and how far the parser has come.
-use Rattle.std.specs.Prelude.{◌≡◌, ℕ, ◌<◌, ◌-◌, ◌+◌, ◌^◌, List, [], ◌∷◌, ◌++◌, Option, Some, None, drop, take, length, reverse, map, Bool, true, false}
+use Rattle.std.specs.Prelude.{◌≡◌, ℕ, ◌<◌, ◌-◌, ◌+◌, ◌^◌, List, [], ◌∷◌, ◌++◌, Option, Some, None, drop, length, reverse, map, Bool, true, false}
 use Rattle.grammar.specs.Stack.{Leads, Ends}
 use Rattle.mx_base.specs.declared.span.Span.{Span}
 use Rattle.maxj_syntax.specs.declared.tree.NodeKind.{NodeKind}
@@ -13,15 +13,15 @@ use Rattle.maxj_syntax.specs.declared.symbol.Effect.{Effect}
 use Rattle.maxj_syntax.specs.declared.symbol.Action.{Action}
 use Rattle.maxj_syntax.specs.declared.symbol.Rule.{Rule}
 use Rattle.maxj_syntax.specs.declared.symbol.Symbol.{Symbol as SymbolOf}
-use Rattle.maxj_syntax.specs.declared.token.Placed.{Placed}
+use Rattle.maxj_tokens.specs.declared.token.Placed.{Placed}
 use Rattle.maxj_syntax.specs.declared.parser.Settled.{Settled}
 use Rattle.maxj_syntax.specs.declared.parser.Settled.TheVariants as T
 use Rattle.maxj_syntax.specs.declared.parser.ParseError.{ParseError}
 use Rattle.maxj_syntax.specs.declared.parser.ParseError.TheVariants as E
-use Rattle.maxj_syntax.specs.Tokens.{Token, written}
-use Rattle.maxj_syntax.specs.Scanning.{PlacedToken, from_of}
-use Rattle.maxj_syntax.specs.Reading.{placed_view}
-use Rattle.maxj_syntax.specs.Tree.{Tree, Node, Trees, Nil, Cons, one, ClassTree, AreAt, ClassesAre, ProgramIs}
+use Rattle.maxj_tokens.specs.Tokens.{Token, written}
+use Rattle.maxj_tokens.specs.Scanning.{PlacedToken}
+use Rattle.maxj_tokens.specs.Reading.{placed_view}
+use Rattle.maxj_syntax.specs.Tree.{Node, Nil, one, ClassTree, AreAt, ClassesAre, ProgramIs}
 use Rattle.maxj_syntax.specs.Productions.{IsFile}
 use Rattle.maxj_syntax.specs.Faults.{FirstBad, IsMisplaced}
 use Rattle.maxj_syntax.specs.declared.kind.Kind.{Kind}
@@ -30,7 +30,7 @@ use Rattle.maxj_syntax.specs.Productions.{is_name}
 use Rattle.maxj_syntax.specs.Table.{choices, guards}
 use Rattle.maxj_syntax.specs.Symbols.{Symbol, Mark, Name, Sub, Call, symbol_view}
 use Rattle.maxj_syntax.specs.Choosing.{Is, Choice, may, empties, peeks, choose, pick}
-use Rattle.maxj_syntax.specs.Steps.{Entry, At, Below, Ground, On, Goes, fresh, no_span, start_of, tree_of, with_text, memory_type, read_top, read_below, act_top, act_below}
+use Rattle.maxj_syntax.specs.Steps.{Entry, At, Below, Ground, On, Goes, fresh, no_span, start_of, tree_of, with_text, read_top, read_below, act_top, act_below}
 
 abbrev pub IsOpen : List Cell → List PlacedToken → Unfinished → Entry → Type 0
 IsOpen nodes tokens o (At x (Node k w s children)) =

@@ -3,9 +3,8 @@ use Rattle.std.specs.Prelude.{◌≡◌, ◌⊎◌, ◌+◌, ◌^◌, ℕ, List,
 use Rattle.std.specs.List.{list_any}
 use Rattle.std.specs.Int.{bit_at}
 use Rattle.std.specs.Str.{bytes_eq}
-use Rattle.std.specs.Option.{option_map}
 use Rattle.grammar.specs.Stack.{all_empty}
-use Rattle.maxj_syntax.specs.declared.sign.Sign.TheVariants as S
+use Rattle.maxj_tokens.specs.declared.sign.Sign.TheVariants as S
 use Rattle.maxj_syntax.specs.declared.kind.Kind.{Kind}
 use Rattle.maxj_syntax.specs.declared.kind.Word.TheVariants as W
 use Rattle.maxj_syntax.specs.declared.tree.NodeKind.TheVariants as N
@@ -13,17 +12,17 @@ use Rattle.maxj_syntax.specs.declared.symbol.TokenClass.{TokenClass}
 use Rattle.maxj_syntax.specs.declared.symbol.TokenClass.TheVariants as C
 use Rattle.maxj_syntax.specs.declared.symbol.Effect.TheVariants.{Skip, Push, Text}
 use Rattle.maxj_syntax.specs.declared.symbol.Action.TheVariants.{Begin, Turn, Into, End, Named, Keep}
-use Rattle.maxj_syntax.specs.declared.symbol.Rule.{Rule}
 use Rattle.maxj_syntax.specs.declared.symbol.Rule.TheVariants as R
-use Rattle.maxj_syntax.specs.Tokens.{Token, written}
-use Rattle.maxj_syntax.specs.Scanning.{PlacedToken}
+use Rattle.maxj_tokens.specs.Tokens.{Token, written}
+use Rattle.maxj_tokens.specs.Scanning.{PlacedToken}
 use Rattle.maxj_syntax.specs.Kinds.{kind_of}
 use Rattle.maxj_syntax.specs.TokenClasses.{number, kinds_in, class_has, Accepts}
 use Rattle.maxj_syntax.specs.Productions.{is_name}
 use Rattle.maxj_syntax.specs.Symbols.{Inside, Symbol, Mark, Name, Sub, Call, Act}
 use Rattle.maxj_syntax.specs.Symbols as Y
 use Rattle.maxj_syntax.specs.Moves.{sign, word, is_own, made, and_members}
-use Rattle.maxj_syntax.specs.Table.{choices, guards, first, nullable, peek, weight}
+use Rattle.maxj_syntax.specs.Table.{choices, guards}
+use Rattle.maxj_syntax.specs.Lookahead.{first, nullable, peek, weight}
 
 -- sets of kinds as numbers: the kind with the number k is in the set where the bit k is 1
 

@@ -1,14 +1,14 @@
 -- The kinds of tokens that the parser tells apart.
-use Rattle.std.specs.Prelude.{ℕ, Bool, List, [], ◌∷◌, Option, Some, None, if◌then◌else◌, codes}
+use Rattle.std.specs.Prelude.{ℕ, Bool, List, [], ◌∷◌, Option, Some, None, if◌then◌else◌, nat_eq, length, codes}
 use Rattle.std.specs.Str.{bytes_eq}
-use Rattle.maxj_syntax.specs.declared.sign.Sign.{Sign}
-use Rattle.maxj_syntax.specs.declared.sign.Sign.TheVariants as S
+use Rattle.maxj_tokens.specs.declared.sign.Sign.{Sign}
+use Rattle.maxj_tokens.specs.declared.sign.Sign.TheVariants as S
 use Rattle.maxj_syntax.specs.declared.kind.Word.{Word}
 use Rattle.maxj_syntax.specs.declared.kind.Word.TheVariants as W
 use Rattle.maxj_syntax.specs.declared.kind.Kind.{Kind}
 use Rattle.maxj_syntax.specs.declared.kind.Kind.TheVariants as K
-use Rattle.maxj_syntax.specs.Tokens.{Token, is_word}
-use Rattle.maxj_syntax.specs.Reading.{sign_bytes}
+use Rattle.maxj_tokens.specs.Tokens.{Token, is_word}
+use Rattle.maxj_tokens.specs.Reading.{sign_bytes}
 
 abbrev pub word_bytes : Word → List ℕ
 word_bytes W.Package = codes "package"
@@ -52,6 +52,14 @@ all_signs =
     S.Open ∷ S.Close ∷ S.OpenBrace ∷ S.CloseBrace ∷ S.OpenBracket ∷ S.CloseBracket ∷ S.Semicolon ∷ S.Comma ∷ S.Dot ∷ S.Assign ∷ S.Plus ∷ S.Minus ∷ S.Star ∷ S.Slash ∷ S.Percent ∷ S.And ∷ S.Or ∷ S.Xor ∷ S.Tilde ∷ S.Not
     ∷ S.Question ∷ S.Colon ∷ S.Less ∷ S.Greater ∷ S.LessEqual ∷ S.GreaterEqual ∷ S.Equal ∷ S.NotEqual ∷ S.Same ∷ S.NotSame ∷ S.ShiftLeft ∷ S.ShiftRight ∷ S.AndAnd ∷ S.OrOr ∷ S.PlusPlus ∷ S.MinusMinus ∷ S.PlusAssign
     ∷ S.MinusAssign ∷ S.StarAssign ∷ S.Connect ∷ []
+
+-- those of the words that have so many bytes
+abbrev pub of_length : ℕ → List Word → List Word
+of_length n [] = []
+of_length n (w ∷ ws) = if nat_eq n (length (word_bytes w)) then w ∷ of_length n ws else of_length n ws
+
+abbrev pub words_of_length : ℕ → List Word
+words_of_length n = of_length n words
 
 -- the first of the words that is written so
 abbrev pub first_word : List ℕ → List Word → Option Word

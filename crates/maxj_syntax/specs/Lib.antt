@@ -1,7 +1,3 @@
-pub mod Tokens
-pub mod Scanning
-pub mod Classes
-pub mod Reading
 pub mod Tree
 pub mod Derivation
 pub mod Productions
@@ -12,6 +8,7 @@ pub mod Symbols
 pub mod Moves
 pub mod TokenClasses
 pub mod Table
+pub mod Lookahead
 pub mod Choosing
 pub mod Steps
 pub mod Building

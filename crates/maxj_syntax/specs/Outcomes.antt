@@ -1,8 +1,8 @@
 -- What the reader of a source tells of its bytes.
 use Rattle.std.specs.Prelude.{◌≡◌, ℕ, List}
 use Rattle.maxj_syntax.specs.declared.tree.Program.{Program}
-use Rattle.maxj_syntax.specs.declared.scanner.ScanError.{ScanError}
-use Rattle.maxj_syntax.specs.declared.scanner.ScanError.TheVariants as S
+use Rattle.maxj_tokens.specs.declared.scanner.ScanError.{ScanError}
+use Rattle.maxj_tokens.specs.declared.scanner.ScanError.TheVariants as S
 use Rattle.maxj_syntax.specs.declared.parser.ParseError.{ParseError}
 use Rattle.maxj_syntax.specs.declared.parser.ParseError.TheVariants as P
 use Rattle.maxj_syntax.specs.declared.source.SourceError.{SourceError}

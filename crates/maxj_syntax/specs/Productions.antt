@@ -1,18 +1,13 @@
 -- The productions of a source. A part carries the tree that it is read as.
 use Rattle.std.specs.Prelude.{◌≡◌, ℕ, Bool, true, false, not, ◌&&◌, List, [], ◌∷◌, codes}
-use Rattle.std.specs.List.{list_any}
-use Rattle.std.specs.Str.{bytes_eq}
 use Rattle.mx_base.specs.declared.span.Span.{Span}
 use Rattle.maxj_syntax.specs.declared.level.Level.{Level}
 use Rattle.maxj_syntax.specs.declared.tree.NodeKind.{NodeKind}
 use Rattle.maxj_syntax.specs.declared.tree.NodeKind.TheVariants as N
-use Rattle.maxj_syntax.specs.Tokens.{Token, is_word}
-use Rattle.maxj_syntax.specs.Scanning.{PlacedToken, span_of}
+use Rattle.maxj_tokens.specs.Tokens.{Token, is_word, is_among}
+use Rattle.maxj_tokens.specs.Scanning.{PlacedToken, span_of}
 use Rattle.maxj_syntax.specs.Tree.{Tree, Node, Trees, Nil, Cons, join, one, two, ClassTree}
 use Rattle.maxj_syntax.specs.Derivation.{Derives}
-
-abbrev pub is_among : List ℕ → List (List ℕ) → Bool
-is_among word words = list_any (bytes_eq word) words
 
 -- the words that are no names
 abbrev pub reserved_words : List (List ℕ)

@@ -1,10 +1,11 @@
 -- What a source is, and what its first fault is.
 use Rattle.std.specs.Prelude.{ℕ, List, length}
 use Rattle.maxj_syntax.specs.declared.tree.Program.{Program}
-use Rattle.maxj_syntax.specs.Scanning.{PlacedToken, AreTokens, HasStrayByte, HasNoToken}
+use Rattle.maxj_tokens.specs.Scanning.{PlacedToken, AreTokens, HasStrayByte, HasNoToken}
 use Rattle.maxj_syntax.specs.Tree.{ClassTree, ProgramIs}
 use Rattle.maxj_syntax.specs.Productions.{IsFile}
-use Rattle.maxj_syntax.specs.Faults.{IsFirst, HasNone, IsOutside, IsExcess, IsMisplaced, IsNoProject}
+use Rattle.maxj_tokens.specs.Faults.{IsFirst, HasNone, IsOutside, IsExcess}
+use Rattle.maxj_syntax.specs.Faults.{IsMisplaced, IsNoProject}
 
 -- the bytes are tokens, all within the profile
 pub record AreInside (bytes : List ℕ) (tokens : List PlacedToken) : Type 0 where

@@ -9,8 +9,8 @@ use Rattle.maxj_syntax.specs.declared.symbol.Effect.TheVariants.{Skip, Leaf, Pus
 use Rattle.maxj_syntax.specs.declared.symbol.Action.{Action}
 use Rattle.maxj_syntax.specs.declared.symbol.Action.TheVariants.{Begin, Wrap, Turn, Into, End, Inner, Named, Hole, Memory, Declare, Keep}
 use Rattle.maxj_syntax.specs.declared.symbol.Rule.{Rule}
-use Rattle.maxj_syntax.specs.Tokens.{Token, written}
-use Rattle.maxj_syntax.specs.Scanning.{PlacedToken, span_of, from_of}
+use Rattle.maxj_tokens.specs.Tokens.{Token, written}
+use Rattle.maxj_tokens.specs.Scanning.{PlacedToken, span_of, from_of}
 use Rattle.maxj_syntax.specs.Tree.{Tree, Node, Trees, Nil, Cons, one, ClassTree}
 use Rattle.maxj_syntax.specs.TokenClasses.{Accepts, leaf_kind}
 use Rattle.maxj_syntax.specs.Productions.{is_name, absent}

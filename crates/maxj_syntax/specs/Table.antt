@@ -1,50 +1,59 @@
--- The table of the parser: the choices of each rule, the tokens with which each is taken, and what the parser knows of a rule.
-use Rattle.std.specs.Prelude.{List, [], ◌∷◌, ℕ, Bool, true, false}
+-- The table of the parser: the choices of each rule, and the tokens with which each is taken.
+use Rattle.std.specs.Prelude.{List, [], ◌∷◌, ◌++◌, true, false}
 use Rattle.maxj_syntax.specs.declared.level.Level.{Level}
-use Rattle.maxj_syntax.specs.declared.sign.Sign.TheVariants as S
+use Rattle.maxj_tokens.specs.declared.sign.Sign.TheVariants as S
 use Rattle.maxj_syntax.specs.declared.kind.Word.TheVariants as W
 use Rattle.maxj_syntax.specs.declared.tree.NodeKind.TheVariants as N
 use Rattle.maxj_syntax.specs.declared.symbol.TokenClass.{TokenClass}
 use Rattle.maxj_syntax.specs.declared.symbol.TokenClass.TheVariants as C
 use Rattle.maxj_syntax.specs.declared.symbol.Effect.TheVariants.{Skip, Leaf, Push, Over, Text}
-use Rattle.maxj_syntax.specs.declared.symbol.Action.TheVariants.{Begin, Wrap, Turn, Into, End, Inner, Named, Hole, Memory, Declare, Keep}
+use Rattle.maxj_syntax.specs.declared.symbol.Action.TheVariants.{Begin, Wrap, Turn, Into, End, Inner, Named, Hole, Memory, Declare}
 use Rattle.maxj_syntax.specs.declared.symbol.Form.{Form}
 use Rattle.maxj_syntax.specs.declared.symbol.Site.{Site}
 use Rattle.maxj_syntax.specs.declared.symbol.Rule.{Rule}
 use Rattle.maxj_syntax.specs.declared.symbol.Rule.TheVariants as R
 use Rattle.maxj_syntax.specs.Symbols.{Inside, Symbol, Mark, Name, Sub, Call, Act}
 use Rattle.maxj_syntax.specs.Symbols as Y
+use Rattle.maxj_syntax.specs.Moves.{sign, word, onward, ordered, looser, close}
 
 -- the choices of a rule; the last one is taken where no other is
 abbrev pub choices : Rule → List (List Symbol)
 choices R.File = (Sub R.Package ∷ Sub R.Imports ∷ Sub R.Class ∷ Sub R.Classes ∷ []) ∷ []
-choices R.Package = (Mark (C.Word W.Package) Skip ∷ Sub R.Path ∷ Mark (C.Sign S.Semicolon) Skip ∷ []) ∷ [] ∷ []
+choices R.Package = (word W.Package ∷ Sub R.Path ∷ sign S.Semicolon ∷ []) ∷ [] ∷ []
 choices R.Path = (Mark C.Name Skip ∷ Sub R.MorePath ∷ []) ∷ []
-choices R.MorePath = (Mark (C.Sign S.Dot) Skip ∷ Mark C.Name Skip ∷ Sub R.MorePath ∷ []) ∷ [] ∷ []
-choices R.Imports = (Mark (C.Word W.Import) Skip ∷ Sub R.MaybeStatic ∷ Mark C.Name Skip ∷ Sub R.ImportMore ∷ Mark (C.Sign S.Semicolon) Skip ∷ Sub R.Imports ∷ []) ∷ [] ∷ []
-choices R.MaybeStatic = (Mark (C.Word W.Static) Skip ∷ []) ∷ [] ∷ []
-choices R.ImportMore = (Mark (C.Sign S.Dot) Skip ∷ Sub R.ImportDot ∷ []) ∷ [] ∷ []
-choices R.ImportDot = (Mark C.Name Skip ∷ Sub R.ImportMore ∷ []) ∷ (Mark (C.Sign S.Star) Skip ∷ []) ∷ []
+choices R.MorePath = (sign S.Dot ∷ Mark C.Name Skip ∷ Sub R.MorePath ∷ []) ∷ [] ∷ []
+choices R.Imports = (word W.Import ∷ Sub R.MaybeStatic ∷ Mark C.Name Skip ∷ Sub R.ImportMore ∷ sign S.Semicolon ∷ Sub R.Imports ∷ []) ∷ [] ∷ []
+choices R.MaybeStatic = (word W.Static ∷ []) ∷ [] ∷ []
+choices R.ImportMore = (sign S.Dot ∷ Sub R.ImportDot ∷ []) ∷ [] ∷ []
+choices R.ImportDot = (Mark C.Name Skip ∷ Sub R.ImportMore ∷ []) ∷ (sign S.Star ∷ []) ∷ []
 choices R.Classes = (Sub R.Class ∷ Sub R.Classes ∷ []) ∷ [] ∷ []
-choices R.Class = (Act (Begin N.Class) ∷ Sub R.Mods ∷ Mark (C.Word W.Class) Skip ∷ Call Y.ClassName ∷ []) ∷ []
+choices R.Class = (Act (Begin N.Class) ∷ Sub R.Mods ∷ word W.Class ∷ Call Y.ClassName ∷ []) ∷ []
 choices R.Mods = (Mark C.Modifier Skip ∷ Sub R.Mods ∷ []) ∷ [] ∷ []
-choices R.Declares = (Mark (C.Sign S.Semicolon) Skip ∷ Act End ∷ []) ∷ (Mark (C.Sign S.Assign) Skip ∷ Sub R.Init ∷ Act Into ∷ Mark (C.Sign S.Semicolon) Skip ∷ Act End ∷ []) ∷ (Act (Turn N.Method) ∷ Sub R.MethodRest ∷ []) ∷ []
-choices R.MethodRest = (Mark (C.Sign S.Open) Skip ∷ Sub R.Params ∷ Mark (C.Sign S.Close) Skip ∷ Sub R.Block ∷ Act Into ∷ Act End ∷ []) ∷ []
+choices R.Declares =
+    (sign S.Semicolon ∷ Act End ∷ [])
+    ∷ (sign S.Assign ∷ Sub R.Init ∷ Act Into ∷ sign S.Semicolon ∷ Act End ∷ [])
+    ∷ (Act (Turn N.Method) ∷ Sub R.MethodRest ∷ []) ∷ []
+choices R.MethodRest = (sign S.Open ∷ Sub R.Params ∷ sign S.Close ∷ Sub R.Block ∷ Act Into ∷ Act End ∷ []) ∷ []
 choices R.Params = (Sub R.Param ∷ Act Into ∷ Sub R.MoreParams ∷ []) ∷ [] ∷ []
-choices R.MoreParams = (Mark (C.Sign S.Comma) Skip ∷ Sub R.Param ∷ Act Into ∷ Sub R.MoreParams ∷ []) ∷ [] ∷ []
+choices R.MoreParams = (sign S.Comma ∷ Sub R.Param ∷ Act Into ∷ Sub R.MoreParams ∷ []) ∷ [] ∷ []
 choices R.Param = (Act (Begin N.Param) ∷ Sub R.MaybeFinal ∷ Sub R.TypeName ∷ Act Into ∷ Mark C.Name Text ∷ Act End ∷ []) ∷ []
-choices R.MaybeFinal = (Mark (C.Word W.Final) Skip ∷ []) ∷ [] ∷ []
+choices R.MaybeFinal = (word W.Final ∷ []) ∷ [] ∷ []
 choices (R.Opening false) = (Act (Begin N.Param) ∷ Sub R.MaybeFinal ∷ Mark (C.Word W.KernelParameters) (Push N.Plain) ∷ Act Into ∷ Call (Y.FirstParam false) ∷ []) ∷ []
 choices (R.Opening true) = (Act (Begin N.Param) ∷ Sub R.MaybeFinal ∷ Mark (C.Word W.EngineParameters) (Push N.Plain) ∷ Act Into ∷ Call (Y.FirstParam true) ∷ []) ∷ []
 choices (R.Opened false) = (Act End ∷ Act Into ∷ Sub R.MoreParams ∷ []) ∷ []
 choices (R.Opened true) = (Act End ∷ Act Into ∷ []) ∷ []
-choices R.SuperRest = (Mark (C.Sign S.Close) Skip ∷ Mark (C.Sign S.Semicolon) Skip ∷ Sub R.Stmts ∷ Mark (C.Sign S.CloseBrace) Skip ∷ Act End ∷ Act Into ∷ Act End ∷ []) ∷ []
-choices R.TypeName = (Mark (C.NameBut W.Memory) (Push N.Plain) ∷ Sub R.Dims ∷ []) ∷ (Mark (C.Word W.Memory) (Push N.Plain) ∷ Sub R.MemoryType ∷ Sub R.Dims ∷ []) ∷ (Mark C.TypeWord (Push N.Plain) ∷ Sub R.Dims ∷ []) ∷ []
-choices R.MemoryType = (Mark (C.Sign S.Less) Skip ∷ Mark (C.Word W.DFEVar) Skip ∷ Mark (C.Sign S.Greater) Skip ∷ Act End ∷ []) ∷ [] ∷ []
-choices R.Dims = (Act (Wrap N.ArrayOf) ∷ Mark (C.Sign S.OpenBracket) Skip ∷ Mark (C.Sign S.CloseBracket) Skip ∷ Act End ∷ Sub R.Dims ∷ []) ∷ [] ∷ []
+choices R.SuperRest = (sign S.Close ∷ sign S.Semicolon ∷ Sub R.Stmts ∷ sign S.CloseBrace ∷ Act End ∷ Act Into ∷ Act End ∷ []) ∷ []
+choices R.TypeName =
+    (Mark (C.NameBut W.Memory) (Push N.Plain) ∷ Sub R.Dims ∷ [])
+    ∷ (Mark (C.Word W.Memory) (Push N.Plain) ∷ Sub R.MemoryType ∷ Sub R.Dims ∷ [])
+    ∷ (Mark C.TypeWord (Push N.Plain) ∷ Sub R.Dims ∷ []) ∷ []
+choices R.MemoryType = (sign S.Less ∷ word W.DFEVar ∷ sign S.Greater ∷ Act End ∷ []) ∷ [] ∷ []
+choices R.Dims = (Act (Wrap N.ArrayOf) ∷ sign S.OpenBracket ∷ sign S.CloseBracket ∷ Act End ∷ Sub R.Dims ∷ []) ∷ [] ∷ []
 choices R.Expr = (Sub (R.Operand Level.Ors) ∷ Sub R.CondTail ∷ []) ∷ []
-choices R.CondTail = (Act (Wrap N.Cond) ∷ Mark (C.Sign S.Question) Skip ∷ Sub R.Expr ∷ Act Into ∷ Mark (C.Sign S.Colon) Skip ∷ Sub R.Expr ∷ Act Into ∷ Act End ∷ []) ∷ [] ∷ []
-choices (R.Operand Level.Prefixes) = (Mark (C.Operator Level.Prefixes) (Push N.Prefix) ∷ Sub (R.Operand Level.Prefixes) ∷ Act Into ∷ Act End ∷ []) ∷ (Sub R.Postfix ∷ []) ∷ []
+choices R.CondTail = (Act (Wrap N.Cond) ∷ sign S.Question ∷ Sub R.Expr ∷ Act Into ∷ sign S.Colon ∷ Sub R.Expr ∷ Act Into ∷ Act End ∷ []) ∷ [] ∷ []
+choices (R.Operand Level.Prefixes) =
+    (Mark (C.Operator Level.Prefixes) (Push N.Prefix) ∷ Sub (R.Operand Level.Prefixes) ∷ Act Into ∷ Act End ∷ [])
+    ∷ (Sub R.Postfix ∷ []) ∷ []
 choices (R.Operand Level.Products) = (Sub (R.Operand Level.Prefixes) ∷ Sub (R.Tail Level.Products) ∷ []) ∷ []
 choices (R.Operand Level.Sums) = (Sub (R.Operand Level.Products) ∷ Sub (R.Tail Level.Sums) ∷ []) ∷ []
 choices (R.Operand Level.Shifts) = (Sub (R.Operand Level.Sums) ∷ Sub (R.Tail Level.Shifts) ∷ []) ∷ []
@@ -56,74 +65,217 @@ choices (R.Operand Level.BitOrs) = (Sub (R.Operand Level.BitXors) ∷ Sub (R.Tai
 choices (R.Operand Level.Ands) = (Sub (R.Operand Level.BitOrs) ∷ Sub (R.Tail Level.Ands) ∷ []) ∷ []
 choices (R.Operand Level.Ors) = (Sub (R.Operand Level.Ands) ∷ Sub (R.Tail Level.Ors) ∷ []) ∷ []
 choices (R.Tail Level.Prefixes) = [] ∷ []
-choices (R.Tail Level.Products) = (Mark (C.Operator Level.Products) (Over N.Binary) ∷ Sub (R.Operand Level.Prefixes) ∷ Act Into ∷ Act End ∷ Sub (R.Tail Level.Products) ∷ []) ∷ [] ∷ []
-choices (R.Tail Level.Sums) = (Mark (C.Operator Level.Sums) (Over N.Binary) ∷ Sub (R.Operand Level.Products) ∷ Act Into ∷ Act End ∷ Sub (R.Tail Level.Sums) ∷ []) ∷ [] ∷ []
-choices (R.Tail Level.Shifts) = (Mark (C.Operator Level.Shifts) (Over N.Binary) ∷ Sub (R.Operand Level.Sums) ∷ Act Into ∷ Act End ∷ Sub (R.Tail Level.Shifts) ∷ []) ∷ [] ∷ []
-choices (R.Tail Level.Orders) = (Mark (C.Operator Level.Orders) (Over N.Binary) ∷ Sub (R.Operand Level.Shifts) ∷ Act Into ∷ Act End ∷ Sub (R.Tail Level.Orders) ∷ []) ∷ [] ∷ []
-choices (R.Tail Level.Equalities) = (Mark (C.Operator Level.Equalities) (Over N.Binary) ∷ Sub (R.Operand Level.Orders) ∷ Act Into ∷ Act End ∷ Sub (R.Tail Level.Equalities) ∷ []) ∷ [] ∷ []
-choices (R.Tail Level.BitAnds) = (Mark (C.Operator Level.BitAnds) (Over N.Binary) ∷ Sub (R.Operand Level.Equalities) ∷ Act Into ∷ Act End ∷ Sub (R.Tail Level.BitAnds) ∷ []) ∷ [] ∷ []
-choices (R.Tail Level.BitXors) = (Mark (C.Operator Level.BitXors) (Over N.Binary) ∷ Sub (R.Operand Level.BitAnds) ∷ Act Into ∷ Act End ∷ Sub (R.Tail Level.BitXors) ∷ []) ∷ [] ∷ []
-choices (R.Tail Level.BitOrs) = (Mark (C.Operator Level.BitOrs) (Over N.Binary) ∷ Sub (R.Operand Level.BitXors) ∷ Act Into ∷ Act End ∷ Sub (R.Tail Level.BitOrs) ∷ []) ∷ [] ∷ []
-choices (R.Tail Level.Ands) = (Mark (C.Operator Level.Ands) (Over N.Binary) ∷ Sub (R.Operand Level.BitOrs) ∷ Act Into ∷ Act End ∷ Sub (R.Tail Level.Ands) ∷ []) ∷ [] ∷ []
-choices (R.Tail Level.Ors) = (Mark (C.Operator Level.Ors) (Over N.Binary) ∷ Sub (R.Operand Level.Ands) ∷ Act Into ∷ Act End ∷ Sub (R.Tail Level.Ors) ∷ []) ∷ [] ∷ []
-choices R.Postfix = (Mark C.Literal Leaf ∷ Sub R.Post ∷ []) ∷ (Mark C.ValueWord (Push N.Name) ∷ Sub R.Post ∷ []) ∷ (Mark C.Name (Push N.Name) ∷ Sub R.Called ∷ Sub R.Post ∷ []) ∷ (Act (Begin N.Empty) ∷ Mark (C.Sign S.Open) Skip ∷ Sub R.Expr ∷ Mark (C.Sign S.Close) Skip ∷ Act Inner ∷ Sub R.Post ∷ []) ∷ (Act (Begin N.New) ∷ Mark (C.Word W.New) Skip ∷ Sub R.NewBase ∷ []) ∷ []
-choices R.Called = (Act (Turn N.Call) ∷ Mark (C.Sign S.Open) Skip ∷ Sub R.Args ∷ Mark (C.Sign S.Close) Skip ∷ Act End ∷ []) ∷ [] ∷ []
+choices (R.Tail Level.Products) =
+    (Mark (C.Operator Level.Products) (Over N.Binary) ∷ Sub (R.Operand Level.Prefixes) ∷ Act Into ∷ Act End ∷ Sub (R.Tail Level.Products) ∷ [])
+    ∷ [] ∷ []
+choices (R.Tail Level.Sums) =
+    (Mark (C.Operator Level.Sums) (Over N.Binary) ∷ Sub (R.Operand Level.Products) ∷ Act Into ∷ Act End ∷ Sub (R.Tail Level.Sums) ∷ [])
+    ∷ [] ∷ []
+choices (R.Tail Level.Shifts) =
+    (Mark (C.Operator Level.Shifts) (Over N.Binary) ∷ Sub (R.Operand Level.Sums) ∷ Act Into ∷ Act End ∷ Sub (R.Tail Level.Shifts) ∷ [])
+    ∷ [] ∷ []
+choices (R.Tail Level.Orders) =
+    (Mark (C.Operator Level.Orders) (Over N.Binary) ∷ Sub (R.Operand Level.Shifts) ∷ Act Into ∷ Act End ∷ Sub (R.Tail Level.Orders) ∷ [])
+    ∷ [] ∷ []
+choices (R.Tail Level.Equalities) =
+    (Mark (C.Operator Level.Equalities) (Over N.Binary) ∷ Sub (R.Operand Level.Orders) ∷ Act Into ∷ Act End ∷ Sub (R.Tail Level.Equalities) ∷ [])
+    ∷ [] ∷ []
+choices (R.Tail Level.BitAnds) =
+    (Mark (C.Operator Level.BitAnds) (Over N.Binary) ∷ Sub (R.Operand Level.Equalities) ∷ Act Into ∷ Act End ∷ Sub (R.Tail Level.BitAnds) ∷ [])
+    ∷ [] ∷ []
+choices (R.Tail Level.BitXors) =
+    (Mark (C.Operator Level.BitXors) (Over N.Binary) ∷ Sub (R.Operand Level.BitAnds) ∷ Act Into ∷ Act End ∷ Sub (R.Tail Level.BitXors) ∷ [])
+    ∷ [] ∷ []
+choices (R.Tail Level.BitOrs) =
+    (Mark (C.Operator Level.BitOrs) (Over N.Binary) ∷ Sub (R.Operand Level.BitXors) ∷ Act Into ∷ Act End ∷ Sub (R.Tail Level.BitOrs) ∷ [])
+    ∷ [] ∷ []
+choices (R.Tail Level.Ands) =
+    (Mark (C.Operator Level.Ands) (Over N.Binary) ∷ Sub (R.Operand Level.BitOrs) ∷ Act Into ∷ Act End ∷ Sub (R.Tail Level.Ands) ∷ [])
+    ∷ [] ∷ []
+choices (R.Tail Level.Ors) =
+    (Mark (C.Operator Level.Ors) (Over N.Binary) ∷ Sub (R.Operand Level.Ands) ∷ Act Into ∷ Act End ∷ Sub (R.Tail Level.Ors) ∷ [])
+    ∷ [] ∷ []
+choices R.Postfix =
+    (Mark C.Literal Leaf ∷ Sub R.Post ∷ [])
+    ∷ (Mark C.ValueWord (Push N.Name) ∷ Sub R.Post ∷ [])
+    ∷ (Mark C.Name (Push N.Name) ∷ Sub R.Called ∷ Sub R.Post ∷ [])
+    ∷ (Act (Begin N.Empty) ∷ sign S.Open ∷ Sub R.Expr ∷ sign S.Close ∷ Act Inner ∷ Sub R.Post ∷ [])
+    ∷ (Act (Begin N.New) ∷ word W.New ∷ Sub R.NewBase ∷ []) ∷ []
+choices R.Called = (Act (Turn N.Call) ∷ sign S.Open ∷ Sub R.Args ∷ sign S.Close ∷ Act End ∷ []) ∷ [] ∷ []
 choices R.Args = (Sub R.Expr ∷ Act Into ∷ Sub R.MoreArgs ∷ []) ∷ [] ∷ []
-choices R.MoreArgs = (Mark (C.Sign S.Comma) Skip ∷ Sub R.Expr ∷ Act Into ∷ Sub R.MoreArgs ∷ []) ∷ [] ∷ []
-choices R.Post = (Mark (C.Sign S.Dot) Skip ∷ Mark C.Name (Over N.Dot) ∷ Sub R.Dotted ∷ Sub R.Post ∷ []) ∷ (Act (Wrap N.Index) ∷ Mark (C.Sign S.OpenBracket) Skip ∷ Sub R.Expr ∷ Act Into ∷ Mark (C.Sign S.CloseBracket) Skip ∷ Act End ∷ Sub R.Post ∷ []) ∷ [] ∷ []
-choices R.Dotted = (Act (Turn N.DotCall) ∷ Mark (C.Sign S.Open) Skip ∷ Sub R.Args ∷ Mark (C.Sign S.Close) Skip ∷ Act End ∷ []) ∷ (Act End ∷ []) ∷ []
-choices R.NewBase = (Mark (C.NameBut W.Memory) (Push N.Plain) ∷ Sub R.NewRest ∷ []) ∷ (Mark (C.Word W.Memory) (Push N.Plain) ∷ Sub R.NewMemory ∷ []) ∷ (Mark C.TypeWord (Push N.Plain) ∷ Act Into ∷ Act (Turn N.NewArray) ∷ Sub R.Sizes ∷ Act End ∷ Sub R.FreshTail ∷ []) ∷ []
-choices R.NewMemory = (Mark (C.Sign S.Less) Skip ∷ Mark (C.Word W.DFEVar) Skip ∷ Mark (C.Sign S.Greater) Skip ∷ Act End ∷ Act Into ∷ Act (Turn N.NewArray) ∷ Sub R.Sizes ∷ Act End ∷ Sub R.FreshTail ∷ []) ∷ (Sub R.NewRest ∷ []) ∷ []
-choices R.NewRest = (Act Named ∷ Mark (C.Sign S.Open) Skip ∷ Sub R.Args ∷ Mark (C.Sign S.Close) Skip ∷ Act End ∷ Sub R.Post ∷ []) ∷ (Act Into ∷ Act (Turn N.NewArray) ∷ Sub R.Sizes ∷ Act End ∷ Sub R.FreshTail ∷ []) ∷ []
-choices R.FreshTail = (Mark (C.Sign S.Dot) Skip ∷ Mark C.Name (Over N.Dot) ∷ Sub R.Dotted ∷ Sub R.Post ∷ []) ∷ [] ∷ []
-choices R.Sizes = (Mark (C.Sign S.OpenBracket) Skip ∷ Sub R.Expr ∷ Act Into ∷ Mark (C.Sign S.CloseBracket) Skip ∷ Sub R.MoreSizes ∷ []) ∷ []
+choices R.MoreArgs = (sign S.Comma ∷ Sub R.Expr ∷ Act Into ∷ Sub R.MoreArgs ∷ []) ∷ [] ∷ []
+choices R.Post =
+    (sign S.Dot ∷ Mark C.Name (Over N.Dot) ∷ Sub R.Dotted ∷ Sub R.Post ∷ [])
+    ∷ (Act (Wrap N.Index) ∷ sign S.OpenBracket ∷ Sub R.Expr ∷ Act Into ∷ sign S.CloseBracket ∷ Act End ∷ Sub R.Post ∷ [])
+    ∷ [] ∷ []
+choices R.Dotted = (Act (Turn N.DotCall) ∷ sign S.Open ∷ Sub R.Args ∷ sign S.Close ∷ Act End ∷ []) ∷ (Act End ∷ []) ∷ []
+choices R.NewBase =
+    (Mark (C.NameBut W.Memory) (Push N.Plain) ∷ Sub R.NewRest ∷ [])
+    ∷ (Mark (C.Word W.Memory) (Push N.Plain) ∷ Sub R.NewMemory ∷ [])
+    ∷ (Mark C.TypeWord (Push N.Plain) ∷ Act Into ∷ Act (Turn N.NewArray) ∷ Sub R.Sizes ∷ Act End ∷ Sub R.FreshTail ∷ []) ∷ []
+choices R.NewMemory =
+    (sign S.Less ∷ word W.DFEVar ∷ sign S.Greater ∷ Act End ∷ Act Into ∷ Act (Turn N.NewArray) ∷ Sub R.Sizes ∷ Act End ∷ Sub R.FreshTail ∷ [])
+    ∷ (Sub R.NewRest ∷ []) ∷ []
+choices R.NewRest =
+    (Act Named ∷ sign S.Open ∷ Sub R.Args ∷ sign S.Close ∷ Act End ∷ Sub R.Post ∷ [])
+    ∷ (Act Into ∷ Act (Turn N.NewArray) ∷ Sub R.Sizes ∷ Act End ∷ Sub R.FreshTail ∷ []) ∷ []
+choices R.FreshTail = (sign S.Dot ∷ Mark C.Name (Over N.Dot) ∷ Sub R.Dotted ∷ Sub R.Post ∷ []) ∷ [] ∷ []
+choices R.Sizes = (sign S.OpenBracket ∷ Sub R.Expr ∷ Act Into ∷ sign S.CloseBracket ∷ Sub R.MoreSizes ∷ []) ∷ []
 choices R.MoreSizes = (Sub R.Sizes ∷ []) ∷ [] ∷ []
 choices R.Simple = (Mark C.Name (Push N.Name) ∷ Sub R.NameRest ∷ []) ∷ (Sub R.Other ∷ []) ∷ []
-choices R.NameRest = (Act (Turn N.Call) ∷ Mark (C.Sign S.Open) Skip ∷ Sub R.Args ∷ Mark (C.Sign S.Close) Skip ∷ Act End ∷ Sub (R.Rest Form.Call) ∷ []) ∷ (Sub (R.Rest Form.Place) ∷ []) ∷ []
-choices R.Other = (Mark (C.Operator Level.Prefixes) (Push N.Prefix) ∷ Sub (R.Operand Level.Prefixes) ∷ Act Into ∷ Act End ∷ Sub (R.Tail Level.Products) ∷ Sub (R.Tail Level.Sums) ∷ Sub (R.Tail Level.Shifts) ∷ Sub (R.Tail Level.Orders) ∷ Sub (R.Tail Level.Equalities) ∷ Sub (R.Tail Level.BitAnds) ∷ Sub (R.Tail Level.BitXors) ∷ Sub (R.Tail Level.BitOrs) ∷ Sub (R.Tail Level.Ands) ∷ Sub (R.Tail Level.Ors) ∷ Sub R.CondTail ∷ Act (Wrap N.Connect) ∷ Mark (C.Sign S.Connect) Skip ∷ Sub R.Expr ∷ Act Into ∷ Act End ∷ []) ∷ (Mark C.Literal Leaf ∷ Sub (R.Rest Form.Free) ∷ []) ∷ (Mark C.ValueWord (Push N.Name) ∷ Sub (R.Rest Form.Free) ∷ []) ∷ (Act (Begin N.Empty) ∷ Mark (C.Sign S.Open) Skip ∷ Sub R.Expr ∷ Mark (C.Sign S.Close) Skip ∷ Act Inner ∷ Sub (R.Rest Form.Free) ∷ []) ∷ (Act (Begin N.New) ∷ Mark (C.Word W.New) Skip ∷ Sub R.NewStmt ∷ []) ∷ []
-choices R.NewStmt = (Mark (C.NameBut W.Memory) (Push N.Plain) ∷ Sub R.NewStmtRest ∷ []) ∷ (Mark (C.Word W.Memory) (Push N.Plain) ∷ Sub R.NewStmtMemory ∷ []) ∷ (Mark C.TypeWord (Push N.Plain) ∷ Act Into ∷ Act (Turn N.NewArray) ∷ Sub R.Sizes ∷ Act End ∷ Sub (R.Rest Form.Fresh) ∷ []) ∷ []
-choices R.NewStmtMemory = (Mark (C.Sign S.Less) Skip ∷ Mark (C.Word W.DFEVar) Skip ∷ Mark (C.Sign S.Greater) Skip ∷ Act End ∷ Act Into ∷ Act (Turn N.NewArray) ∷ Sub R.Sizes ∷ Act End ∷ Sub (R.Rest Form.Fresh) ∷ []) ∷ (Sub R.NewStmtRest ∷ []) ∷ []
-choices R.NewStmtRest = (Act Named ∷ Mark (C.Sign S.Open) Skip ∷ Sub R.Args ∷ Mark (C.Sign S.Close) Skip ∷ Act End ∷ Sub (R.Rest Form.Call) ∷ []) ∷ (Act Into ∷ Act (Turn N.NewArray) ∷ Sub R.Sizes ∷ Act End ∷ Sub (R.Rest Form.Fresh) ∷ []) ∷ []
-choices (R.Rest Form.Place) = (Act (Wrap N.Index) ∷ Mark (C.Sign S.OpenBracket) Skip ∷ Sub R.Expr ∷ Act Into ∷ Mark (C.Sign S.CloseBracket) Skip ∷ Act End ∷ Sub (R.Rest Form.Place) ∷ []) ∷ (Sub R.Bare ∷ []) ∷ []
-choices (R.Rest Form.Call) = (Act (Wrap N.Index) ∷ Mark (C.Sign S.OpenBracket) Skip ∷ Sub R.Expr ∷ Act Into ∷ Mark (C.Sign S.CloseBracket) Skip ∷ Act End ∷ Sub (R.Rest Form.Free) ∷ []) ∷ (Mark (C.Sign S.Dot) Skip ∷ Mark C.Name (Over N.Dot) ∷ Sub R.DottedRest ∷ []) ∷ (Sub (R.Tail Level.Products) ∷ Sub (R.Tail Level.Sums) ∷ Sub (R.Tail Level.Shifts) ∷ Sub (R.Tail Level.Orders) ∷ Sub (R.Tail Level.Equalities) ∷ Sub (R.Tail Level.BitAnds) ∷ Sub (R.Tail Level.BitXors) ∷ Sub (R.Tail Level.BitOrs) ∷ Sub (R.Tail Level.Ands) ∷ Sub (R.Tail Level.Ors) ∷ Sub R.CondTail ∷ Act (Wrap N.Connect) ∷ Mark (C.Sign S.Connect) Skip ∷ Sub R.Expr ∷ Act Into ∷ Act End ∷ []) ∷ (Act (Wrap N.Run) ∷ Act End ∷ []) ∷ []
-choices (R.Rest Form.Free) = (Act (Wrap N.Index) ∷ Mark (C.Sign S.OpenBracket) Skip ∷ Sub R.Expr ∷ Act Into ∷ Mark (C.Sign S.CloseBracket) Skip ∷ Act End ∷ Sub (R.Rest Form.Free) ∷ []) ∷ (Mark (C.Sign S.Dot) Skip ∷ Mark C.Name (Over N.Dot) ∷ Sub R.DottedRest ∷ []) ∷ (Sub (R.Tail Level.Products) ∷ Sub (R.Tail Level.Sums) ∷ Sub (R.Tail Level.Shifts) ∷ Sub (R.Tail Level.Orders) ∷ Sub (R.Tail Level.Equalities) ∷ Sub (R.Tail Level.BitAnds) ∷ Sub (R.Tail Level.BitXors) ∷ Sub (R.Tail Level.BitOrs) ∷ Sub (R.Tail Level.Ands) ∷ Sub (R.Tail Level.Ors) ∷ Sub R.CondTail ∷ Act (Wrap N.Connect) ∷ Mark (C.Sign S.Connect) Skip ∷ Sub R.Expr ∷ Act Into ∷ Act End ∷ []) ∷ []
-choices (R.Rest Form.Fresh) = (Mark (C.Sign S.Dot) Skip ∷ Mark C.Name (Over N.Dot) ∷ Sub R.DottedRest ∷ []) ∷ (Sub (R.Tail Level.Products) ∷ Sub (R.Tail Level.Sums) ∷ Sub (R.Tail Level.Shifts) ∷ Sub (R.Tail Level.Orders) ∷ Sub (R.Tail Level.Equalities) ∷ Sub (R.Tail Level.BitAnds) ∷ Sub (R.Tail Level.BitXors) ∷ Sub (R.Tail Level.BitOrs) ∷ Sub (R.Tail Level.Ands) ∷ Sub (R.Tail Level.Ors) ∷ Sub R.CondTail ∷ Act (Wrap N.Connect) ∷ Mark (C.Sign S.Connect) Skip ∷ Sub R.Expr ∷ Act Into ∷ Act End ∷ []) ∷ []
-choices R.Bare = (Mark C.Assigning (Over N.Set) ∷ Sub R.Expr ∷ Act Into ∷ Act End ∷ []) ∷ (Mark C.Counting (Over N.Set) ∷ Act End ∷ []) ∷ (Mark (C.Sign S.Dot) Skip ∷ Mark C.Name (Over N.Dot) ∷ Sub R.DottedRest ∷ []) ∷ (Sub (R.Tail Level.Products) ∷ Sub (R.Tail Level.Sums) ∷ Sub (R.Tail Level.Shifts) ∷ Sub (R.Tail Level.Orders) ∷ Sub (R.Tail Level.Equalities) ∷ Sub (R.Tail Level.BitAnds) ∷ Sub (R.Tail Level.BitXors) ∷ Sub (R.Tail Level.BitOrs) ∷ Sub (R.Tail Level.Ands) ∷ Sub (R.Tail Level.Ors) ∷ Sub R.CondTail ∷ Act (Wrap N.Connect) ∷ Mark (C.Sign S.Connect) Skip ∷ Sub R.Expr ∷ Act Into ∷ Act End ∷ []) ∷ []
-choices R.DottedRest = (Act (Turn N.DotCall) ∷ Mark (C.Sign S.Open) Skip ∷ Sub R.Args ∷ Mark (C.Sign S.Close) Skip ∷ Act End ∷ Sub (R.Rest Form.Call) ∷ []) ∷ (Act End ∷ Sub (R.Rest Form.Free) ∷ []) ∷ []
-choices R.Init = (Sub R.Expr ∷ []) ∷ (Act (Begin N.Braces) ∷ Mark (C.Sign S.OpenBrace) Skip ∷ Sub R.Inits ∷ Mark (C.Sign S.CloseBrace) Skip ∷ Act End ∷ []) ∷ []
+choices R.NameRest = (Act (Turn N.Call) ∷ sign S.Open ∷ Sub R.Args ∷ sign S.Close ∷ Act End ∷ Sub (R.Rest Form.Call) ∷ []) ∷ (Sub (R.Rest Form.Place) ∷ []) ∷ []
+choices R.Other =
+    (Mark (C.Operator Level.Prefixes) (Push N.Prefix) ∷ Sub (R.Operand Level.Prefixes) ∷ Act Into ∷ Act End ∷ onward)
+    ∷ (Mark C.Literal Leaf ∷ Sub (R.Rest Form.Free) ∷ [])
+    ∷ (Mark C.ValueWord (Push N.Name) ∷ Sub (R.Rest Form.Free) ∷ [])
+    ∷ (Act (Begin N.Empty) ∷ sign S.Open ∷ Sub R.Expr ∷ sign S.Close ∷ Act Inner ∷ Sub (R.Rest Form.Free) ∷ [])
+    ∷ (Act (Begin N.New) ∷ word W.New ∷ Sub R.NewStmt ∷ []) ∷ []
+choices R.NewStmt =
+    (Mark (C.NameBut W.Memory) (Push N.Plain) ∷ Sub R.NewStmtRest ∷ [])
+    ∷ (Mark (C.Word W.Memory) (Push N.Plain) ∷ Sub R.NewStmtMemory ∷ [])
+    ∷ (Mark C.TypeWord (Push N.Plain) ∷ Act Into ∷ Act (Turn N.NewArray) ∷ Sub R.Sizes ∷ Act End ∷ Sub (R.Rest Form.Fresh) ∷ []) ∷ []
+choices R.NewStmtMemory =
+    (sign S.Less ∷ word W.DFEVar ∷ sign S.Greater ∷ Act End ∷ Act Into ∷ Act (Turn N.NewArray) ∷ Sub R.Sizes ∷ Act End ∷ Sub (R.Rest Form.Fresh) ∷ [])
+    ∷ (Sub R.NewStmtRest ∷ []) ∷ []
+choices R.NewStmtRest =
+    (Act Named ∷ sign S.Open ∷ Sub R.Args ∷ sign S.Close ∷ Act End ∷ Sub (R.Rest Form.Call) ∷ [])
+    ∷ (Act Into ∷ Act (Turn N.NewArray) ∷ Sub R.Sizes ∷ Act End ∷ Sub (R.Rest Form.Fresh) ∷ []) ∷ []
+choices (R.Rest Form.Place) =
+    (Act (Wrap N.Index) ∷ sign S.OpenBracket ∷ Sub R.Expr ∷ Act Into ∷ sign S.CloseBracket ∷ Act End ∷ Sub (R.Rest Form.Place) ∷ [])
+    ∷ (Sub R.Bare ∷ []) ∷ []
+choices (R.Rest Form.Call) =
+    (Act (Wrap N.Index) ∷ sign S.OpenBracket ∷ Sub R.Expr ∷ Act Into ∷ sign S.CloseBracket ∷ Act End ∷ Sub (R.Rest Form.Free) ∷ [])
+    ∷ (sign S.Dot ∷ Mark C.Name (Over N.Dot) ∷ Sub R.DottedRest ∷ [])
+    ∷ onward
+    ∷ (Act (Wrap N.Run) ∷ Act End ∷ []) ∷ []
+choices (R.Rest Form.Free) =
+    (Act (Wrap N.Index) ∷ sign S.OpenBracket ∷ Sub R.Expr ∷ Act Into ∷ sign S.CloseBracket ∷ Act End ∷ Sub (R.Rest Form.Free) ∷ [])
+    ∷ (sign S.Dot ∷ Mark C.Name (Over N.Dot) ∷ Sub R.DottedRest ∷ [])
+    ∷ onward ∷ []
+choices (R.Rest Form.Fresh) = (sign S.Dot ∷ Mark C.Name (Over N.Dot) ∷ Sub R.DottedRest ∷ []) ∷ onward ∷ []
+choices R.Bare =
+    (Mark C.Assigning (Over N.Set) ∷ Sub R.Expr ∷ Act Into ∷ Act End ∷ [])
+    ∷ (Mark C.Counting (Over N.Set) ∷ Act End ∷ [])
+    ∷ (sign S.Dot ∷ Mark C.Name (Over N.Dot) ∷ Sub R.DottedRest ∷ [])
+    ∷ onward ∷ []
+choices R.DottedRest =
+    (Act (Turn N.DotCall) ∷ sign S.Open ∷ Sub R.Args ∷ sign S.Close ∷ Act End ∷ Sub (R.Rest Form.Call) ∷ [])
+    ∷ (Act End ∷ Sub (R.Rest Form.Free) ∷ []) ∷ []
+choices R.Init = (Sub R.Expr ∷ []) ∷ (Act (Begin N.Braces) ∷ sign S.OpenBrace ∷ Sub R.Inits ∷ sign S.CloseBrace ∷ Act End ∷ []) ∷ []
 choices R.Inits = (Sub R.Init ∷ Act Into ∷ Sub R.MoreInits ∷ []) ∷ [] ∷ []
-choices R.MoreInits = (Mark (C.Sign S.Comma) Skip ∷ Sub R.Init ∷ Act Into ∷ Sub R.MoreInits ∷ []) ∷ [] ∷ []
-choices R.Block = (Act (Begin N.Block) ∷ Mark (C.Sign S.OpenBrace) Skip ∷ Sub R.Stmts ∷ Mark (C.Sign S.CloseBrace) Skip ∷ Act End ∷ []) ∷ []
+choices R.MoreInits = (sign S.Comma ∷ Sub R.Init ∷ Act Into ∷ Sub R.MoreInits ∷ []) ∷ [] ∷ []
+choices R.Block = (Act (Begin N.Block) ∷ sign S.OpenBrace ∷ Sub R.Stmts ∷ sign S.CloseBrace ∷ Act End ∷ []) ∷ []
 choices R.Stmts = (Sub R.Stmt ∷ Act Into ∷ Sub R.Stmts ∷ []) ∷ [] ∷ []
-choices R.Stmt = (Sub R.Block ∷ []) ∷ (Act (Begin N.Local) ∷ Mark (C.Word W.Final) Skip ∷ Sub R.TypeName ∷ Act Into ∷ Mark C.Name Text ∷ Sub (R.Declared Site.Alone) ∷ []) ∷ (Mark C.TypeWord (Push N.Plain) ∷ Sub R.Dims ∷ Mark C.Name (Over N.Local) ∷ Sub (R.Declared Site.Alone) ∷ []) ∷ (Mark (C.NameBut W.Memory) (Push N.Name) ∷ Sub (R.NameThen Site.Alone) ∷ []) ∷ (Mark (C.Word W.Memory) (Push N.Name) ∷ Sub (R.MemoryThen Site.Alone) ∷ []) ∷ (Act (Begin N.Return) ∷ Mark (C.Word W.Return) Skip ∷ Sub R.ReturnRest ∷ []) ∷ (Act (Begin N.If) ∷ Mark (C.Word W.If) Skip ∷ Mark (C.Sign S.Open) Skip ∷ Sub R.Expr ∷ Act Into ∷ Mark (C.Sign S.Close) Skip ∷ Sub R.Body ∷ Act Into ∷ Sub R.ElseTail ∷ Act End ∷ []) ∷ (Act (Begin N.While) ∷ Mark (C.Word W.While) Skip ∷ Mark (C.Sign S.Open) Skip ∷ Sub R.Expr ∷ Act Into ∷ Mark (C.Sign S.Close) Skip ∷ Sub R.Body ∷ Act Into ∷ Act End ∷ []) ∷ (Act (Begin N.For) ∷ Mark (C.Word W.For) Skip ∷ Mark (C.Sign S.Open) Skip ∷ Sub R.First ∷ Act Into ∷ Mark (C.Sign S.Semicolon) Skip ∷ Sub R.Test ∷ Act Into ∷ Mark (C.Sign S.Semicolon) Skip ∷ Sub R.Step ∷ Act Into ∷ Mark (C.Sign S.Close) Skip ∷ Sub R.Body ∷ Act Into ∷ Act End ∷ []) ∷ (Act (Begin N.Empty) ∷ Mark (C.Sign S.Semicolon) Skip ∷ Act End ∷ []) ∷ (Sub R.Other ∷ Mark (C.Sign S.Semicolon) Skip ∷ []) ∷ []
-choices (R.NameThen Site.Alone) = (Act (Turn N.Plain) ∷ Mark C.Name (Over N.Local) ∷ Sub (R.Declared Site.Alone) ∷ []) ∷ (Mark (C.Sign S.OpenBracket) Skip ∷ Sub (R.BracketThen Site.Alone) ∷ []) ∷ (Act (Turn N.Call) ∷ Mark (C.Sign S.Open) Skip ∷ Sub R.Args ∷ Mark (C.Sign S.Close) Skip ∷ Act End ∷ Sub (R.Rest Form.Call) ∷ Mark (C.Sign S.Semicolon) Skip ∷ []) ∷ (Sub R.Bare ∷ Mark (C.Sign S.Semicolon) Skip ∷ []) ∷ []
-choices (R.NameThen Site.Loop) = (Act (Turn N.Plain) ∷ Mark C.Name (Over N.Local) ∷ Sub (R.Declared Site.Loop) ∷ []) ∷ (Mark (C.Sign S.OpenBracket) Skip ∷ Sub (R.BracketThen Site.Loop) ∷ []) ∷ (Act (Turn N.Call) ∷ Mark (C.Sign S.Open) Skip ∷ Sub R.Args ∷ Mark (C.Sign S.Close) Skip ∷ Act End ∷ Sub (R.Rest Form.Call) ∷ []) ∷ (Sub R.Bare ∷ []) ∷ []
-choices (R.BracketThen Site.Alone) = (Act (Turn N.Plain) ∷ Act (Wrap N.ArrayOf) ∷ Mark (C.Sign S.CloseBracket) Skip ∷ Act End ∷ Sub R.Dims ∷ Mark C.Name (Over N.Local) ∷ Sub (R.Declared Site.Alone) ∷ []) ∷ (Act (Wrap N.Index) ∷ Sub R.Expr ∷ Act Into ∷ Mark (C.Sign S.CloseBracket) Skip ∷ Act End ∷ Sub (R.Rest Form.Place) ∷ Mark (C.Sign S.Semicolon) Skip ∷ []) ∷ []
-choices (R.BracketThen Site.Loop) = (Act (Turn N.Plain) ∷ Act (Wrap N.ArrayOf) ∷ Mark (C.Sign S.CloseBracket) Skip ∷ Act End ∷ Sub R.Dims ∷ Mark C.Name (Over N.Local) ∷ Sub (R.Declared Site.Loop) ∷ []) ∷ (Act (Wrap N.Index) ∷ Sub R.Expr ∷ Act Into ∷ Mark (C.Sign S.CloseBracket) Skip ∷ Act End ∷ Sub (R.Rest Form.Place) ∷ []) ∷ []
-choices (R.Declared Site.Alone) = (Mark (C.Sign S.Semicolon) Skip ∷ Act End ∷ []) ∷ (Mark (C.Sign S.Assign) Skip ∷ Sub R.Init ∷ Act Into ∷ Mark (C.Sign S.Semicolon) Skip ∷ Act End ∷ []) ∷ []
-choices (R.Declared Site.Loop) = (Mark (C.Sign S.Assign) Skip ∷ Sub R.Expr ∷ Act Into ∷ Act End ∷ []) ∷ []
-choices R.ReturnRest = (Mark (C.Sign S.Semicolon) Skip ∷ Act End ∷ []) ∷ (Sub R.Expr ∷ Act Into ∷ Mark (C.Sign S.Semicolon) Skip ∷ Act End ∷ []) ∷ []
-choices R.ElseTail = (Mark (C.Word W.Else) Skip ∷ Sub R.ElseRest ∷ []) ∷ [] ∷ []
-choices R.ElseRest = (Mark (C.Word W.If) Skip ∷ Mark (C.Sign S.Open) Skip ∷ Sub R.Expr ∷ Act Into ∷ Mark (C.Sign S.Close) Skip ∷ Sub R.Body ∷ Act Into ∷ Sub R.ElseTail ∷ []) ∷ (Sub R.Body ∷ Act Into ∷ []) ∷ []
-choices R.Body = (Sub R.Block ∷ []) ∷ (Act (Begin N.Return) ∷ Mark (C.Word W.Return) Skip ∷ Sub R.ReturnRest ∷ []) ∷ (Sub R.Simple ∷ Mark (C.Sign S.Semicolon) Skip ∷ []) ∷ []
-choices R.First = (Mark C.TypeWord (Push N.Plain) ∷ Sub R.Dims ∷ Mark C.Name (Over N.Local) ∷ Sub (R.Declared Site.Loop) ∷ []) ∷ (Mark (C.NameBut W.Memory) (Push N.Name) ∷ Sub (R.NameThen Site.Loop) ∷ []) ∷ (Mark (C.Word W.Memory) (Push N.Name) ∷ Sub (R.MemoryThen Site.Loop) ∷ []) ∷ (Sub R.Other ∷ []) ∷ (Act Hole ∷ []) ∷ []
+choices R.Stmt =
+    (Sub R.Block ∷ [])
+    ∷ (Act (Begin N.Local) ∷ word W.Final ∷ Sub R.TypeName ∷ Act Into ∷ Mark C.Name Text ∷ Sub (R.Declared Site.Alone) ∷ [])
+    ∷ (Mark C.TypeWord (Push N.Plain) ∷ Sub R.Dims ∷ Mark C.Name (Over N.Local) ∷ Sub (R.Declared Site.Alone) ∷ [])
+    ∷ (Mark (C.NameBut W.Memory) (Push N.Name) ∷ Sub (R.NameThen Site.Alone) ∷ [])
+    ∷ (Mark (C.Word W.Memory) (Push N.Name) ∷ Sub (R.MemoryThen Site.Alone) ∷ [])
+    ∷ (Act (Begin N.Return) ∷ word W.Return ∷ Sub R.ReturnRest ∷ [])
+    ∷ (Act (Begin N.If) ∷ word W.If ∷ sign S.Open ∷ Sub R.Expr ∷ Act Into ∷ sign S.Close ∷ Sub R.Body ∷ Act Into ∷ Sub R.ElseTail ∷ Act End ∷ [])
+    ∷ (Act (Begin N.While) ∷ word W.While ∷ sign S.Open ∷ Sub R.Expr ∷ Act Into ∷ sign S.Close ∷ Sub R.Body ∷ Act Into ∷ Act End ∷ [])
+    ∷ (Act (Begin N.For) ∷ word W.For ∷ sign S.Open ∷ Sub R.First ∷ Act Into ∷ sign S.Semicolon ∷ Sub R.Test ∷ Act Into ∷ sign S.Semicolon ∷ Sub R.Step ∷ Act Into ∷ sign S.Close ∷ Sub R.Body ∷ Act Into ∷ Act End ∷ [])
+    ∷ (Act (Begin N.Empty) ∷ sign S.Semicolon ∷ Act End ∷ [])
+    ∷ (Sub R.Other ∷ sign S.Semicolon ∷ []) ∷ []
+choices (R.NameThen Site.Alone) =
+    (Act (Turn N.Plain) ∷ Mark C.Name (Over N.Local) ∷ Sub (R.Declared Site.Alone) ∷ [])
+    ∷ (sign S.OpenBracket ∷ Sub (R.BracketThen Site.Alone) ∷ [])
+    ∷ (Act (Turn N.Call) ∷ sign S.Open ∷ Sub R.Args ∷ sign S.Close ∷ Act End ∷ Sub (R.Rest Form.Call) ∷ sign S.Semicolon ∷ [])
+    ∷ (Sub R.Bare ∷ sign S.Semicolon ∷ []) ∷ []
+choices (R.NameThen Site.Loop) =
+    (Act (Turn N.Plain) ∷ Mark C.Name (Over N.Local) ∷ Sub (R.Declared Site.Loop) ∷ [])
+    ∷ (sign S.OpenBracket ∷ Sub (R.BracketThen Site.Loop) ∷ [])
+    ∷ (Act (Turn N.Call) ∷ sign S.Open ∷ Sub R.Args ∷ sign S.Close ∷ Act End ∷ Sub (R.Rest Form.Call) ∷ [])
+    ∷ (Sub R.Bare ∷ []) ∷ []
+choices (R.BracketThen Site.Alone) =
+    (Act (Turn N.Plain) ∷ Act (Wrap N.ArrayOf) ∷ sign S.CloseBracket ∷ Act End ∷ Sub R.Dims ∷ Mark C.Name (Over N.Local) ∷ Sub (R.Declared Site.Alone) ∷ [])
+    ∷ (Act (Wrap N.Index) ∷ Sub R.Expr ∷ Act Into ∷ sign S.CloseBracket ∷ Act End ∷ Sub (R.Rest Form.Place) ∷ sign S.Semicolon ∷ []) ∷ []
+choices (R.BracketThen Site.Loop) =
+    (Act (Turn N.Plain) ∷ Act (Wrap N.ArrayOf) ∷ sign S.CloseBracket ∷ Act End ∷ Sub R.Dims ∷ Mark C.Name (Over N.Local) ∷ Sub (R.Declared Site.Loop) ∷ [])
+    ∷ (Act (Wrap N.Index) ∷ Sub R.Expr ∷ Act Into ∷ sign S.CloseBracket ∷ Act End ∷ Sub (R.Rest Form.Place) ∷ []) ∷ []
+choices (R.Declared Site.Alone) = (sign S.Semicolon ∷ Act End ∷ []) ∷ (sign S.Assign ∷ Sub R.Init ∷ Act Into ∷ sign S.Semicolon ∷ Act End ∷ []) ∷ []
+choices (R.Declared Site.Loop) = (sign S.Assign ∷ Sub R.Expr ∷ Act Into ∷ Act End ∷ []) ∷ []
+choices R.ReturnRest = (sign S.Semicolon ∷ Act End ∷ []) ∷ (Sub R.Expr ∷ Act Into ∷ sign S.Semicolon ∷ Act End ∷ []) ∷ []
+choices R.ElseTail = (word W.Else ∷ Sub R.ElseRest ∷ []) ∷ [] ∷ []
+choices R.ElseRest =
+    (word W.If ∷ sign S.Open ∷ Sub R.Expr ∷ Act Into ∷ sign S.Close ∷ Sub R.Body ∷ Act Into ∷ Sub R.ElseTail ∷ [])
+    ∷ (Sub R.Body ∷ Act Into ∷ []) ∷ []
+choices R.Body = (Sub R.Block ∷ []) ∷ (Act (Begin N.Return) ∷ word W.Return ∷ Sub R.ReturnRest ∷ []) ∷ (Sub R.Simple ∷ sign S.Semicolon ∷ []) ∷ []
+choices R.First =
+    (Mark C.TypeWord (Push N.Plain) ∷ Sub R.Dims ∷ Mark C.Name (Over N.Local) ∷ Sub (R.Declared Site.Loop) ∷ [])
+    ∷ (Mark (C.NameBut W.Memory) (Push N.Name) ∷ Sub (R.NameThen Site.Loop) ∷ [])
+    ∷ (Mark (C.Word W.Memory) (Push N.Name) ∷ Sub (R.MemoryThen Site.Loop) ∷ [])
+    ∷ (Sub R.Other ∷ [])
+    ∷ (Act Hole ∷ []) ∷ []
 choices R.Test = (Sub R.Expr ∷ []) ∷ (Act Hole ∷ []) ∷ []
 choices R.Step = (Sub R.Simple ∷ []) ∷ (Act Hole ∷ []) ∷ []
-choices (R.MemoryThen Site.Alone) = (Act (Turn N.Plain) ∷ Mark C.Name (Over N.Local) ∷ Sub (R.Declared Site.Alone) ∷ []) ∷ (Mark (C.Sign S.OpenBracket) Skip ∷ Sub (R.BracketThen Site.Alone) ∷ []) ∷ (Act (Turn N.Call) ∷ Mark (C.Sign S.Open) Skip ∷ Sub R.Args ∷ Mark (C.Sign S.Close) Skip ∷ Act End ∷ Sub (R.Rest Form.Call) ∷ Mark (C.Sign S.Semicolon) Skip ∷ []) ∷ (Mark (C.Sign S.Less) (Over N.Binary) ∷ Sub (R.LessThen Site.Alone) ∷ []) ∷ (Sub R.MemoryBare ∷ Mark (C.Sign S.Semicolon) Skip ∷ []) ∷ []
-choices (R.MemoryThen Site.Loop) = (Act (Turn N.Plain) ∷ Mark C.Name (Over N.Local) ∷ Sub (R.Declared Site.Loop) ∷ []) ∷ (Mark (C.Sign S.OpenBracket) Skip ∷ Sub (R.BracketThen Site.Loop) ∷ []) ∷ (Act (Turn N.Call) ∷ Mark (C.Sign S.Open) Skip ∷ Sub R.Args ∷ Mark (C.Sign S.Close) Skip ∷ Act End ∷ Sub (R.Rest Form.Call) ∷ []) ∷ (Mark (C.Sign S.Less) (Over N.Binary) ∷ Sub (R.LessThen Site.Loop) ∷ []) ∷ (Sub R.MemoryBare ∷ []) ∷ []
-choices (R.LessThen Site.Alone) = (Mark (C.Word W.DFEVar) (Push N.Name) ∷ Sub (R.DFEVarThen Site.Alone) ∷ []) ∷ (Sub R.OtherOperand ∷ Sub (R.Tail Level.Products) ∷ Sub (R.Tail Level.Sums) ∷ Sub (R.Tail Level.Shifts) ∷ Act Into ∷ Act End ∷ Sub (R.Tail Level.Orders) ∷ Sub (R.Tail Level.Equalities) ∷ Sub (R.Tail Level.BitAnds) ∷ Sub (R.Tail Level.BitXors) ∷ Sub (R.Tail Level.BitOrs) ∷ Sub (R.Tail Level.Ands) ∷ Sub (R.Tail Level.Ors) ∷ Sub R.CondTail ∷ Act (Wrap N.Connect) ∷ Mark (C.Sign S.Connect) Skip ∷ Sub R.Expr ∷ Act Into ∷ Act End ∷ Mark (C.Sign S.Semicolon) Skip ∷ []) ∷ []
-choices (R.LessThen Site.Loop) = (Mark (C.Word W.DFEVar) (Push N.Name) ∷ Sub (R.DFEVarThen Site.Loop) ∷ []) ∷ (Sub R.OtherOperand ∷ Sub (R.Tail Level.Products) ∷ Sub (R.Tail Level.Sums) ∷ Sub (R.Tail Level.Shifts) ∷ Act Into ∷ Act End ∷ Sub (R.Tail Level.Orders) ∷ Sub (R.Tail Level.Equalities) ∷ Sub (R.Tail Level.BitAnds) ∷ Sub (R.Tail Level.BitXors) ∷ Sub (R.Tail Level.BitOrs) ∷ Sub (R.Tail Level.Ands) ∷ Sub (R.Tail Level.Ors) ∷ Sub R.CondTail ∷ Act (Wrap N.Connect) ∷ Mark (C.Sign S.Connect) Skip ∷ Sub R.Expr ∷ Act Into ∷ Act End ∷ []) ∷ []
-choices (R.DFEVarThen Site.Alone) = (Act Into ∷ Act End ∷ Mark (C.Sign S.Greater) (Over N.Binary) ∷ Sub (R.GreaterThen Site.Alone) ∷ []) ∷ (Sub R.Further ∷ Sub (R.Tail Level.Products) ∷ Sub (R.Tail Level.Sums) ∷ Sub (R.Tail Level.Shifts) ∷ Act Into ∷ Act End ∷ Sub (R.Tail Level.Orders) ∷ Sub (R.Tail Level.Equalities) ∷ Sub (R.Tail Level.BitAnds) ∷ Sub (R.Tail Level.BitXors) ∷ Sub (R.Tail Level.BitOrs) ∷ Sub (R.Tail Level.Ands) ∷ Sub (R.Tail Level.Ors) ∷ Sub R.CondTail ∷ Act (Wrap N.Connect) ∷ Mark (C.Sign S.Connect) Skip ∷ Sub R.Expr ∷ Act Into ∷ Act End ∷ Mark (C.Sign S.Semicolon) Skip ∷ []) ∷ (Sub R.Tighter ∷ Act Into ∷ Act End ∷ Sub (R.Tail Level.Orders) ∷ Sub (R.Tail Level.Equalities) ∷ Sub (R.Tail Level.BitAnds) ∷ Sub (R.Tail Level.BitXors) ∷ Sub (R.Tail Level.BitOrs) ∷ Sub (R.Tail Level.Ands) ∷ Sub (R.Tail Level.Ors) ∷ Sub R.CondTail ∷ Act (Wrap N.Connect) ∷ Mark (C.Sign S.Connect) Skip ∷ Sub R.Expr ∷ Act Into ∷ Act End ∷ Mark (C.Sign S.Semicolon) Skip ∷ []) ∷ (Act Into ∷ Act End ∷ Mark (C.OrderBut S.Greater) (Over N.Binary) ∷ Sub (R.Operand Level.Shifts) ∷ Act Into ∷ Act End ∷ Sub (R.Tail Level.Orders) ∷ Sub (R.Tail Level.Equalities) ∷ Sub (R.Tail Level.BitAnds) ∷ Sub (R.Tail Level.BitXors) ∷ Sub (R.Tail Level.BitOrs) ∷ Sub (R.Tail Level.Ands) ∷ Sub (R.Tail Level.Ors) ∷ Sub R.CondTail ∷ Act (Wrap N.Connect) ∷ Mark (C.Sign S.Connect) Skip ∷ Sub R.Expr ∷ Act Into ∷ Act End ∷ Mark (C.Sign S.Semicolon) Skip ∷ []) ∷ (Act Into ∷ Act End ∷ Sub (R.Tail Level.Equalities) ∷ Sub (R.Tail Level.BitAnds) ∷ Sub (R.Tail Level.BitXors) ∷ Sub (R.Tail Level.BitOrs) ∷ Sub (R.Tail Level.Ands) ∷ Sub (R.Tail Level.Ors) ∷ Sub R.CondTail ∷ Act (Wrap N.Connect) ∷ Mark (C.Sign S.Connect) Skip ∷ Sub R.Expr ∷ Act Into ∷ Act End ∷ Mark (C.Sign S.Semicolon) Skip ∷ []) ∷ []
-choices (R.DFEVarThen Site.Loop) = (Act Into ∷ Act End ∷ Mark (C.Sign S.Greater) (Over N.Binary) ∷ Sub (R.GreaterThen Site.Loop) ∷ []) ∷ (Sub R.Further ∷ Sub (R.Tail Level.Products) ∷ Sub (R.Tail Level.Sums) ∷ Sub (R.Tail Level.Shifts) ∷ Act Into ∷ Act End ∷ Sub (R.Tail Level.Orders) ∷ Sub (R.Tail Level.Equalities) ∷ Sub (R.Tail Level.BitAnds) ∷ Sub (R.Tail Level.BitXors) ∷ Sub (R.Tail Level.BitOrs) ∷ Sub (R.Tail Level.Ands) ∷ Sub (R.Tail Level.Ors) ∷ Sub R.CondTail ∷ Act (Wrap N.Connect) ∷ Mark (C.Sign S.Connect) Skip ∷ Sub R.Expr ∷ Act Into ∷ Act End ∷ []) ∷ (Sub R.Tighter ∷ Act Into ∷ Act End ∷ Sub (R.Tail Level.Orders) ∷ Sub (R.Tail Level.Equalities) ∷ Sub (R.Tail Level.BitAnds) ∷ Sub (R.Tail Level.BitXors) ∷ Sub (R.Tail Level.BitOrs) ∷ Sub (R.Tail Level.Ands) ∷ Sub (R.Tail Level.Ors) ∷ Sub R.CondTail ∷ Act (Wrap N.Connect) ∷ Mark (C.Sign S.Connect) Skip ∷ Sub R.Expr ∷ Act Into ∷ Act End ∷ []) ∷ (Act Into ∷ Act End ∷ Mark (C.OrderBut S.Greater) (Over N.Binary) ∷ Sub (R.Operand Level.Shifts) ∷ Act Into ∷ Act End ∷ Sub (R.Tail Level.Orders) ∷ Sub (R.Tail Level.Equalities) ∷ Sub (R.Tail Level.BitAnds) ∷ Sub (R.Tail Level.BitXors) ∷ Sub (R.Tail Level.BitOrs) ∷ Sub (R.Tail Level.Ands) ∷ Sub (R.Tail Level.Ors) ∷ Sub R.CondTail ∷ Act (Wrap N.Connect) ∷ Mark (C.Sign S.Connect) Skip ∷ Sub R.Expr ∷ Act Into ∷ Act End ∷ []) ∷ (Act Into ∷ Act End ∷ Sub (R.Tail Level.Equalities) ∷ Sub (R.Tail Level.BitAnds) ∷ Sub (R.Tail Level.BitXors) ∷ Sub (R.Tail Level.BitOrs) ∷ Sub (R.Tail Level.Ands) ∷ Sub (R.Tail Level.Ors) ∷ Sub R.CondTail ∷ Act (Wrap N.Connect) ∷ Mark (C.Sign S.Connect) Skip ∷ Sub R.Expr ∷ Act Into ∷ Act End ∷ []) ∷ []
-choices (R.GreaterThen Site.Alone) = (Mark C.Name (Push N.Name) ∷ Sub (R.MemoryName Site.Alone) ∷ []) ∷ (Act Memory ∷ Act (Wrap N.ArrayOf) ∷ Mark (C.Sign S.OpenBracket) Skip ∷ Mark (C.Sign S.CloseBracket) Skip ∷ Act End ∷ Sub R.Dims ∷ Mark C.Name (Over N.Local) ∷ Sub (R.Declared Site.Alone) ∷ []) ∷ (Sub R.NamelessOperand ∷ Sub (R.Tail Level.Products) ∷ Sub (R.Tail Level.Sums) ∷ Sub (R.Tail Level.Shifts) ∷ Act Into ∷ Act End ∷ Sub (R.Tail Level.Orders) ∷ Sub (R.Tail Level.Equalities) ∷ Sub (R.Tail Level.BitAnds) ∷ Sub (R.Tail Level.BitXors) ∷ Sub (R.Tail Level.BitOrs) ∷ Sub (R.Tail Level.Ands) ∷ Sub (R.Tail Level.Ors) ∷ Sub R.CondTail ∷ Act (Wrap N.Connect) ∷ Mark (C.Sign S.Connect) Skip ∷ Sub R.Expr ∷ Act Into ∷ Act End ∷ Mark (C.Sign S.Semicolon) Skip ∷ []) ∷ []
-choices (R.GreaterThen Site.Loop) = (Mark C.Name (Push N.Name) ∷ Sub (R.MemoryName Site.Loop) ∷ []) ∷ (Act Memory ∷ Act (Wrap N.ArrayOf) ∷ Mark (C.Sign S.OpenBracket) Skip ∷ Mark (C.Sign S.CloseBracket) Skip ∷ Act End ∷ Sub R.Dims ∷ Mark C.Name (Over N.Local) ∷ Sub (R.Declared Site.Loop) ∷ []) ∷ (Sub R.NamelessOperand ∷ Sub (R.Tail Level.Products) ∷ Sub (R.Tail Level.Sums) ∷ Sub (R.Tail Level.Shifts) ∷ Act Into ∷ Act End ∷ Sub (R.Tail Level.Orders) ∷ Sub (R.Tail Level.Equalities) ∷ Sub (R.Tail Level.BitAnds) ∷ Sub (R.Tail Level.BitXors) ∷ Sub (R.Tail Level.BitOrs) ∷ Sub (R.Tail Level.Ands) ∷ Sub (R.Tail Level.Ors) ∷ Sub R.CondTail ∷ Act (Wrap N.Connect) ∷ Mark (C.Sign S.Connect) Skip ∷ Sub R.Expr ∷ Act Into ∷ Act End ∷ []) ∷ []
-choices (R.MemoryName Site.Alone) = (Act Declare ∷ Sub (R.Declared Site.Alone) ∷ []) ∷ (Sub R.Called ∷ Sub R.Post ∷ Sub (R.Tail Level.Products) ∷ Sub (R.Tail Level.Sums) ∷ Sub (R.Tail Level.Shifts) ∷ Act Into ∷ Act End ∷ Sub (R.Tail Level.Orders) ∷ Sub (R.Tail Level.Equalities) ∷ Sub (R.Tail Level.BitAnds) ∷ Sub (R.Tail Level.BitXors) ∷ Sub (R.Tail Level.BitOrs) ∷ Sub (R.Tail Level.Ands) ∷ Sub (R.Tail Level.Ors) ∷ Sub R.CondTail ∷ Act (Wrap N.Connect) ∷ Mark (C.Sign S.Connect) Skip ∷ Sub R.Expr ∷ Act Into ∷ Act End ∷ Mark (C.Sign S.Semicolon) Skip ∷ []) ∷ []
-choices (R.MemoryName Site.Loop) = (Act Declare ∷ Sub (R.Declared Site.Loop) ∷ []) ∷ (Sub R.Called ∷ Sub R.Post ∷ Sub (R.Tail Level.Products) ∷ Sub (R.Tail Level.Sums) ∷ Sub (R.Tail Level.Shifts) ∷ Act Into ∷ Act End ∷ Sub (R.Tail Level.Orders) ∷ Sub (R.Tail Level.Equalities) ∷ Sub (R.Tail Level.BitAnds) ∷ Sub (R.Tail Level.BitXors) ∷ Sub (R.Tail Level.BitOrs) ∷ Sub (R.Tail Level.Ands) ∷ Sub (R.Tail Level.Ors) ∷ Sub R.CondTail ∷ Act (Wrap N.Connect) ∷ Mark (C.Sign S.Connect) Skip ∷ Sub R.Expr ∷ Act Into ∷ Act End ∷ []) ∷ []
-choices R.MemoryBare = (Mark C.Assigning (Over N.Set) ∷ Sub R.Expr ∷ Act Into ∷ Act End ∷ []) ∷ (Mark C.Counting (Over N.Set) ∷ Act End ∷ []) ∷ (Mark (C.Sign S.Dot) Skip ∷ Mark C.Name (Over N.Dot) ∷ Sub R.DottedRest ∷ []) ∷ (Sub R.Tighter ∷ Sub (R.Tail Level.Orders) ∷ Sub (R.Tail Level.Equalities) ∷ Sub (R.Tail Level.BitAnds) ∷ Sub (R.Tail Level.BitXors) ∷ Sub (R.Tail Level.BitOrs) ∷ Sub (R.Tail Level.Ands) ∷ Sub (R.Tail Level.Ors) ∷ Sub R.CondTail ∷ Act (Wrap N.Connect) ∷ Mark (C.Sign S.Connect) Skip ∷ Sub R.Expr ∷ Act Into ∷ Act End ∷ []) ∷ (Mark (C.OrderBut S.Less) (Over N.Binary) ∷ Sub (R.Operand Level.Shifts) ∷ Act Into ∷ Act End ∷ Sub (R.Tail Level.Orders) ∷ Sub (R.Tail Level.Equalities) ∷ Sub (R.Tail Level.BitAnds) ∷ Sub (R.Tail Level.BitXors) ∷ Sub (R.Tail Level.BitOrs) ∷ Sub (R.Tail Level.Ands) ∷ Sub (R.Tail Level.Ors) ∷ Sub R.CondTail ∷ Act (Wrap N.Connect) ∷ Mark (C.Sign S.Connect) Skip ∷ Sub R.Expr ∷ Act Into ∷ Act End ∷ []) ∷ (Sub (R.Tail Level.Equalities) ∷ Sub (R.Tail Level.BitAnds) ∷ Sub (R.Tail Level.BitXors) ∷ Sub (R.Tail Level.BitOrs) ∷ Sub (R.Tail Level.Ands) ∷ Sub (R.Tail Level.Ors) ∷ Sub R.CondTail ∷ Act (Wrap N.Connect) ∷ Mark (C.Sign S.Connect) Skip ∷ Sub R.Expr ∷ Act Into ∷ Act End ∷ []) ∷ []
+choices (R.MemoryThen Site.Alone) =
+    (Act (Turn N.Plain) ∷ Mark C.Name (Over N.Local) ∷ Sub (R.Declared Site.Alone) ∷ [])
+    ∷ (sign S.OpenBracket ∷ Sub (R.BracketThen Site.Alone) ∷ [])
+    ∷ (Act (Turn N.Call) ∷ sign S.Open ∷ Sub R.Args ∷ sign S.Close ∷ Act End ∷ Sub (R.Rest Form.Call) ∷ sign S.Semicolon ∷ [])
+    ∷ (Mark (C.Sign S.Less) (Over N.Binary) ∷ Sub (R.LessThen Site.Alone) ∷ [])
+    ∷ (Sub R.MemoryBare ∷ sign S.Semicolon ∷ []) ∷ []
+choices (R.MemoryThen Site.Loop) =
+    (Act (Turn N.Plain) ∷ Mark C.Name (Over N.Local) ∷ Sub (R.Declared Site.Loop) ∷ [])
+    ∷ (sign S.OpenBracket ∷ Sub (R.BracketThen Site.Loop) ∷ [])
+    ∷ (Act (Turn N.Call) ∷ sign S.Open ∷ Sub R.Args ∷ sign S.Close ∷ Act End ∷ Sub (R.Rest Form.Call) ∷ [])
+    ∷ (Mark (C.Sign S.Less) (Over N.Binary) ∷ Sub (R.LessThen Site.Loop) ∷ [])
+    ∷ (Sub R.MemoryBare ∷ []) ∷ []
+choices (R.LessThen Site.Alone) =
+    (Mark (C.Word W.DFEVar) (Push N.Name) ∷ Sub (R.DFEVarThen Site.Alone) ∷ [])
+    ∷ (Sub R.OtherOperand ∷ Sub (R.Tail Level.Products) ∷ Sub (R.Tail Level.Sums) ∷ Sub (R.Tail Level.Shifts) ∷ ordered ++ close Site.Alone) ∷ []
+choices (R.LessThen Site.Loop) =
+    (Mark (C.Word W.DFEVar) (Push N.Name) ∷ Sub (R.DFEVarThen Site.Loop) ∷ [])
+    ∷ (Sub R.OtherOperand ∷ Sub (R.Tail Level.Products) ∷ Sub (R.Tail Level.Sums) ∷ Sub (R.Tail Level.Shifts) ∷ ordered) ∷ []
+choices (R.DFEVarThen Site.Alone) =
+    (Act Into ∷ Act End ∷ Mark (C.Sign S.Greater) (Over N.Binary) ∷ Sub (R.GreaterThen Site.Alone) ∷ [])
+    ∷ (Sub R.Further ∷ Sub (R.Tail Level.Products) ∷ Sub (R.Tail Level.Sums) ∷ Sub (R.Tail Level.Shifts) ∷ ordered ++ close Site.Alone)
+    ∷ (Sub R.Tighter ∷ ordered ++ close Site.Alone)
+    ∷ (Act Into ∷ Act End ∷ Mark (C.OrderBut S.Greater) (Over N.Binary) ∷ Sub (R.Operand Level.Shifts) ∷ ordered ++ close Site.Alone)
+    ∷ (Act Into ∷ Act End ∷ looser ++ close Site.Alone) ∷ []
+choices (R.DFEVarThen Site.Loop) =
+    (Act Into ∷ Act End ∷ Mark (C.Sign S.Greater) (Over N.Binary) ∷ Sub (R.GreaterThen Site.Loop) ∷ [])
+    ∷ (Sub R.Further ∷ Sub (R.Tail Level.Products) ∷ Sub (R.Tail Level.Sums) ∷ Sub (R.Tail Level.Shifts) ∷ ordered)
+    ∷ (Sub R.Tighter ∷ ordered)
+    ∷ (Act Into ∷ Act End ∷ Mark (C.OrderBut S.Greater) (Over N.Binary) ∷ Sub (R.Operand Level.Shifts) ∷ ordered)
+    ∷ (Act Into ∷ Act End ∷ looser) ∷ []
+choices (R.GreaterThen Site.Alone) =
+    (Mark C.Name (Push N.Name) ∷ Sub (R.MemoryName Site.Alone) ∷ [])
+    ∷ (Act Memory ∷ Act (Wrap N.ArrayOf) ∷ sign S.OpenBracket ∷ sign S.CloseBracket ∷ Act End ∷ Sub R.Dims ∷ Mark C.Name (Over N.Local) ∷ Sub (R.Declared Site.Alone) ∷ [])
+    ∷ (Sub R.NamelessOperand ∷ Sub (R.Tail Level.Products) ∷ Sub (R.Tail Level.Sums) ∷ Sub (R.Tail Level.Shifts) ∷ ordered ++ close Site.Alone) ∷ []
+choices (R.GreaterThen Site.Loop) =
+    (Mark C.Name (Push N.Name) ∷ Sub (R.MemoryName Site.Loop) ∷ [])
+    ∷ (Act Memory ∷ Act (Wrap N.ArrayOf) ∷ sign S.OpenBracket ∷ sign S.CloseBracket ∷ Act End ∷ Sub R.Dims ∷ Mark C.Name (Over N.Local) ∷ Sub (R.Declared Site.Loop) ∷ [])
+    ∷ (Sub R.NamelessOperand ∷ Sub (R.Tail Level.Products) ∷ Sub (R.Tail Level.Sums) ∷ Sub (R.Tail Level.Shifts) ∷ ordered) ∷ []
+choices (R.MemoryName Site.Alone) =
+    (Act Declare ∷ Sub (R.Declared Site.Alone) ∷ [])
+    ∷ (Sub R.Called ∷ Sub R.Post ∷ Sub (R.Tail Level.Products) ∷ Sub (R.Tail Level.Sums) ∷ Sub (R.Tail Level.Shifts) ∷ ordered ++ close Site.Alone) ∷ []
+choices (R.MemoryName Site.Loop) =
+    (Act Declare ∷ Sub (R.Declared Site.Loop) ∷ [])
+    ∷ (Sub R.Called ∷ Sub R.Post ∷ Sub (R.Tail Level.Products) ∷ Sub (R.Tail Level.Sums) ∷ Sub (R.Tail Level.Shifts) ∷ ordered) ∷ []
+choices R.MemoryBare =
+    (Mark C.Assigning (Over N.Set) ∷ Sub R.Expr ∷ Act Into ∷ Act End ∷ [])
+    ∷ (Mark C.Counting (Over N.Set) ∷ Act End ∷ [])
+    ∷ (sign S.Dot ∷ Mark C.Name (Over N.Dot) ∷ Sub R.DottedRest ∷ [])
+    ∷ (Sub R.Tighter ∷ Sub (R.Tail Level.Orders) ∷ looser)
+    ∷ (Mark (C.OrderBut S.Less) (Over N.Binary) ∷ Sub (R.Operand Level.Shifts) ∷ ordered)
+    ∷ (looser) ∷ []
 choices R.OtherOperand = (Mark (C.NameBut W.DFEVar) (Push N.Name) ∷ Sub R.Called ∷ Sub R.Post ∷ []) ∷ (Sub R.NamelessOperand ∷ []) ∷ []
-choices R.NamelessOperand = (Mark (C.Operator Level.Prefixes) (Push N.Prefix) ∷ Sub (R.Operand Level.Prefixes) ∷ Act Into ∷ Act End ∷ []) ∷ (Mark C.Literal Leaf ∷ Sub R.Post ∷ []) ∷ (Mark C.ValueWord (Push N.Name) ∷ Sub R.Post ∷ []) ∷ (Act (Begin N.Empty) ∷ Mark (C.Sign S.Open) Skip ∷ Sub R.Expr ∷ Mark (C.Sign S.Close) Skip ∷ Act Inner ∷ Sub R.Post ∷ []) ∷ (Act (Begin N.New) ∷ Mark (C.Word W.New) Skip ∷ Sub R.NewBase ∷ []) ∷ []
-choices R.Further = (Act (Turn N.Call) ∷ Mark (C.Sign S.Open) Skip ∷ Sub R.Args ∷ Mark (C.Sign S.Close) Skip ∷ Act End ∷ Sub R.Post ∷ []) ∷ (Mark (C.Sign S.Dot) Skip ∷ Mark C.Name (Over N.Dot) ∷ Sub R.Dotted ∷ Sub R.Post ∷ []) ∷ (Act (Wrap N.Index) ∷ Mark (C.Sign S.OpenBracket) Skip ∷ Sub R.Expr ∷ Act Into ∷ Mark (C.Sign S.CloseBracket) Skip ∷ Act End ∷ Sub R.Post ∷ []) ∷ []
-choices R.Tighter = (Mark (C.Operator Level.Products) (Over N.Binary) ∷ Sub (R.Operand Level.Prefixes) ∷ Act Into ∷ Act End ∷ Sub (R.Tail Level.Products) ∷ Sub (R.Tail Level.Sums) ∷ Sub (R.Tail Level.Shifts) ∷ []) ∷ (Mark (C.Operator Level.Sums) (Over N.Binary) ∷ Sub (R.Operand Level.Products) ∷ Act Into ∷ Act End ∷ Sub (R.Tail Level.Sums) ∷ Sub (R.Tail Level.Shifts) ∷ []) ∷ (Mark (C.Operator Level.Shifts) (Over N.Binary) ∷ Sub (R.Operand Level.Sums) ∷ Act Into ∷ Act End ∷ Sub (R.Tail Level.Shifts) ∷ []) ∷ []
+choices R.NamelessOperand =
+    (Mark (C.Operator Level.Prefixes) (Push N.Prefix) ∷ Sub (R.Operand Level.Prefixes) ∷ Act Into ∷ Act End ∷ [])
+    ∷ (Mark C.Literal Leaf ∷ Sub R.Post ∷ [])
+    ∷ (Mark C.ValueWord (Push N.Name) ∷ Sub R.Post ∷ [])
+    ∷ (Act (Begin N.Empty) ∷ sign S.Open ∷ Sub R.Expr ∷ sign S.Close ∷ Act Inner ∷ Sub R.Post ∷ [])
+    ∷ (Act (Begin N.New) ∷ word W.New ∷ Sub R.NewBase ∷ []) ∷ []
+choices R.Further =
+    (Act (Turn N.Call) ∷ sign S.Open ∷ Sub R.Args ∷ sign S.Close ∷ Act End ∷ Sub R.Post ∷ [])
+    ∷ (sign S.Dot ∷ Mark C.Name (Over N.Dot) ∷ Sub R.Dotted ∷ Sub R.Post ∷ [])
+    ∷ (Act (Wrap N.Index) ∷ sign S.OpenBracket ∷ Sub R.Expr ∷ Act Into ∷ sign S.CloseBracket ∷ Act End ∷ Sub R.Post ∷ []) ∷ []
+choices R.Tighter =
+    (Mark (C.Operator Level.Products) (Over N.Binary) ∷ Sub (R.Operand Level.Prefixes) ∷ Act Into ∷ Act End ∷ Sub (R.Tail Level.Products) ∷ Sub (R.Tail Level.Sums) ∷ Sub (R.Tail Level.Shifts) ∷ [])
+    ∷ (Mark (C.Operator Level.Sums) (Over N.Binary) ∷ Sub (R.Operand Level.Products) ∷ Act Into ∷ Act End ∷ Sub (R.Tail Level.Sums) ∷ Sub (R.Tail Level.Shifts) ∷ [])
+    ∷ (Mark (C.Operator Level.Shifts) (Over N.Binary) ∷ Sub (R.Operand Level.Sums) ∷ Act Into ∷ Act End ∷ Sub (R.Tail Level.Shifts) ∷ []) ∷ []
 
 -- the classes of tokens with which each of them is taken; none says that it is taken otherwise
 abbrev pub guards : Rule → List (List TokenClass)
@@ -195,7 +347,10 @@ guards R.NewStmt = (C.NameBut W.Memory ∷ []) ∷ (C.Word W.Memory ∷ []) ∷ 
 guards R.NewStmtMemory = (C.Sign S.Less ∷ []) ∷ [] ∷ []
 guards R.NewStmtRest = (C.Sign S.Open ∷ []) ∷ [] ∷ []
 guards (R.Rest Form.Place) = (C.Sign S.OpenBracket ∷ []) ∷ [] ∷ []
-guards (R.Rest Form.Call) = (C.Sign S.OpenBracket ∷ []) ∷ (C.Sign S.Dot ∷ []) ∷ (C.Operator Level.Products ∷ C.Operator Level.Sums ∷ C.Operator Level.Shifts ∷ C.Operator Level.Orders ∷ C.Operator Level.Equalities ∷ C.Operator Level.BitAnds ∷ C.Operator Level.BitXors ∷ C.Operator Level.BitOrs ∷ C.Operator Level.Ands ∷ C.Operator Level.Ors ∷ C.Sign S.Question ∷ C.Sign S.Connect ∷ []) ∷ [] ∷ []
+guards (R.Rest Form.Call) =
+    (C.Sign S.OpenBracket ∷ []) ∷ (C.Sign S.Dot ∷ []) ∷ (C.Operator Level.Products ∷ C.Operator Level.Sums ∷ C.Operator Level.Shifts
+    ∷ C.Operator Level.Orders ∷ C.Operator Level.Equalities ∷ C.Operator Level.BitAnds ∷ C.Operator Level.BitXors ∷ C.Operator Level.BitOrs
+    ∷ C.Operator Level.Ands ∷ C.Operator Level.Ors ∷ C.Sign S.Question ∷ C.Sign S.Connect ∷ []) ∷ [] ∷ []
 guards (R.Rest Form.Free) = (C.Sign S.OpenBracket ∷ []) ∷ (C.Sign S.Dot ∷ []) ∷ [] ∷ []
 guards (R.Rest Form.Fresh) = (C.Sign S.Dot ∷ []) ∷ [] ∷ []
 guards R.Bare = (C.Assigning ∷ []) ∷ (C.Counting ∷ []) ∷ (C.Sign S.Dot ∷ []) ∷ [] ∷ []
@@ -204,8 +359,12 @@ guards R.Init = (C.Operator Level.Prefixes ∷ C.Literal ∷ C.ValueWord ∷ C.N
 guards R.Inits = (C.Sign S.OpenBrace ∷ C.Operator Level.Prefixes ∷ C.Literal ∷ C.ValueWord ∷ C.Name ∷ C.Sign S.Open ∷ C.Word W.New ∷ []) ∷ [] ∷ []
 guards R.MoreInits = (C.Sign S.Comma ∷ []) ∷ [] ∷ []
 guards R.Block = [] ∷ []
-guards R.Stmts = (C.Sign S.OpenBrace ∷ C.Word W.Final ∷ C.TypeWord ∷ C.Name ∷ C.Word W.Return ∷ C.Word W.If ∷ C.Word W.While ∷ C.Word W.For ∷ C.Sign S.Semicolon ∷ C.Operator Level.Prefixes ∷ C.Literal ∷ C.ValueWord ∷ C.Sign S.Open ∷ C.Word W.New ∷ []) ∷ [] ∷ []
-guards R.Stmt = (C.Sign S.OpenBrace ∷ []) ∷ (C.Word W.Final ∷ []) ∷ (C.TypeWord ∷ []) ∷ (C.NameBut W.Memory ∷ []) ∷ (C.Word W.Memory ∷ []) ∷ (C.Word W.Return ∷ []) ∷ (C.Word W.If ∷ []) ∷ (C.Word W.While ∷ []) ∷ (C.Word W.For ∷ []) ∷ (C.Sign S.Semicolon ∷ []) ∷ [] ∷ []
+guards R.Stmts =
+    (C.Sign S.OpenBrace ∷ C.Word W.Final ∷ C.TypeWord ∷ C.Name ∷ C.Word W.Return ∷ C.Word W.If ∷ C.Word W.While ∷ C.Word W.For ∷ C.Sign S.Semicolon
+    ∷ C.Operator Level.Prefixes ∷ C.Literal ∷ C.ValueWord ∷ C.Sign S.Open ∷ C.Word W.New ∷ []) ∷ [] ∷ []
+guards R.Stmt =
+    (C.Sign S.OpenBrace ∷ []) ∷ (C.Word W.Final ∷ []) ∷ (C.TypeWord ∷ []) ∷ (C.NameBut W.Memory ∷ []) ∷ (C.Word W.Memory ∷ []) ∷ (C.Word W.Return ∷ [])
+    ∷ (C.Word W.If ∷ []) ∷ (C.Word W.While ∷ []) ∷ (C.Word W.For ∷ []) ∷ (C.Sign S.Semicolon ∷ []) ∷ [] ∷ []
 guards (R.NameThen Site.Alone) = (C.Name ∷ []) ∷ (C.Sign S.OpenBracket ∷ []) ∷ (C.Sign S.Open ∷ []) ∷ [] ∷ []
 guards (R.NameThen Site.Loop) = (C.Name ∷ []) ∷ (C.Sign S.OpenBracket ∷ []) ∷ (C.Sign S.Open ∷ []) ∷ [] ∷ []
 guards (R.BracketThen Site.Alone) = (C.Sign S.CloseBracket ∷ []) ∷ [] ∷ []
@@ -223,454 +382,20 @@ guards (R.MemoryThen Site.Alone) = (C.Name ∷ []) ∷ (C.Sign S.OpenBracket ∷
 guards (R.MemoryThen Site.Loop) = (C.Name ∷ []) ∷ (C.Sign S.OpenBracket ∷ []) ∷ (C.Sign S.Open ∷ []) ∷ (C.Sign S.Less ∷ []) ∷ [] ∷ []
 guards (R.LessThen Site.Alone) = (C.Word W.DFEVar ∷ []) ∷ [] ∷ []
 guards (R.LessThen Site.Loop) = (C.Word W.DFEVar ∷ []) ∷ [] ∷ []
-guards (R.DFEVarThen Site.Alone) = (C.Sign S.Greater ∷ []) ∷ (C.Sign S.Open ∷ C.Sign S.Dot ∷ C.Sign S.OpenBracket ∷ []) ∷ (C.Operator Level.Products ∷ C.Operator Level.Sums ∷ C.Operator Level.Shifts ∷ []) ∷ (C.OrderBut S.Greater ∷ []) ∷ [] ∷ []
-guards (R.DFEVarThen Site.Loop) = (C.Sign S.Greater ∷ []) ∷ (C.Sign S.Open ∷ C.Sign S.Dot ∷ C.Sign S.OpenBracket ∷ []) ∷ (C.Operator Level.Products ∷ C.Operator Level.Sums ∷ C.Operator Level.Shifts ∷ []) ∷ (C.OrderBut S.Greater ∷ []) ∷ [] ∷ []
+guards (R.DFEVarThen Site.Alone) =
+    (C.Sign S.Greater ∷ []) ∷ (C.Sign S.Open ∷ C.Sign S.Dot ∷ C.Sign S.OpenBracket ∷ []) ∷ (C.Operator Level.Products ∷ C.Operator Level.Sums
+    ∷ C.Operator Level.Shifts ∷ []) ∷ (C.OrderBut S.Greater ∷ []) ∷ [] ∷ []
+guards (R.DFEVarThen Site.Loop) =
+    (C.Sign S.Greater ∷ []) ∷ (C.Sign S.Open ∷ C.Sign S.Dot ∷ C.Sign S.OpenBracket ∷ []) ∷ (C.Operator Level.Products ∷ C.Operator Level.Sums
+    ∷ C.Operator Level.Shifts ∷ []) ∷ (C.OrderBut S.Greater ∷ []) ∷ [] ∷ []
 guards (R.GreaterThen Site.Alone) = (C.Name ∷ []) ∷ (C.Sign S.OpenBracket ∷ []) ∷ [] ∷ []
 guards (R.GreaterThen Site.Loop) = (C.Name ∷ []) ∷ (C.Sign S.OpenBracket ∷ []) ∷ [] ∷ []
 guards (R.MemoryName Site.Alone) = (C.Sign S.Semicolon ∷ C.Sign S.Assign ∷ []) ∷ [] ∷ []
 guards (R.MemoryName Site.Loop) = (C.Sign S.Assign ∷ []) ∷ [] ∷ []
-guards R.MemoryBare = (C.Assigning ∷ []) ∷ (C.Counting ∷ []) ∷ (C.Sign S.Dot ∷ []) ∷ (C.Operator Level.Products ∷ C.Operator Level.Sums ∷ C.Operator Level.Shifts ∷ []) ∷ (C.OrderBut S.Less ∷ []) ∷ [] ∷ []
+guards R.MemoryBare =
+    (C.Assigning ∷ []) ∷ (C.Counting ∷ []) ∷ (C.Sign S.Dot ∷ []) ∷ (C.Operator Level.Products ∷ C.Operator Level.Sums ∷ C.Operator Level.Shifts ∷ [])
+    ∷ (C.OrderBut S.Less ∷ []) ∷ [] ∷ []
 guards R.OtherOperand = (C.NameBut W.DFEVar ∷ []) ∷ [] ∷ []
 guards R.NamelessOperand = (C.Operator Level.Prefixes ∷ []) ∷ (C.Literal ∷ []) ∷ (C.ValueWord ∷ []) ∷ (C.Sign S.Open ∷ []) ∷ [] ∷ []
 guards R.Further = (C.Sign S.Open ∷ []) ∷ (C.Sign S.Dot ∷ []) ∷ [] ∷ []
 guards R.Tighter = (C.Operator Level.Products ∷ []) ∷ (C.Operator Level.Sums ∷ []) ∷ [] ∷ []
-
--- the classes of tokens with which a rule may begin
-abbrev pub first : Rule → List TokenClass
-first R.File = (C.Word W.Package ∷ C.Word W.Import ∷ C.Modifier ∷ C.Word W.Class ∷ [])
-first R.Package = (C.Word W.Package ∷ [])
-first R.Path = (C.Name ∷ [])
-first R.MorePath = (C.Sign S.Dot ∷ [])
-first R.Imports = (C.Word W.Import ∷ [])
-first R.MaybeStatic = (C.Word W.Static ∷ [])
-first R.ImportMore = (C.Sign S.Dot ∷ [])
-first R.ImportDot = (C.Name ∷ C.Sign S.Star ∷ [])
-first R.Classes = (C.Modifier ∷ C.Word W.Class ∷ [])
-first R.Class = (C.Modifier ∷ C.Word W.Class ∷ [])
-first R.Mods = (C.Modifier ∷ [])
-first R.Declares = (C.Sign S.Semicolon ∷ C.Sign S.Assign ∷ C.Sign S.Open ∷ [])
-first R.MethodRest = (C.Sign S.Open ∷ [])
-first R.Params = (C.Word W.Final ∷ C.Name ∷ C.TypeWord ∷ [])
-first R.MoreParams = (C.Sign S.Comma ∷ [])
-first R.Param = (C.Word W.Final ∷ C.Name ∷ C.TypeWord ∷ [])
-first R.MaybeFinal = (C.Word W.Final ∷ [])
-first (R.Opening false) = (C.Word W.Final ∷ C.Word W.KernelParameters ∷ [])
-first (R.Opening true) = (C.Word W.Final ∷ C.Word W.EngineParameters ∷ [])
-first (R.Opened false) = (C.Sign S.Comma ∷ [])
-first (R.Opened true) = []
-first R.SuperRest = (C.Sign S.Close ∷ [])
-first R.TypeName = (C.Name ∷ C.TypeWord ∷ [])
-first R.MemoryType = (C.Sign S.Less ∷ [])
-first R.Dims = (C.Sign S.OpenBracket ∷ [])
-first R.Expr = (C.Operator Level.Prefixes ∷ C.Literal ∷ C.ValueWord ∷ C.Name ∷ C.Sign S.Open ∷ C.Word W.New ∷ [])
-first R.CondTail = (C.Sign S.Question ∷ [])
-first (R.Operand Level.Prefixes) = (C.Operator Level.Prefixes ∷ C.Literal ∷ C.ValueWord ∷ C.Name ∷ C.Sign S.Open ∷ C.Word W.New ∷ [])
-first (R.Operand Level.Products) = (C.Operator Level.Prefixes ∷ C.Literal ∷ C.ValueWord ∷ C.Name ∷ C.Sign S.Open ∷ C.Word W.New ∷ [])
-first (R.Operand Level.Sums) = (C.Operator Level.Prefixes ∷ C.Literal ∷ C.ValueWord ∷ C.Name ∷ C.Sign S.Open ∷ C.Word W.New ∷ [])
-first (R.Operand Level.Shifts) = (C.Operator Level.Prefixes ∷ C.Literal ∷ C.ValueWord ∷ C.Name ∷ C.Sign S.Open ∷ C.Word W.New ∷ [])
-first (R.Operand Level.Orders) = (C.Operator Level.Prefixes ∷ C.Literal ∷ C.ValueWord ∷ C.Name ∷ C.Sign S.Open ∷ C.Word W.New ∷ [])
-first (R.Operand Level.Equalities) = (C.Operator Level.Prefixes ∷ C.Literal ∷ C.ValueWord ∷ C.Name ∷ C.Sign S.Open ∷ C.Word W.New ∷ [])
-first (R.Operand Level.BitAnds) = (C.Operator Level.Prefixes ∷ C.Literal ∷ C.ValueWord ∷ C.Name ∷ C.Sign S.Open ∷ C.Word W.New ∷ [])
-first (R.Operand Level.BitXors) = (C.Operator Level.Prefixes ∷ C.Literal ∷ C.ValueWord ∷ C.Name ∷ C.Sign S.Open ∷ C.Word W.New ∷ [])
-first (R.Operand Level.BitOrs) = (C.Operator Level.Prefixes ∷ C.Literal ∷ C.ValueWord ∷ C.Name ∷ C.Sign S.Open ∷ C.Word W.New ∷ [])
-first (R.Operand Level.Ands) = (C.Operator Level.Prefixes ∷ C.Literal ∷ C.ValueWord ∷ C.Name ∷ C.Sign S.Open ∷ C.Word W.New ∷ [])
-first (R.Operand Level.Ors) = (C.Operator Level.Prefixes ∷ C.Literal ∷ C.ValueWord ∷ C.Name ∷ C.Sign S.Open ∷ C.Word W.New ∷ [])
-first (R.Tail Level.Prefixes) = []
-first (R.Tail Level.Products) = (C.Operator Level.Products ∷ [])
-first (R.Tail Level.Sums) = (C.Operator Level.Sums ∷ [])
-first (R.Tail Level.Shifts) = (C.Operator Level.Shifts ∷ [])
-first (R.Tail Level.Orders) = (C.Operator Level.Orders ∷ [])
-first (R.Tail Level.Equalities) = (C.Operator Level.Equalities ∷ [])
-first (R.Tail Level.BitAnds) = (C.Operator Level.BitAnds ∷ [])
-first (R.Tail Level.BitXors) = (C.Operator Level.BitXors ∷ [])
-first (R.Tail Level.BitOrs) = (C.Operator Level.BitOrs ∷ [])
-first (R.Tail Level.Ands) = (C.Operator Level.Ands ∷ [])
-first (R.Tail Level.Ors) = (C.Operator Level.Ors ∷ [])
-first R.Postfix = (C.Literal ∷ C.ValueWord ∷ C.Name ∷ C.Sign S.Open ∷ C.Word W.New ∷ [])
-first R.Called = (C.Sign S.Open ∷ [])
-first R.Args = (C.Operator Level.Prefixes ∷ C.Literal ∷ C.ValueWord ∷ C.Name ∷ C.Sign S.Open ∷ C.Word W.New ∷ [])
-first R.MoreArgs = (C.Sign S.Comma ∷ [])
-first R.Post = (C.Sign S.Dot ∷ C.Sign S.OpenBracket ∷ [])
-first R.Dotted = (C.Sign S.Open ∷ [])
-first R.NewBase = (C.Name ∷ C.TypeWord ∷ [])
-first R.NewMemory = (C.Sign S.Less ∷ C.Sign S.Open ∷ C.Sign S.OpenBracket ∷ [])
-first R.NewRest = (C.Sign S.Open ∷ C.Sign S.OpenBracket ∷ [])
-first R.FreshTail = (C.Sign S.Dot ∷ [])
-first R.Sizes = (C.Sign S.OpenBracket ∷ [])
-first R.MoreSizes = (C.Sign S.OpenBracket ∷ [])
-first R.Simple = (C.Name ∷ C.Operator Level.Prefixes ∷ C.Literal ∷ C.ValueWord ∷ C.Sign S.Open ∷ C.Word W.New ∷ [])
-first R.NameRest = (C.Sign S.Open ∷ C.Sign S.OpenBracket ∷ C.Assigning ∷ C.Counting ∷ C.Sign S.Dot ∷ C.Operator Level.Products ∷ C.Operator Level.Sums ∷ C.Operator Level.Shifts ∷ C.Operator Level.Orders ∷ C.Operator Level.Equalities ∷ C.Operator Level.BitAnds ∷ C.Operator Level.BitXors ∷ C.Operator Level.BitOrs ∷ C.Operator Level.Ands ∷ C.Operator Level.Ors ∷ C.Sign S.Question ∷ C.Sign S.Connect ∷ [])
-first R.Other = (C.Operator Level.Prefixes ∷ C.Literal ∷ C.ValueWord ∷ C.Sign S.Open ∷ C.Word W.New ∷ [])
-first R.NewStmt = (C.Name ∷ C.TypeWord ∷ [])
-first R.NewStmtMemory = (C.Sign S.Less ∷ C.Sign S.Open ∷ C.Sign S.OpenBracket ∷ [])
-first R.NewStmtRest = (C.Sign S.Open ∷ C.Sign S.OpenBracket ∷ [])
-first (R.Rest Form.Place) = (C.Sign S.OpenBracket ∷ C.Assigning ∷ C.Counting ∷ C.Sign S.Dot ∷ C.Operator Level.Products ∷ C.Operator Level.Sums ∷ C.Operator Level.Shifts ∷ C.Operator Level.Orders ∷ C.Operator Level.Equalities ∷ C.Operator Level.BitAnds ∷ C.Operator Level.BitXors ∷ C.Operator Level.BitOrs ∷ C.Operator Level.Ands ∷ C.Operator Level.Ors ∷ C.Sign S.Question ∷ C.Sign S.Connect ∷ [])
-first (R.Rest Form.Call) = (C.Sign S.OpenBracket ∷ C.Sign S.Dot ∷ C.Operator Level.Products ∷ C.Operator Level.Sums ∷ C.Operator Level.Shifts ∷ C.Operator Level.Orders ∷ C.Operator Level.Equalities ∷ C.Operator Level.BitAnds ∷ C.Operator Level.BitXors ∷ C.Operator Level.BitOrs ∷ C.Operator Level.Ands ∷ C.Operator Level.Ors ∷ C.Sign S.Question ∷ C.Sign S.Connect ∷ [])
-first (R.Rest Form.Free) = (C.Sign S.OpenBracket ∷ C.Sign S.Dot ∷ C.Operator Level.Products ∷ C.Operator Level.Sums ∷ C.Operator Level.Shifts ∷ C.Operator Level.Orders ∷ C.Operator Level.Equalities ∷ C.Operator Level.BitAnds ∷ C.Operator Level.BitXors ∷ C.Operator Level.BitOrs ∷ C.Operator Level.Ands ∷ C.Operator Level.Ors ∷ C.Sign S.Question ∷ C.Sign S.Connect ∷ [])
-first (R.Rest Form.Fresh) = (C.Sign S.Dot ∷ C.Operator Level.Products ∷ C.Operator Level.Sums ∷ C.Operator Level.Shifts ∷ C.Operator Level.Orders ∷ C.Operator Level.Equalities ∷ C.Operator Level.BitAnds ∷ C.Operator Level.BitXors ∷ C.Operator Level.BitOrs ∷ C.Operator Level.Ands ∷ C.Operator Level.Ors ∷ C.Sign S.Question ∷ C.Sign S.Connect ∷ [])
-first R.Bare = (C.Assigning ∷ C.Counting ∷ C.Sign S.Dot ∷ C.Operator Level.Products ∷ C.Operator Level.Sums ∷ C.Operator Level.Shifts ∷ C.Operator Level.Orders ∷ C.Operator Level.Equalities ∷ C.Operator Level.BitAnds ∷ C.Operator Level.BitXors ∷ C.Operator Level.BitOrs ∷ C.Operator Level.Ands ∷ C.Operator Level.Ors ∷ C.Sign S.Question ∷ C.Sign S.Connect ∷ [])
-first R.DottedRest = (C.Sign S.Open ∷ C.Sign S.OpenBracket ∷ C.Sign S.Dot ∷ C.Operator Level.Products ∷ C.Operator Level.Sums ∷ C.Operator Level.Shifts ∷ C.Operator Level.Orders ∷ C.Operator Level.Equalities ∷ C.Operator Level.BitAnds ∷ C.Operator Level.BitXors ∷ C.Operator Level.BitOrs ∷ C.Operator Level.Ands ∷ C.Operator Level.Ors ∷ C.Sign S.Question ∷ C.Sign S.Connect ∷ [])
-first R.Init = (C.Sign S.OpenBrace ∷ C.Operator Level.Prefixes ∷ C.Literal ∷ C.ValueWord ∷ C.Name ∷ C.Sign S.Open ∷ C.Word W.New ∷ [])
-first R.Inits = (C.Sign S.OpenBrace ∷ C.Operator Level.Prefixes ∷ C.Literal ∷ C.ValueWord ∷ C.Name ∷ C.Sign S.Open ∷ C.Word W.New ∷ [])
-first R.MoreInits = (C.Sign S.Comma ∷ [])
-first R.Block = (C.Sign S.OpenBrace ∷ [])
-first R.Stmts = (C.Sign S.OpenBrace ∷ C.Word W.Final ∷ C.TypeWord ∷ C.Name ∷ C.Word W.Return ∷ C.Word W.If ∷ C.Word W.While ∷ C.Word W.For ∷ C.Sign S.Semicolon ∷ C.Operator Level.Prefixes ∷ C.Literal ∷ C.ValueWord ∷ C.Sign S.Open ∷ C.Word W.New ∷ [])
-first R.Stmt = (C.Sign S.OpenBrace ∷ C.Word W.Final ∷ C.TypeWord ∷ C.Name ∷ C.Word W.Return ∷ C.Word W.If ∷ C.Word W.While ∷ C.Word W.For ∷ C.Sign S.Semicolon ∷ C.Operator Level.Prefixes ∷ C.Literal ∷ C.ValueWord ∷ C.Sign S.Open ∷ C.Word W.New ∷ [])
-first (R.NameThen Site.Alone) = (C.Name ∷ C.Sign S.OpenBracket ∷ C.Sign S.Open ∷ C.Assigning ∷ C.Counting ∷ C.Sign S.Dot ∷ C.Operator Level.Products ∷ C.Operator Level.Sums ∷ C.Operator Level.Shifts ∷ C.Operator Level.Orders ∷ C.Operator Level.Equalities ∷ C.Operator Level.BitAnds ∷ C.Operator Level.BitXors ∷ C.Operator Level.BitOrs ∷ C.Operator Level.Ands ∷ C.Operator Level.Ors ∷ C.Sign S.Question ∷ C.Sign S.Connect ∷ [])
-first (R.NameThen Site.Loop) = (C.Name ∷ C.Sign S.OpenBracket ∷ C.Sign S.Open ∷ C.Assigning ∷ C.Counting ∷ C.Sign S.Dot ∷ C.Operator Level.Products ∷ C.Operator Level.Sums ∷ C.Operator Level.Shifts ∷ C.Operator Level.Orders ∷ C.Operator Level.Equalities ∷ C.Operator Level.BitAnds ∷ C.Operator Level.BitXors ∷ C.Operator Level.BitOrs ∷ C.Operator Level.Ands ∷ C.Operator Level.Ors ∷ C.Sign S.Question ∷ C.Sign S.Connect ∷ [])
-first (R.BracketThen Site.Alone) = (C.Sign S.CloseBracket ∷ C.Operator Level.Prefixes ∷ C.Literal ∷ C.ValueWord ∷ C.Name ∷ C.Sign S.Open ∷ C.Word W.New ∷ [])
-first (R.BracketThen Site.Loop) = (C.Sign S.CloseBracket ∷ C.Operator Level.Prefixes ∷ C.Literal ∷ C.ValueWord ∷ C.Name ∷ C.Sign S.Open ∷ C.Word W.New ∷ [])
-first (R.Declared Site.Alone) = (C.Sign S.Semicolon ∷ C.Sign S.Assign ∷ [])
-first (R.Declared Site.Loop) = (C.Sign S.Assign ∷ [])
-first R.ReturnRest = (C.Sign S.Semicolon ∷ C.Operator Level.Prefixes ∷ C.Literal ∷ C.ValueWord ∷ C.Name ∷ C.Sign S.Open ∷ C.Word W.New ∷ [])
-first R.ElseTail = (C.Word W.Else ∷ [])
-first R.ElseRest = (C.Word W.If ∷ C.Sign S.OpenBrace ∷ C.Word W.Return ∷ C.Name ∷ C.Operator Level.Prefixes ∷ C.Literal ∷ C.ValueWord ∷ C.Sign S.Open ∷ C.Word W.New ∷ [])
-first R.Body = (C.Sign S.OpenBrace ∷ C.Word W.Return ∷ C.Name ∷ C.Operator Level.Prefixes ∷ C.Literal ∷ C.ValueWord ∷ C.Sign S.Open ∷ C.Word W.New ∷ [])
-first R.First = (C.TypeWord ∷ C.Name ∷ C.Operator Level.Prefixes ∷ C.Literal ∷ C.ValueWord ∷ C.Sign S.Open ∷ C.Word W.New ∷ [])
-first R.Test = (C.Operator Level.Prefixes ∷ C.Literal ∷ C.ValueWord ∷ C.Name ∷ C.Sign S.Open ∷ C.Word W.New ∷ [])
-first R.Step = (C.Name ∷ C.Operator Level.Prefixes ∷ C.Literal ∷ C.ValueWord ∷ C.Sign S.Open ∷ C.Word W.New ∷ [])
-first (R.MemoryThen Site.Alone) = (C.Name ∷ C.Sign S.OpenBracket ∷ C.Sign S.Open ∷ C.Assigning ∷ C.Counting ∷ C.Sign S.Dot ∷ C.Operator Level.Orders ∷ C.Operator Level.Equalities ∷ C.Operator Level.BitAnds ∷ C.Operator Level.BitXors ∷ C.Operator Level.BitOrs ∷ C.Operator Level.Ands ∷ C.Operator Level.Ors ∷ C.Sign S.Question ∷ C.Sign S.Connect ∷ C.Operator Level.Products ∷ C.Operator Level.Sums ∷ C.Operator Level.Shifts ∷ [])
-first (R.MemoryThen Site.Loop) = (C.Name ∷ C.Sign S.OpenBracket ∷ C.Sign S.Open ∷ C.Assigning ∷ C.Counting ∷ C.Sign S.Dot ∷ C.Operator Level.Orders ∷ C.Operator Level.Equalities ∷ C.Operator Level.BitAnds ∷ C.Operator Level.BitXors ∷ C.Operator Level.BitOrs ∷ C.Operator Level.Ands ∷ C.Operator Level.Ors ∷ C.Sign S.Question ∷ C.Sign S.Connect ∷ C.Operator Level.Products ∷ C.Operator Level.Sums ∷ C.Operator Level.Shifts ∷ [])
-first (R.LessThen Site.Alone) = (C.Name ∷ C.Operator Level.Prefixes ∷ C.Literal ∷ C.ValueWord ∷ C.Sign S.Open ∷ C.Word W.New ∷ [])
-first (R.LessThen Site.Loop) = (C.Name ∷ C.Operator Level.Prefixes ∷ C.Literal ∷ C.ValueWord ∷ C.Sign S.Open ∷ C.Word W.New ∷ [])
-first (R.DFEVarThen Site.Alone) = (C.Operator Level.Orders ∷ C.Operator Level.Equalities ∷ C.Operator Level.BitAnds ∷ C.Operator Level.BitXors ∷ C.Operator Level.BitOrs ∷ C.Operator Level.Ands ∷ C.Operator Level.Ors ∷ C.Sign S.Question ∷ C.Sign S.Connect ∷ C.Sign S.Open ∷ C.Sign S.Dot ∷ C.Sign S.OpenBracket ∷ C.Operator Level.Products ∷ C.Operator Level.Sums ∷ C.Operator Level.Shifts ∷ [])
-first (R.DFEVarThen Site.Loop) = (C.Operator Level.Orders ∷ C.Operator Level.Equalities ∷ C.Operator Level.BitAnds ∷ C.Operator Level.BitXors ∷ C.Operator Level.BitOrs ∷ C.Operator Level.Ands ∷ C.Operator Level.Ors ∷ C.Sign S.Question ∷ C.Sign S.Connect ∷ C.Sign S.Open ∷ C.Sign S.Dot ∷ C.Sign S.OpenBracket ∷ C.Operator Level.Products ∷ C.Operator Level.Sums ∷ C.Operator Level.Shifts ∷ [])
-first (R.GreaterThen Site.Alone) = (C.Name ∷ C.Sign S.OpenBracket ∷ C.Operator Level.Prefixes ∷ C.Literal ∷ C.ValueWord ∷ C.Sign S.Open ∷ C.Word W.New ∷ [])
-first (R.GreaterThen Site.Loop) = (C.Name ∷ C.Sign S.OpenBracket ∷ C.Operator Level.Prefixes ∷ C.Literal ∷ C.ValueWord ∷ C.Sign S.Open ∷ C.Word W.New ∷ [])
-first (R.MemoryName Site.Alone) = (C.Sign S.Semicolon ∷ C.Sign S.Assign ∷ C.Sign S.Open ∷ C.Sign S.Dot ∷ C.Sign S.OpenBracket ∷ C.Operator Level.Products ∷ C.Operator Level.Sums ∷ C.Operator Level.Shifts ∷ C.Operator Level.Orders ∷ C.Operator Level.Equalities ∷ C.Operator Level.BitAnds ∷ C.Operator Level.BitXors ∷ C.Operator Level.BitOrs ∷ C.Operator Level.Ands ∷ C.Operator Level.Ors ∷ C.Sign S.Question ∷ C.Sign S.Connect ∷ [])
-first (R.MemoryName Site.Loop) = (C.Sign S.Assign ∷ C.Sign S.Open ∷ C.Sign S.Dot ∷ C.Sign S.OpenBracket ∷ C.Operator Level.Products ∷ C.Operator Level.Sums ∷ C.Operator Level.Shifts ∷ C.Operator Level.Orders ∷ C.Operator Level.Equalities ∷ C.Operator Level.BitAnds ∷ C.Operator Level.BitXors ∷ C.Operator Level.BitOrs ∷ C.Operator Level.Ands ∷ C.Operator Level.Ors ∷ C.Sign S.Question ∷ C.Sign S.Connect ∷ [])
-first R.MemoryBare = (C.Assigning ∷ C.Counting ∷ C.Sign S.Dot ∷ C.OrderBut S.Less ∷ C.Operator Level.Equalities ∷ C.Operator Level.BitAnds ∷ C.Operator Level.BitXors ∷ C.Operator Level.BitOrs ∷ C.Operator Level.Ands ∷ C.Operator Level.Ors ∷ C.Sign S.Question ∷ C.Sign S.Connect ∷ C.Operator Level.Products ∷ C.Operator Level.Sums ∷ C.Operator Level.Shifts ∷ [])
-first R.OtherOperand = (C.NameBut W.DFEVar ∷ C.Operator Level.Prefixes ∷ C.Literal ∷ C.ValueWord ∷ C.Sign S.Open ∷ C.Word W.New ∷ [])
-first R.NamelessOperand = (C.Operator Level.Prefixes ∷ C.Literal ∷ C.ValueWord ∷ C.Sign S.Open ∷ C.Word W.New ∷ [])
-first R.Further = (C.Sign S.Open ∷ C.Sign S.Dot ∷ C.Sign S.OpenBracket ∷ [])
-first R.Tighter = (C.Operator Level.Products ∷ C.Operator Level.Sums ∷ C.Operator Level.Shifts ∷ [])
-
--- whether it may be empty
-abbrev pub nullable : Rule → Bool
-nullable R.File = false
-nullable R.Package = true
-nullable R.Path = false
-nullable R.MorePath = true
-nullable R.Imports = true
-nullable R.MaybeStatic = true
-nullable R.ImportMore = true
-nullable R.ImportDot = false
-nullable R.Classes = true
-nullable R.Class = false
-nullable R.Mods = true
-nullable R.Declares = false
-nullable R.MethodRest = false
-nullable R.Params = true
-nullable R.MoreParams = true
-nullable R.Param = false
-nullable R.MaybeFinal = true
-nullable (R.Opening false) = false
-nullable (R.Opening true) = false
-nullable (R.Opened false) = true
-nullable (R.Opened true) = true
-nullable R.SuperRest = false
-nullable R.TypeName = false
-nullable R.MemoryType = true
-nullable R.Dims = true
-nullable R.Expr = false
-nullable R.CondTail = true
-nullable (R.Operand Level.Prefixes) = false
-nullable (R.Operand Level.Products) = false
-nullable (R.Operand Level.Sums) = false
-nullable (R.Operand Level.Shifts) = false
-nullable (R.Operand Level.Orders) = false
-nullable (R.Operand Level.Equalities) = false
-nullable (R.Operand Level.BitAnds) = false
-nullable (R.Operand Level.BitXors) = false
-nullable (R.Operand Level.BitOrs) = false
-nullable (R.Operand Level.Ands) = false
-nullable (R.Operand Level.Ors) = false
-nullable (R.Tail Level.Prefixes) = true
-nullable (R.Tail Level.Products) = true
-nullable (R.Tail Level.Sums) = true
-nullable (R.Tail Level.Shifts) = true
-nullable (R.Tail Level.Orders) = true
-nullable (R.Tail Level.Equalities) = true
-nullable (R.Tail Level.BitAnds) = true
-nullable (R.Tail Level.BitXors) = true
-nullable (R.Tail Level.BitOrs) = true
-nullable (R.Tail Level.Ands) = true
-nullable (R.Tail Level.Ors) = true
-nullable R.Postfix = false
-nullable R.Called = true
-nullable R.Args = true
-nullable R.MoreArgs = true
-nullable R.Post = true
-nullable R.Dotted = true
-nullable R.NewBase = false
-nullable R.NewMemory = false
-nullable R.NewRest = false
-nullable R.FreshTail = true
-nullable R.Sizes = false
-nullable R.MoreSizes = true
-nullable R.Simple = false
-nullable R.NameRest = false
-nullable R.Other = false
-nullable R.NewStmt = false
-nullable R.NewStmtMemory = false
-nullable R.NewStmtRest = false
-nullable (R.Rest Form.Place) = false
-nullable (R.Rest Form.Call) = true
-nullable (R.Rest Form.Free) = false
-nullable (R.Rest Form.Fresh) = false
-nullable R.Bare = false
-nullable R.DottedRest = false
-nullable R.Init = false
-nullable R.Inits = true
-nullable R.MoreInits = true
-nullable R.Block = false
-nullable R.Stmts = true
-nullable R.Stmt = false
-nullable (R.NameThen Site.Alone) = false
-nullable (R.NameThen Site.Loop) = false
-nullable (R.BracketThen Site.Alone) = false
-nullable (R.BracketThen Site.Loop) = false
-nullable (R.Declared Site.Alone) = false
-nullable (R.Declared Site.Loop) = false
-nullable R.ReturnRest = false
-nullable R.ElseTail = true
-nullable R.ElseRest = false
-nullable R.Body = false
-nullable R.First = true
-nullable R.Test = true
-nullable R.Step = true
-nullable (R.MemoryThen Site.Alone) = false
-nullable (R.MemoryThen Site.Loop) = false
-nullable (R.LessThen Site.Alone) = false
-nullable (R.LessThen Site.Loop) = false
-nullable (R.DFEVarThen Site.Alone) = false
-nullable (R.DFEVarThen Site.Loop) = false
-nullable (R.GreaterThen Site.Alone) = false
-nullable (R.GreaterThen Site.Loop) = false
-nullable (R.MemoryName Site.Alone) = false
-nullable (R.MemoryName Site.Loop) = false
-nullable R.MemoryBare = false
-nullable R.OtherOperand = false
-nullable R.NamelessOperand = false
-nullable R.Further = false
-nullable R.Tighter = false
-
--- the classes of tokens with which it may go on where it could end
-abbrev pub peek : Rule → List TokenClass
-peek R.File = (C.Modifier ∷ C.Word W.Class ∷ [])
-peek R.Package = (C.Word W.Package ∷ [])
-peek R.Path = (C.Sign S.Dot ∷ [])
-peek R.MorePath = (C.Sign S.Dot ∷ [])
-peek R.Imports = (C.Word W.Import ∷ [])
-peek R.MaybeStatic = (C.Word W.Static ∷ [])
-peek R.ImportMore = (C.Sign S.Dot ∷ [])
-peek R.ImportDot = (C.Sign S.Dot ∷ [])
-peek R.Classes = (C.Modifier ∷ C.Word W.Class ∷ [])
-peek R.Class = []
-peek R.Mods = (C.Modifier ∷ [])
-peek R.Declares = []
-peek R.MethodRest = []
-peek R.Params = (C.Word W.Final ∷ C.Name ∷ C.TypeWord ∷ C.Sign S.Comma ∷ [])
-peek R.MoreParams = (C.Sign S.Comma ∷ [])
-peek R.Param = []
-peek R.MaybeFinal = (C.Word W.Final ∷ [])
-peek (R.Opening false) = []
-peek (R.Opening true) = []
-peek (R.Opened false) = (C.Sign S.Comma ∷ [])
-peek (R.Opened true) = []
-peek R.SuperRest = []
-peek R.TypeName = (C.Sign S.OpenBracket ∷ C.Sign S.Less ∷ [])
-peek R.MemoryType = (C.Sign S.Less ∷ [])
-peek R.Dims = (C.Sign S.OpenBracket ∷ [])
-peek R.Expr = (C.Sign S.Question ∷ C.Operator Level.Products ∷ C.Operator Level.Sums ∷ C.Operator Level.Shifts ∷ C.Operator Level.Orders ∷ C.Operator Level.Equalities ∷ C.Operator Level.BitAnds ∷ C.Operator Level.BitXors ∷ C.Operator Level.BitOrs ∷ C.Operator Level.Ands ∷ C.Operator Level.Ors ∷ C.Sign S.Dot ∷ C.Sign S.OpenBracket ∷ C.Sign S.Open ∷ [])
-peek R.CondTail = (C.Sign S.Question ∷ C.Operator Level.Products ∷ C.Operator Level.Sums ∷ C.Operator Level.Shifts ∷ C.Operator Level.Orders ∷ C.Operator Level.Equalities ∷ C.Operator Level.BitAnds ∷ C.Operator Level.BitXors ∷ C.Operator Level.BitOrs ∷ C.Operator Level.Ands ∷ C.Operator Level.Ors ∷ C.Sign S.Dot ∷ C.Sign S.OpenBracket ∷ C.Sign S.Open ∷ [])
-peek (R.Operand Level.Prefixes) = (C.Sign S.Dot ∷ C.Sign S.OpenBracket ∷ C.Sign S.Open ∷ [])
-peek (R.Operand Level.Products) = (C.Operator Level.Products ∷ C.Sign S.Dot ∷ C.Sign S.OpenBracket ∷ C.Sign S.Open ∷ [])
-peek (R.Operand Level.Sums) = (C.Operator Level.Products ∷ C.Operator Level.Sums ∷ C.Sign S.Dot ∷ C.Sign S.OpenBracket ∷ C.Sign S.Open ∷ [])
-peek (R.Operand Level.Shifts) = (C.Operator Level.Products ∷ C.Operator Level.Sums ∷ C.Operator Level.Shifts ∷ C.Sign S.Dot ∷ C.Sign S.OpenBracket ∷ C.Sign S.Open ∷ [])
-peek (R.Operand Level.Orders) = (C.Operator Level.Products ∷ C.Operator Level.Sums ∷ C.Operator Level.Shifts ∷ C.Operator Level.Orders ∷ C.Sign S.Dot ∷ C.Sign S.OpenBracket ∷ C.Sign S.Open ∷ [])
-peek (R.Operand Level.Equalities) = (C.Operator Level.Products ∷ C.Operator Level.Sums ∷ C.Operator Level.Shifts ∷ C.Operator Level.Orders ∷ C.Operator Level.Equalities ∷ C.Sign S.Dot ∷ C.Sign S.OpenBracket ∷ C.Sign S.Open ∷ [])
-peek (R.Operand Level.BitAnds) = (C.Operator Level.Products ∷ C.Operator Level.Sums ∷ C.Operator Level.Shifts ∷ C.Operator Level.Orders ∷ C.Operator Level.Equalities ∷ C.Operator Level.BitAnds ∷ C.Sign S.Dot ∷ C.Sign S.OpenBracket ∷ C.Sign S.Open ∷ [])
-peek (R.Operand Level.BitXors) = (C.Operator Level.Products ∷ C.Operator Level.Sums ∷ C.Operator Level.Shifts ∷ C.Operator Level.Orders ∷ C.Operator Level.Equalities ∷ C.Operator Level.BitAnds ∷ C.Operator Level.BitXors ∷ C.Sign S.Dot ∷ C.Sign S.OpenBracket ∷ C.Sign S.Open ∷ [])
-peek (R.Operand Level.BitOrs) = (C.Operator Level.Products ∷ C.Operator Level.Sums ∷ C.Operator Level.Shifts ∷ C.Operator Level.Orders ∷ C.Operator Level.Equalities ∷ C.Operator Level.BitAnds ∷ C.Operator Level.BitXors ∷ C.Operator Level.BitOrs ∷ C.Sign S.Dot ∷ C.Sign S.OpenBracket ∷ C.Sign S.Open ∷ [])
-peek (R.Operand Level.Ands) = (C.Operator Level.Products ∷ C.Operator Level.Sums ∷ C.Operator Level.Shifts ∷ C.Operator Level.Orders ∷ C.Operator Level.Equalities ∷ C.Operator Level.BitAnds ∷ C.Operator Level.BitXors ∷ C.Operator Level.BitOrs ∷ C.Operator Level.Ands ∷ C.Sign S.Dot ∷ C.Sign S.OpenBracket ∷ C.Sign S.Open ∷ [])
-peek (R.Operand Level.Ors) = (C.Operator Level.Products ∷ C.Operator Level.Sums ∷ C.Operator Level.Shifts ∷ C.Operator Level.Orders ∷ C.Operator Level.Equalities ∷ C.Operator Level.BitAnds ∷ C.Operator Level.BitXors ∷ C.Operator Level.BitOrs ∷ C.Operator Level.Ands ∷ C.Operator Level.Ors ∷ C.Sign S.Dot ∷ C.Sign S.OpenBracket ∷ C.Sign S.Open ∷ [])
-peek (R.Tail Level.Prefixes) = []
-peek (R.Tail Level.Products) = (C.Operator Level.Products ∷ C.Sign S.Dot ∷ C.Sign S.OpenBracket ∷ C.Sign S.Open ∷ [])
-peek (R.Tail Level.Sums) = (C.Operator Level.Sums ∷ C.Operator Level.Products ∷ C.Sign S.Dot ∷ C.Sign S.OpenBracket ∷ C.Sign S.Open ∷ [])
-peek (R.Tail Level.Shifts) = (C.Operator Level.Shifts ∷ C.Operator Level.Products ∷ C.Operator Level.Sums ∷ C.Sign S.Dot ∷ C.Sign S.OpenBracket ∷ C.Sign S.Open ∷ [])
-peek (R.Tail Level.Orders) = (C.Operator Level.Orders ∷ C.Operator Level.Products ∷ C.Operator Level.Sums ∷ C.Operator Level.Shifts ∷ C.Sign S.Dot ∷ C.Sign S.OpenBracket ∷ C.Sign S.Open ∷ [])
-peek (R.Tail Level.Equalities) = (C.Operator Level.Equalities ∷ C.Operator Level.Products ∷ C.Operator Level.Sums ∷ C.Operator Level.Shifts ∷ C.Operator Level.Orders ∷ C.Sign S.Dot ∷ C.Sign S.OpenBracket ∷ C.Sign S.Open ∷ [])
-peek (R.Tail Level.BitAnds) = (C.Operator Level.BitAnds ∷ C.Operator Level.Products ∷ C.Operator Level.Sums ∷ C.Operator Level.Shifts ∷ C.Operator Level.Orders ∷ C.Operator Level.Equalities ∷ C.Sign S.Dot ∷ C.Sign S.OpenBracket ∷ C.Sign S.Open ∷ [])
-peek (R.Tail Level.BitXors) = (C.Operator Level.BitXors ∷ C.Operator Level.Products ∷ C.Operator Level.Sums ∷ C.Operator Level.Shifts ∷ C.Operator Level.Orders ∷ C.Operator Level.Equalities ∷ C.Operator Level.BitAnds ∷ C.Sign S.Dot ∷ C.Sign S.OpenBracket ∷ C.Sign S.Open ∷ [])
-peek (R.Tail Level.BitOrs) = (C.Operator Level.BitOrs ∷ C.Operator Level.Products ∷ C.Operator Level.Sums ∷ C.Operator Level.Shifts ∷ C.Operator Level.Orders ∷ C.Operator Level.Equalities ∷ C.Operator Level.BitAnds ∷ C.Operator Level.BitXors ∷ C.Sign S.Dot ∷ C.Sign S.OpenBracket ∷ C.Sign S.Open ∷ [])
-peek (R.Tail Level.Ands) = (C.Operator Level.Ands ∷ C.Operator Level.Products ∷ C.Operator Level.Sums ∷ C.Operator Level.Shifts ∷ C.Operator Level.Orders ∷ C.Operator Level.Equalities ∷ C.Operator Level.BitAnds ∷ C.Operator Level.BitXors ∷ C.Operator Level.BitOrs ∷ C.Sign S.Dot ∷ C.Sign S.OpenBracket ∷ C.Sign S.Open ∷ [])
-peek (R.Tail Level.Ors) = (C.Operator Level.Ors ∷ C.Operator Level.Products ∷ C.Operator Level.Sums ∷ C.Operator Level.Shifts ∷ C.Operator Level.Orders ∷ C.Operator Level.Equalities ∷ C.Operator Level.BitAnds ∷ C.Operator Level.BitXors ∷ C.Operator Level.BitOrs ∷ C.Operator Level.Ands ∷ C.Sign S.Dot ∷ C.Sign S.OpenBracket ∷ C.Sign S.Open ∷ [])
-peek R.Postfix = (C.Sign S.Dot ∷ C.Sign S.OpenBracket ∷ C.Sign S.Open ∷ [])
-peek R.Called = (C.Sign S.Open ∷ [])
-peek R.Args = (C.Operator Level.Prefixes ∷ C.Literal ∷ C.ValueWord ∷ C.Name ∷ C.Sign S.Open ∷ C.Word W.New ∷ C.Sign S.Question ∷ C.Sign S.Comma ∷ C.Operator Level.Products ∷ C.Operator Level.Sums ∷ C.Operator Level.Shifts ∷ C.Operator Level.Orders ∷ C.Operator Level.Equalities ∷ C.Operator Level.BitAnds ∷ C.Operator Level.BitXors ∷ C.Operator Level.BitOrs ∷ C.Operator Level.Ands ∷ C.Operator Level.Ors ∷ C.Sign S.Dot ∷ C.Sign S.OpenBracket ∷ [])
-peek R.MoreArgs = (C.Sign S.Comma ∷ C.Sign S.Question ∷ C.Operator Level.Products ∷ C.Operator Level.Sums ∷ C.Operator Level.Shifts ∷ C.Operator Level.Orders ∷ C.Operator Level.Equalities ∷ C.Operator Level.BitAnds ∷ C.Operator Level.BitXors ∷ C.Operator Level.BitOrs ∷ C.Operator Level.Ands ∷ C.Operator Level.Ors ∷ C.Sign S.Dot ∷ C.Sign S.OpenBracket ∷ C.Sign S.Open ∷ [])
-peek R.Post = (C.Sign S.Dot ∷ C.Sign S.OpenBracket ∷ C.Sign S.Open ∷ [])
-peek R.Dotted = (C.Sign S.Open ∷ [])
-peek R.NewBase = (C.Sign S.Dot ∷ C.Sign S.OpenBracket ∷ C.Sign S.Open ∷ [])
-peek R.NewMemory = (C.Sign S.Open ∷ C.Sign S.Dot ∷ C.Sign S.OpenBracket ∷ [])
-peek R.NewRest = (C.Sign S.Dot ∷ C.Sign S.OpenBracket ∷ C.Sign S.Open ∷ [])
-peek R.FreshTail = (C.Sign S.Open ∷ C.Sign S.Dot ∷ C.Sign S.OpenBracket ∷ [])
-peek R.Sizes = (C.Sign S.OpenBracket ∷ [])
-peek R.MoreSizes = (C.Sign S.OpenBracket ∷ [])
-peek R.Simple = (C.Sign S.OpenBracket ∷ C.Sign S.Dot ∷ C.Operator Level.Products ∷ C.Operator Level.Sums ∷ C.Operator Level.Shifts ∷ C.Operator Level.Orders ∷ C.Operator Level.Equalities ∷ C.Operator Level.BitAnds ∷ C.Operator Level.BitXors ∷ C.Operator Level.BitOrs ∷ C.Operator Level.Ands ∷ C.Operator Level.Ors ∷ C.Sign S.Question ∷ C.Sign S.Connect ∷ C.Sign S.Open ∷ [])
-peek R.NameRest = (C.Sign S.OpenBracket ∷ C.Sign S.Dot ∷ C.Operator Level.Products ∷ C.Operator Level.Sums ∷ C.Operator Level.Shifts ∷ C.Operator Level.Orders ∷ C.Operator Level.Equalities ∷ C.Operator Level.BitAnds ∷ C.Operator Level.BitXors ∷ C.Operator Level.BitOrs ∷ C.Operator Level.Ands ∷ C.Operator Level.Ors ∷ C.Sign S.Question ∷ C.Sign S.Connect ∷ C.Sign S.Open ∷ [])
-peek R.Other = (C.Sign S.Question ∷ C.Operator Level.Products ∷ C.Operator Level.Sums ∷ C.Operator Level.Shifts ∷ C.Operator Level.Orders ∷ C.Operator Level.Equalities ∷ C.Operator Level.BitAnds ∷ C.Operator Level.BitXors ∷ C.Operator Level.BitOrs ∷ C.Operator Level.Ands ∷ C.Operator Level.Ors ∷ C.Sign S.OpenBracket ∷ C.Sign S.Dot ∷ C.Sign S.Connect ∷ C.Sign S.Open ∷ [])
-peek R.NewStmt = (C.Sign S.OpenBracket ∷ C.Sign S.Dot ∷ C.Operator Level.Products ∷ C.Operator Level.Sums ∷ C.Operator Level.Shifts ∷ C.Operator Level.Orders ∷ C.Operator Level.Equalities ∷ C.Operator Level.BitAnds ∷ C.Operator Level.BitXors ∷ C.Operator Level.BitOrs ∷ C.Operator Level.Ands ∷ C.Operator Level.Ors ∷ C.Sign S.Question ∷ C.Sign S.Connect ∷ C.Sign S.Open ∷ [])
-peek R.NewStmtMemory = (C.Sign S.OpenBracket ∷ C.Sign S.Dot ∷ C.Operator Level.Products ∷ C.Operator Level.Sums ∷ C.Operator Level.Shifts ∷ C.Operator Level.Orders ∷ C.Operator Level.Equalities ∷ C.Operator Level.BitAnds ∷ C.Operator Level.BitXors ∷ C.Operator Level.BitOrs ∷ C.Operator Level.Ands ∷ C.Operator Level.Ors ∷ C.Sign S.Question ∷ C.Sign S.Connect ∷ C.Sign S.Open ∷ [])
-peek R.NewStmtRest = (C.Sign S.OpenBracket ∷ C.Sign S.Dot ∷ C.Operator Level.Products ∷ C.Operator Level.Sums ∷ C.Operator Level.Shifts ∷ C.Operator Level.Orders ∷ C.Operator Level.Equalities ∷ C.Operator Level.BitAnds ∷ C.Operator Level.BitXors ∷ C.Operator Level.BitOrs ∷ C.Operator Level.Ands ∷ C.Operator Level.Ors ∷ C.Sign S.Question ∷ C.Sign S.Connect ∷ C.Sign S.Open ∷ [])
-peek (R.Rest Form.Place) = (C.Sign S.Question ∷ C.Sign S.OpenBracket ∷ C.Sign S.Dot ∷ C.Operator Level.Products ∷ C.Operator Level.Sums ∷ C.Operator Level.Shifts ∷ C.Operator Level.Orders ∷ C.Operator Level.Equalities ∷ C.Operator Level.BitAnds ∷ C.Operator Level.BitXors ∷ C.Operator Level.BitOrs ∷ C.Operator Level.Ands ∷ C.Operator Level.Ors ∷ C.Sign S.Connect ∷ C.Sign S.Open ∷ [])
-peek (R.Rest Form.Call) = (C.Sign S.OpenBracket ∷ C.Sign S.Dot ∷ C.Operator Level.Products ∷ C.Operator Level.Sums ∷ C.Operator Level.Shifts ∷ C.Operator Level.Orders ∷ C.Operator Level.Equalities ∷ C.Operator Level.BitAnds ∷ C.Operator Level.BitXors ∷ C.Operator Level.BitOrs ∷ C.Operator Level.Ands ∷ C.Operator Level.Ors ∷ C.Sign S.Question ∷ C.Sign S.Connect ∷ C.Sign S.Open ∷ [])
-peek (R.Rest Form.Free) = (C.Sign S.OpenBracket ∷ C.Sign S.Dot ∷ C.Operator Level.Products ∷ C.Operator Level.Sums ∷ C.Operator Level.Shifts ∷ C.Operator Level.Orders ∷ C.Operator Level.Equalities ∷ C.Operator Level.BitAnds ∷ C.Operator Level.BitXors ∷ C.Operator Level.BitOrs ∷ C.Operator Level.Ands ∷ C.Operator Level.Ors ∷ C.Sign S.Question ∷ C.Sign S.Connect ∷ C.Sign S.Open ∷ [])
-peek (R.Rest Form.Fresh) = (C.Sign S.OpenBracket ∷ C.Sign S.Dot ∷ C.Operator Level.Products ∷ C.Operator Level.Sums ∷ C.Operator Level.Shifts ∷ C.Operator Level.Orders ∷ C.Operator Level.Equalities ∷ C.Operator Level.BitAnds ∷ C.Operator Level.BitXors ∷ C.Operator Level.BitOrs ∷ C.Operator Level.Ands ∷ C.Operator Level.Ors ∷ C.Sign S.Question ∷ C.Sign S.Connect ∷ C.Sign S.Open ∷ [])
-peek R.Bare = (C.Sign S.Question ∷ C.Sign S.OpenBracket ∷ C.Sign S.Dot ∷ C.Operator Level.Products ∷ C.Operator Level.Sums ∷ C.Operator Level.Shifts ∷ C.Operator Level.Orders ∷ C.Operator Level.Equalities ∷ C.Operator Level.BitAnds ∷ C.Operator Level.BitXors ∷ C.Operator Level.BitOrs ∷ C.Operator Level.Ands ∷ C.Operator Level.Ors ∷ C.Sign S.Connect ∷ C.Sign S.Open ∷ [])
-peek R.DottedRest = (C.Sign S.OpenBracket ∷ C.Sign S.Dot ∷ C.Operator Level.Products ∷ C.Operator Level.Sums ∷ C.Operator Level.Shifts ∷ C.Operator Level.Orders ∷ C.Operator Level.Equalities ∷ C.Operator Level.BitAnds ∷ C.Operator Level.BitXors ∷ C.Operator Level.BitOrs ∷ C.Operator Level.Ands ∷ C.Operator Level.Ors ∷ C.Sign S.Question ∷ C.Sign S.Connect ∷ C.Sign S.Open ∷ [])
-peek R.Init = (C.Sign S.Question ∷ C.Operator Level.Products ∷ C.Operator Level.Sums ∷ C.Operator Level.Shifts ∷ C.Operator Level.Orders ∷ C.Operator Level.Equalities ∷ C.Operator Level.BitAnds ∷ C.Operator Level.BitXors ∷ C.Operator Level.BitOrs ∷ C.Operator Level.Ands ∷ C.Operator Level.Ors ∷ C.Sign S.Dot ∷ C.Sign S.OpenBracket ∷ C.Sign S.Open ∷ [])
-peek R.Inits = (C.Sign S.OpenBrace ∷ C.Operator Level.Prefixes ∷ C.Literal ∷ C.ValueWord ∷ C.Name ∷ C.Sign S.Open ∷ C.Word W.New ∷ C.Sign S.Question ∷ C.Sign S.Comma ∷ C.Operator Level.Products ∷ C.Operator Level.Sums ∷ C.Operator Level.Shifts ∷ C.Operator Level.Orders ∷ C.Operator Level.Equalities ∷ C.Operator Level.BitAnds ∷ C.Operator Level.BitXors ∷ C.Operator Level.BitOrs ∷ C.Operator Level.Ands ∷ C.Operator Level.Ors ∷ C.Sign S.Dot ∷ C.Sign S.OpenBracket ∷ [])
-peek R.MoreInits = (C.Sign S.Comma ∷ C.Sign S.Question ∷ C.Operator Level.Products ∷ C.Operator Level.Sums ∷ C.Operator Level.Shifts ∷ C.Operator Level.Orders ∷ C.Operator Level.Equalities ∷ C.Operator Level.BitAnds ∷ C.Operator Level.BitXors ∷ C.Operator Level.BitOrs ∷ C.Operator Level.Ands ∷ C.Operator Level.Ors ∷ C.Sign S.Dot ∷ C.Sign S.OpenBracket ∷ C.Sign S.Open ∷ [])
-peek R.Block = []
-peek R.Stmts = (C.Sign S.OpenBrace ∷ C.Word W.Final ∷ C.TypeWord ∷ C.Name ∷ C.Word W.Return ∷ C.Word W.If ∷ C.Word W.While ∷ C.Word W.For ∷ C.Sign S.Semicolon ∷ C.Operator Level.Prefixes ∷ C.Literal ∷ C.ValueWord ∷ C.Sign S.Open ∷ C.Word W.New ∷ C.Word W.Else ∷ [])
-peek R.Stmt = (C.Word W.Else ∷ [])
-peek (R.NameThen Site.Alone) = []
-peek (R.NameThen Site.Loop) = (C.Sign S.OpenBracket ∷ C.Sign S.Dot ∷ C.Operator Level.Products ∷ C.Operator Level.Sums ∷ C.Operator Level.Shifts ∷ C.Operator Level.Orders ∷ C.Operator Level.Equalities ∷ C.Operator Level.BitAnds ∷ C.Operator Level.BitXors ∷ C.Operator Level.BitOrs ∷ C.Operator Level.Ands ∷ C.Operator Level.Ors ∷ C.Sign S.Question ∷ C.Sign S.Connect ∷ C.Sign S.Open ∷ [])
-peek (R.BracketThen Site.Alone) = []
-peek (R.BracketThen Site.Loop) = (C.Sign S.Question ∷ C.Sign S.OpenBracket ∷ C.Sign S.Dot ∷ C.Operator Level.Products ∷ C.Operator Level.Sums ∷ C.Operator Level.Shifts ∷ C.Operator Level.Orders ∷ C.Operator Level.Equalities ∷ C.Operator Level.BitAnds ∷ C.Operator Level.BitXors ∷ C.Operator Level.BitOrs ∷ C.Operator Level.Ands ∷ C.Operator Level.Ors ∷ C.Sign S.Connect ∷ C.Sign S.Open ∷ [])
-peek (R.Declared Site.Alone) = []
-peek (R.Declared Site.Loop) = (C.Sign S.Question ∷ C.Operator Level.Products ∷ C.Operator Level.Sums ∷ C.Operator Level.Shifts ∷ C.Operator Level.Orders ∷ C.Operator Level.Equalities ∷ C.Operator Level.BitAnds ∷ C.Operator Level.BitXors ∷ C.Operator Level.BitOrs ∷ C.Operator Level.Ands ∷ C.Operator Level.Ors ∷ C.Sign S.Dot ∷ C.Sign S.OpenBracket ∷ C.Sign S.Open ∷ [])
-peek R.ReturnRest = []
-peek R.ElseTail = (C.Word W.Else ∷ [])
-peek R.ElseRest = (C.Word W.Else ∷ [])
-peek R.Body = []
-peek R.First = (C.Sign S.OpenBracket ∷ C.Sign S.Dot ∷ C.Operator Level.Products ∷ C.Operator Level.Sums ∷ C.Operator Level.Shifts ∷ C.Operator Level.Orders ∷ C.Operator Level.Equalities ∷ C.Operator Level.BitAnds ∷ C.Operator Level.BitXors ∷ C.Operator Level.BitOrs ∷ C.Operator Level.Ands ∷ C.Operator Level.Ors ∷ C.Sign S.Question ∷ C.Sign S.Connect ∷ C.TypeWord ∷ C.Name ∷ C.Operator Level.Prefixes ∷ C.Literal ∷ C.ValueWord ∷ C.Sign S.Open ∷ C.Word W.New ∷ [])
-peek R.Test = (C.Operator Level.Prefixes ∷ C.Literal ∷ C.ValueWord ∷ C.Name ∷ C.Sign S.Open ∷ C.Word W.New ∷ C.Sign S.Question ∷ C.Operator Level.Products ∷ C.Operator Level.Sums ∷ C.Operator Level.Shifts ∷ C.Operator Level.Orders ∷ C.Operator Level.Equalities ∷ C.Operator Level.BitAnds ∷ C.Operator Level.BitXors ∷ C.Operator Level.BitOrs ∷ C.Operator Level.Ands ∷ C.Operator Level.Ors ∷ C.Sign S.Dot ∷ C.Sign S.OpenBracket ∷ [])
-peek R.Step = (C.Name ∷ C.Operator Level.Prefixes ∷ C.Literal ∷ C.ValueWord ∷ C.Sign S.Open ∷ C.Word W.New ∷ C.Sign S.OpenBracket ∷ C.Sign S.Dot ∷ C.Operator Level.Products ∷ C.Operator Level.Sums ∷ C.Operator Level.Shifts ∷ C.Operator Level.Orders ∷ C.Operator Level.Equalities ∷ C.Operator Level.BitAnds ∷ C.Operator Level.BitXors ∷ C.Operator Level.BitOrs ∷ C.Operator Level.Ands ∷ C.Operator Level.Ors ∷ C.Sign S.Question ∷ C.Sign S.Connect ∷ [])
-peek (R.MemoryThen Site.Alone) = []
-peek (R.MemoryThen Site.Loop) = (C.Sign S.OpenBracket ∷ C.Sign S.Dot ∷ C.Operator Level.Products ∷ C.Operator Level.Sums ∷ C.Operator Level.Shifts ∷ C.Operator Level.Orders ∷ C.Operator Level.Equalities ∷ C.Operator Level.BitAnds ∷ C.Operator Level.BitXors ∷ C.Operator Level.BitOrs ∷ C.Operator Level.Ands ∷ C.Operator Level.Ors ∷ C.Sign S.Question ∷ C.Sign S.Connect ∷ C.Sign S.Open ∷ [])
-peek (R.LessThen Site.Alone) = []
-peek (R.LessThen Site.Loop) = (C.Sign S.Question ∷ C.Operator Level.Products ∷ C.Operator Level.Sums ∷ C.Operator Level.Shifts ∷ C.Operator Level.Orders ∷ C.Operator Level.Equalities ∷ C.Operator Level.BitAnds ∷ C.Operator Level.BitXors ∷ C.Operator Level.BitOrs ∷ C.Operator Level.Ands ∷ C.Operator Level.Ors ∷ C.Sign S.Dot ∷ C.Sign S.OpenBracket ∷ C.Sign S.Open ∷ [])
-peek (R.DFEVarThen Site.Alone) = []
-peek (R.DFEVarThen Site.Loop) = (C.Sign S.Question ∷ C.Operator Level.Products ∷ C.Operator Level.Sums ∷ C.Operator Level.Shifts ∷ C.Operator Level.Orders ∷ C.Operator Level.Equalities ∷ C.Operator Level.BitAnds ∷ C.Operator Level.BitXors ∷ C.Operator Level.BitOrs ∷ C.Operator Level.Ands ∷ C.Operator Level.Ors ∷ C.Sign S.Dot ∷ C.Sign S.OpenBracket ∷ C.Sign S.Open ∷ [])
-peek (R.GreaterThen Site.Alone) = []
-peek (R.GreaterThen Site.Loop) = (C.Sign S.Question ∷ C.Operator Level.Products ∷ C.Operator Level.Sums ∷ C.Operator Level.Shifts ∷ C.Operator Level.Orders ∷ C.Operator Level.Equalities ∷ C.Operator Level.BitAnds ∷ C.Operator Level.BitXors ∷ C.Operator Level.BitOrs ∷ C.Operator Level.Ands ∷ C.Operator Level.Ors ∷ C.Sign S.Dot ∷ C.Sign S.OpenBracket ∷ C.Sign S.Open ∷ [])
-peek (R.MemoryName Site.Alone) = []
-peek (R.MemoryName Site.Loop) = (C.Sign S.Question ∷ C.Operator Level.Products ∷ C.Operator Level.Sums ∷ C.Operator Level.Shifts ∷ C.Operator Level.Orders ∷ C.Operator Level.Equalities ∷ C.Operator Level.BitAnds ∷ C.Operator Level.BitXors ∷ C.Operator Level.BitOrs ∷ C.Operator Level.Ands ∷ C.Operator Level.Ors ∷ C.Sign S.Dot ∷ C.Sign S.OpenBracket ∷ C.Sign S.Open ∷ [])
-peek R.MemoryBare = (C.Sign S.OpenBracket ∷ C.Sign S.Dot ∷ C.Operator Level.Products ∷ C.Operator Level.Sums ∷ C.Operator Level.Shifts ∷ C.Operator Level.Orders ∷ C.Operator Level.Equalities ∷ C.Operator Level.BitAnds ∷ C.Operator Level.BitXors ∷ C.Operator Level.BitOrs ∷ C.Operator Level.Ands ∷ C.Operator Level.Ors ∷ C.Sign S.Question ∷ C.Sign S.Connect ∷ C.Sign S.Open ∷ [])
-peek R.OtherOperand = (C.Sign S.Open ∷ C.Sign S.Dot ∷ C.Sign S.OpenBracket ∷ [])
-peek R.NamelessOperand = (C.Sign S.Dot ∷ C.Sign S.OpenBracket ∷ C.Sign S.Open ∷ [])
-peek R.Further = (C.Sign S.Dot ∷ C.Sign S.OpenBracket ∷ C.Sign S.Open ∷ [])
-peek R.Tighter = (C.Operator Level.Products ∷ C.Operator Level.Sums ∷ C.Operator Level.Shifts ∷ C.Sign S.Dot ∷ C.Sign S.OpenBracket ∷ C.Sign S.Open ∷ [])
-
--- more than what may come before the next token in each of its choices
-abbrev pub weight : Rule → ℕ
-weight R.File = 6
-weight R.Package = 1
-weight R.Path = 1
-weight R.MorePath = 1
-weight R.Imports = 1
-weight R.MaybeStatic = 1
-weight R.ImportMore = 1
-weight R.ImportDot = 1
-weight R.Classes = 4
-weight R.Class = 3
-weight R.Mods = 1
-weight R.Declares = 3
-weight R.MethodRest = 1
-weight R.Params = 5
-weight R.MoreParams = 1
-weight R.Param = 4
-weight R.MaybeFinal = 1
-weight (R.Opening false) = 3
-weight (R.Opening true) = 3
-weight (R.Opened false) = 4
-weight (R.Opened true) = 3
-weight R.SuperRest = 1
-weight R.TypeName = 1
-weight R.MemoryType = 1
-weight R.Dims = 2
-weight R.Expr = 14
-weight R.CondTail = 2
-weight (R.Operand Level.Prefixes) = 3
-weight (R.Operand Level.Products) = 4
-weight (R.Operand Level.Sums) = 5
-weight (R.Operand Level.Shifts) = 6
-weight (R.Operand Level.Orders) = 7
-weight (R.Operand Level.Equalities) = 8
-weight (R.Operand Level.BitAnds) = 9
-weight (R.Operand Level.BitXors) = 10
-weight (R.Operand Level.BitOrs) = 11
-weight (R.Operand Level.Ands) = 12
-weight (R.Operand Level.Ors) = 13
-weight (R.Tail Level.Prefixes) = 1
-weight (R.Tail Level.Products) = 1
-weight (R.Tail Level.Sums) = 1
-weight (R.Tail Level.Shifts) = 1
-weight (R.Tail Level.Orders) = 1
-weight (R.Tail Level.Equalities) = 1
-weight (R.Tail Level.BitAnds) = 1
-weight (R.Tail Level.BitXors) = 1
-weight (R.Tail Level.BitOrs) = 1
-weight (R.Tail Level.Ands) = 1
-weight (R.Tail Level.Ors) = 1
-weight R.Postfix = 2
-weight R.Called = 2
-weight R.Args = 15
-weight R.MoreArgs = 1
-weight R.Post = 2
-weight R.Dotted = 2
-weight R.NewBase = 1
-weight R.NewMemory = 5
-weight R.NewRest = 4
-weight R.FreshTail = 1
-weight R.Sizes = 1
-weight R.MoreSizes = 2
-weight R.Simple = 3
-weight R.NameRest = 16
-weight R.Other = 2
-weight R.NewStmt = 1
-weight R.NewStmtMemory = 5
-weight R.NewStmtRest = 4
-weight (R.Rest Form.Place) = 15
-weight (R.Rest Form.Call) = 14
-weight (R.Rest Form.Free) = 14
-weight (R.Rest Form.Fresh) = 14
-weight R.Bare = 14
-weight R.DottedRest = 16
-weight R.Init = 15
-weight R.Inits = 16
-weight R.MoreInits = 1
-weight R.Block = 2
-weight R.Stmts = 4
-weight R.Stmt = 3
-weight (R.NameThen Site.Alone) = 15
-weight (R.NameThen Site.Loop) = 15
-weight (R.BracketThen Site.Alone) = 16
-weight (R.BracketThen Site.Loop) = 16
-weight (R.Declared Site.Alone) = 1
-weight (R.Declared Site.Loop) = 1
-weight R.ReturnRest = 15
-weight R.ElseTail = 1
-weight R.ElseRest = 5
-weight R.Body = 4
-weight R.First = 3
-weight R.Test = 15
-weight R.Step = 4
-weight (R.MemoryThen Site.Alone) = 11
-weight (R.MemoryThen Site.Loop) = 11
-weight (R.LessThen Site.Alone) = 4
-weight (R.LessThen Site.Loop) = 4
-weight (R.DFEVarThen Site.Alone) = 12
-weight (R.DFEVarThen Site.Loop) = 12
-weight (R.GreaterThen Site.Alone) = 3
-weight (R.GreaterThen Site.Loop) = 3
-weight (R.MemoryName Site.Alone) = 20
-weight (R.MemoryName Site.Loop) = 20
-weight R.MemoryBare = 10
-weight R.OtherOperand = 3
-weight R.NamelessOperand = 2
-weight R.Further = 2
-weight R.Tighter = 1

@@ -1,10 +1,10 @@
 -- The classes of tokens, and the kinds that each has.
-use Rattle.std.specs.Prelude.{◌≡◌, ℕ, ◌+◌, ◌^◌, Bool, true, false, not, ◌&&◌, List, [], ◌∷◌, Option, Some, None, nat_eq, bit_or, if◌then◌else◌}
+use Rattle.std.specs.Prelude.{◌≡◌, ℕ, ◌+◌, Bool, true, false, List, [], ◌∷◌, nat_eq, if◌then◌else◌}
 use Rattle.std.specs.List.{list_any}
 use Rattle.std.specs.Str.{bytes_eq}
 use Rattle.maxj_syntax.specs.declared.level.Level.{Level}
-use Rattle.maxj_syntax.specs.declared.sign.Sign.{Sign}
-use Rattle.maxj_syntax.specs.declared.sign.Sign.TheVariants as S
+use Rattle.maxj_tokens.specs.declared.sign.Sign.{Sign}
+use Rattle.maxj_tokens.specs.declared.sign.Sign.TheVariants as S
 use Rattle.maxj_syntax.specs.declared.kind.Word.{Word}
 use Rattle.maxj_syntax.specs.declared.kind.Word.TheVariants as W
 use Rattle.maxj_syntax.specs.declared.kind.Kind.{Kind}
@@ -13,10 +13,10 @@ use Rattle.maxj_syntax.specs.declared.tree.NodeKind.{NodeKind}
 use Rattle.maxj_syntax.specs.declared.tree.NodeKind.TheVariants as N
 use Rattle.maxj_syntax.specs.declared.symbol.TokenClass.{TokenClass}
 use Rattle.maxj_syntax.specs.declared.symbol.TokenClass.TheVariants as C
-use Rattle.maxj_syntax.specs.Tokens.{Token, written}
-use Rattle.maxj_syntax.specs.Reading.{sign_bytes}
+use Rattle.maxj_tokens.specs.Tokens.{Token, written, is_among}
+use Rattle.maxj_tokens.specs.Reading.{sign_bytes}
 use Rattle.maxj_syntax.specs.Kinds.{word_bytes}
-use Rattle.maxj_syntax.specs.Productions.{is_name, is_among, modifiers, type_words, value_words, assigning_signs, counting_signs, signs_of, IsLiteral}
+use Rattle.maxj_syntax.specs.Productions.{is_name, modifiers, type_words, value_words, assigning_signs, counting_signs, signs_of, IsLiteral}
 
 abbrev pub sign_number : Sign → ℕ
 sign_number S.Open = 0

@@ -1,15 +1,15 @@
 // Trees that are being built.
 ghost use Rattle.std.specs.Prelude.{◌≡◌, ◌<◌, ◌≤◌, ◌+◌, ◌-◌, ◌++◌, ◌∷◌, [], length, drop, take, map, IfOk, OnOk, codes};
 ghost use Rattle.std.specs.List.{All};
-ghost use Rattle.maxj_syntax.specs.Tokens.{written};
-ghost use Rattle.maxj_syntax.specs.Scanning.{span_of, from_of, to_of};
-ghost use Rattle.maxj_syntax.specs.Reading.{token_view, placed_view};
+ghost use Rattle.maxj_tokens.specs.Tokens.{written};
+ghost use Rattle.maxj_tokens.specs.Scanning.{span_of, from_of, to_of};
+ghost use Rattle.maxj_tokens.specs.Reading.{token_view, placed_view};
 ghost use Rattle.maxj_syntax.specs.TokenClasses.{leaf_kind};
 ghost use Rattle.maxj_syntax.specs.Building.{Acts, Takes, Adds, Wraps, Does, Texts, IsBottom, IsLeaf, EndsIn, view_of};
 
 use crate::symbol::{Action, Effect};
-use crate::token::{Placed, Token};
 use crate::tree::{Class, Node, NodeKind};
+use maxj_tokens::{Placed, Token};
 use mx_base::{List, NoMemory, Span, Text};
 use std::alloc::Global;
 

@@ -1,51 +1,11 @@
 // The kinds of tokens that a class has.
 ghost use Rattle.std.specs.Prelude.{◌≡◌};
-ghost use Rattle.maxj_syntax.specs.TokenClasses.{same, among, operators, class_has};
+ghost use Rattle.maxj_syntax.specs.TokenClasses.{same, among, names, operators, class_has};
 
 use crate::kind::{Kind, Word};
 use crate::level::Level;
-use crate::sign::Sign;
 use crate::symbol::TokenClass;
-
-/// The names, with the words that are names too.
-const NAMES: [Kind; 7] = [
-    Kind::Name,
-    Kind::Word(Word::Kernel),
-    Kind::Word(Word::CustomManager),
-    Kind::Word(Word::Memory),
-    Kind::Word(Word::DFEVar),
-    Kind::Word(Word::KernelParameters),
-    Kind::Word(Word::EngineParameters),
-];
-
-const MODIFIERS: [Kind; 5] = [
-    Kind::Word(Word::Public),
-    Kind::Word(Word::Private),
-    Kind::Word(Word::Protected),
-    Kind::Word(Word::Static),
-    Kind::Word(Word::Final),
-];
-
-const ASSIGNING: [Kind; 4] = [
-    Kind::Sign(Sign::Assign),
-    Kind::Sign(Sign::PlusAssign),
-    Kind::Sign(Sign::MinusAssign),
-    Kind::Sign(Sign::StarAssign),
-];
-
-const ORDERS: [Kind; 4] = [
-    Kind::Sign(Sign::Less),
-    Kind::Sign(Sign::LessEqual),
-    Kind::Sign(Sign::Greater),
-    Kind::Sign(Sign::GreaterEqual),
-];
-
-const EQUALITIES: [Kind; 4] = [
-    Kind::Sign(Sign::Same),
-    Kind::Sign(Sign::NotSame),
-    Kind::Sign(Sign::Equal),
-    Kind::Sign(Sign::NotEqual),
-];
+use maxj_tokens::Sign;
 
 fn is_same(a: Kind, b: Kind) -> bool
     ensures { result ≡ same a b }
@@ -53,45 +13,67 @@ fn is_same(a: Kind, b: Kind) -> bool
     a.number() == b.number()
 }
 
-fn is_among(kind: Kind, kinds: &[Kind]) -> bool
-    ensures { result ≡ among kind kinds.now }
+/// A name, or a word that is a name too.
+fn is_name(kind: Kind) -> bool
+    ensures { result ≡ among kind names }
 {
-    kinds.iter().any(|other| is_same(kind, *other))
+    match kind {
+        Kind::Name => true,
+        Kind::Word(word) => matches!(
+            word,
+            Word::Kernel
+                | Word::CustomManager
+                | Word::Memory
+                | Word::DFEVar
+                | Word::KernelParameters
+                | Word::EngineParameters
+        ),
+        _ => false,
+    }
 }
 
 fn is_operator(kind: Kind, level: Level) -> bool
     ensures { result ≡ among kind (operators level) }
 {
+    let Kind::Sign(sign) = kind else { return false };
     match level {
-        Level::Prefixes => is_among(
-            kind,
-            &[
-                Kind::Sign(Sign::Minus),
-                Kind::Sign(Sign::Tilde),
-                Kind::Sign(Sign::Not),
-            ],
+        Level::Prefixes => matches!(sign, Sign::Minus | Sign::Tilde | Sign::Not),
+        Level::Products => matches!(sign, Sign::Star | Sign::Slash | Sign::Percent),
+        Level::Sums => matches!(sign, Sign::Plus | Sign::Minus),
+        Level::Shifts => matches!(sign, Sign::ShiftLeft | Sign::ShiftRight),
+        Level::Orders => matches!(
+            sign,
+            Sign::Less | Sign::LessEqual | Sign::Greater | Sign::GreaterEqual
         ),
-        Level::Products => is_among(
-            kind,
-            &[
-                Kind::Sign(Sign::Star),
-                Kind::Sign(Sign::Slash),
-                Kind::Sign(Sign::Percent),
-            ],
+        Level::Equalities => matches!(
+            sign,
+            Sign::Same | Sign::NotSame | Sign::Equal | Sign::NotEqual
         ),
-        Level::Sums => is_among(kind, &[Kind::Sign(Sign::Plus), Kind::Sign(Sign::Minus)]),
-        Level::Shifts => is_among(
-            kind,
-            &[Kind::Sign(Sign::ShiftLeft), Kind::Sign(Sign::ShiftRight)],
-        ),
-        Level::Orders => is_among(kind, &ORDERS),
-        Level::Equalities => is_among(kind, &EQUALITIES),
-        Level::BitAnds => is_same(kind, Kind::Sign(Sign::And)),
-        Level::BitXors => is_same(kind, Kind::Sign(Sign::Xor)),
-        Level::BitOrs => is_same(kind, Kind::Sign(Sign::Or)),
-        Level::Ands => is_same(kind, Kind::Sign(Sign::AndAnd)),
-        Level::Ors => is_same(kind, Kind::Sign(Sign::OrOr)),
+        Level::BitAnds => matches!(sign, Sign::And),
+        Level::BitXors => matches!(sign, Sign::Xor),
+        Level::BitOrs => matches!(sign, Sign::Or),
+        Level::Ands => matches!(sign, Sign::AndAnd),
+        Level::Ors => matches!(sign, Sign::OrOr),
     }
+}
+
+/// A word before a class or a member.
+fn is_modifier(kind: Kind) -> bool
+    ensures { result ≡ class_has TokenClass.Modifier kind }
+{
+    matches!(
+        kind,
+        Kind::Word(Word::Public | Word::Private | Word::Protected | Word::Static | Word::Final)
+    )
+}
+
+fn is_assigning(kind: Kind) -> bool
+    ensures { result ≡ class_has TokenClass.Assigning kind }
+{
+    matches!(
+        kind,
+        Kind::Sign(Sign::Assign | Sign::PlusAssign | Sign::MinusAssign | Sign::StarAssign)
+    )
 }
 
 /// Whether the class has tokens of the kind: all of them, or none.
@@ -101,25 +83,17 @@ pub fn class_has(class: TokenClass, kind: Kind) -> bool
     match class {
         TokenClass::Sign(sign) => is_same(kind, Kind::Sign(sign)),
         TokenClass::Word(word) => is_same(kind, Kind::Word(word)),
-        TokenClass::Name => is_among(kind, &NAMES),
-        TokenClass::NameBut(word) => is_among(kind, &NAMES) && !is_same(kind, Kind::Word(word)),
-        TokenClass::TypeWord => is_among(kind, &[Kind::Word(Word::Int), Kind::Word(Word::Boolean)]),
-        TokenClass::Modifier => is_among(kind, &MODIFIERS),
-        TokenClass::ValueWord => is_among(
-            kind,
-            &[
-                Kind::Word(Word::This),
-                Kind::Word(Word::True),
-                Kind::Word(Word::False),
-            ],
-        ),
-        TokenClass::Literal => is_among(kind, &[Kind::Whole, Kind::Decimal, Kind::Str]),
-        TokenClass::Assigning => is_among(kind, &ASSIGNING),
-        TokenClass::Counting => is_among(
-            kind,
-            &[Kind::Sign(Sign::PlusPlus), Kind::Sign(Sign::MinusMinus)],
-        ),
+        TokenClass::Name => is_name(kind),
+        TokenClass::NameBut(word) => is_name(kind) && !is_same(kind, Kind::Word(word)),
+        TokenClass::TypeWord => matches!(kind, Kind::Word(Word::Int | Word::Boolean)),
+        TokenClass::Modifier => is_modifier(kind),
+        TokenClass::ValueWord => matches!(kind, Kind::Word(Word::This | Word::True | Word::False)),
+        TokenClass::Literal => matches!(kind, Kind::Whole | Kind::Decimal | Kind::Str),
+        TokenClass::Assigning => is_assigning(kind),
+        TokenClass::Counting => matches!(kind, Kind::Sign(Sign::PlusPlus | Sign::MinusMinus)),
         TokenClass::Operator(level) => is_operator(kind, level),
-        TokenClass::OrderBut(sign) => is_among(kind, &ORDERS) && !is_same(kind, Kind::Sign(sign)),
+        TokenClass::OrderBut(sign) => {
+            is_operator(kind, Level::Orders) && !is_same(kind, Kind::Sign(sign))
+        }
     }
 }

@@ -1,14 +1,10 @@
 // The kinds of tokens that the parser tells apart.
 ghost use Rattle.std.specs.Prelude.{◌≡◌};
-ghost use Rattle.std.specs.List.{list_all};
-ghost use Rattle.maxj_syntax.specs.Tokens.{is_word, is_name_byte};
-ghost use Rattle.maxj_syntax.specs.Reading.{token_view};
-ghost use Rattle.maxj_syntax.specs.Kinds.{word_bytes, first_word, known_word, word_kind, kind_of};
+ghost use Rattle.maxj_tokens.specs.Reading.{token_view};
+ghost use Rattle.maxj_syntax.specs.Kinds.{word_bytes, words_of_length, first_word, known_word, word_kind, kind_of};
 ghost use Rattle.maxj_syntax.specs.TokenClasses.{number};
 
-use crate::bytes::{Class, begins_name, split_front};
-use crate::sign::Sign;
-use crate::token::Token;
+use maxj_tokens::{Sign, Token, is_word};
 
 /// A word that the grammar knows.
 #[derive(Clone, Copy, Debug, PartialEq, Eq)]
@@ -57,38 +53,6 @@ pub enum Kind {
     /// What the scanner never makes.
     Other,
 }
-
-/// The words that the grammar knows.
-const WORDS: [Word; 28] = [
-    Word::Package,
-    Word::Import,
-    Word::Static,
-    Word::Public,
-    Word::Private,
-    Word::Protected,
-    Word::Final,
-    Word::Class,
-    Word::Extends,
-    Word::Void,
-    Word::Return,
-    Word::If,
-    Word::Else,
-    Word::While,
-    Word::For,
-    Word::New,
-    Word::This,
-    Word::True,
-    Word::False,
-    Word::Int,
-    Word::Boolean,
-    Word::Super,
-    Word::Kernel,
-    Word::CustomManager,
-    Word::Memory,
-    Word::DFEVar,
-    Word::KernelParameters,
-    Word::EngineParameters,
-];
 
 impl Kind {
     /// The number of the kind, below 73.
@@ -159,28 +123,44 @@ fn first_word(bytes: &[u8], words: &[Word]) -> Option<Word>
     }
 }
 
+/// The words of the grammar that have so many bytes.
+fn words_of_length(length: usize) -> &'static [Word]
+    ensures { result.now ≡ words_of_length length }
+{
+    match length {
+        2 => &[Word::If],
+        3 => &[Word::For, Word::New, Word::Int],
+        4 => &[Word::Void, Word::Else, Word::This, Word::True],
+        5 => &[
+            Word::Final,
+            Word::Class,
+            Word::While,
+            Word::False,
+            Word::Super,
+        ],
+        6 => &[
+            Word::Import,
+            Word::Static,
+            Word::Public,
+            Word::Return,
+            Word::Kernel,
+            Word::Memory,
+            Word::DFEVar,
+        ],
+        7 => &[Word::Package, Word::Private, Word::Extends, Word::Boolean],
+        9 => &[Word::Protected],
+        13 => &[Word::CustomManager],
+        16 => &[Word::KernelParameters, Word::EngineParameters],
+        _ => &[],
+    }
+}
+
 /// The word of the grammar that these bytes are.
+#[tactic(auto, using(crate::proofs::KindLemmas::known_by_length))]
 fn known_word(bytes: &[u8]) -> Option<Word>
     ensures { result ≡ known_word bytes.now }
 {
-    first_word(bytes, &WORDS)
-}
-
-/// Whether all of the bytes may stand in a name.
-fn are_name_bytes(bytes: &[u8]) -> bool
-    ensures { result ≡ list_all is_name_byte bytes.now }
-{
-    split_front(bytes, Class::Name).rest.is_empty()
-}
-
-/// Whether the bytes are a name, or a word that is no name.
-fn is_word(bytes: &[u8]) -> bool
-    ensures { result ≡ is_word bytes.now }
-{
-    match bytes.split_first() {
-        Some((first, rest)) => begins_name(*first) && are_name_bytes(rest),
-        None => false,
-    }
+    first_word(bytes, words_of_length(bytes.len()))
 }
 
 fn word_kind(bytes: &[u8]) -> Kind

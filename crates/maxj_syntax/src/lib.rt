@@ -1,38 +1,29 @@
-//! The syntax of sources: from the bytes to the tokens and the tree, or the place of the first fault.
+//! The syntax of sources: from the tokens to the tree, or the place of the first fault.
 #![tactic(auto)]
 
+mod alphabet;
 mod build;
-mod bytes;
+mod choices;
+mod choosing;
 mod class;
-mod excess;
-mod gap;
+mod guards;
+mod heads;
 mod kind;
 mod level;
-mod number;
+mod members;
 mod parser;
-mod profile;
 mod project;
-mod scanner;
-mod sign;
 mod source;
+mod stack;
 mod symbol;
-mod table;
-mod token;
 mod tree;
 
-pub use excess::first_excess;
 pub use parser::{ParseError, parse_tokens};
-pub use profile::first_outside;
 pub use project::is_no_project;
-pub use scanner::{ScanError, scan};
-pub use sign::Sign;
 pub use source::{SourceError, parse};
-pub use token::{Placed, Token};
 pub use tree::{Class, Node, NodeKind, Program};
 
 #[cfg(test)]
-mod fault_tests;
-#[cfg(test)]
 mod parse_tests;
 #[cfg(test)]
-mod tests;
+mod project_tests;

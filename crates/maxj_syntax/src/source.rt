@@ -2,12 +2,10 @@
 ghost use Rattle.std.specs.Prelude.{◌≡◌, ◌<◌, ◌^◌, length, IfOk, IfErr};
 ghost use Rattle.maxj_syntax.specs.Outcomes.{IsTheSource, FailsToRead, of_scan, of_parse};
 
-use crate::excess::first_excess;
 use crate::parser::{ParseError, parse_tokens};
-use crate::profile::first_outside;
 use crate::project::is_no_project;
-use crate::scanner::{ScanError, scan};
 use crate::tree::Program;
+use maxj_tokens::{ScanError, first_excess, first_outside, scan};
 use mx_base::NoMemory;
 use std::alloc::Global;
 

@@ -2,8 +2,8 @@
 
 use crate::kind::Word;
 use crate::level::Level;
-use crate::sign::Sign;
 use crate::tree::NodeKind;
+use maxj_tokens::Sign;
 
 /// A class of tokens.
 #[derive(Clone, Copy, Debug)]

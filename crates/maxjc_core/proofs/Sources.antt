@@ -8,7 +8,7 @@ use Rattle.rtl_ir.specs.Ports as ports
 use Rattle.rtl_ir.specs.Ports.{Shape}
 use Rattle.maxj_syntax.specs.Tree.{ClassTree}
 use Rattle.maxj_syntax.specs.Source.{IsSourceOf}
-use Rattle.maxj_syntax.specs.Tokens.{is_name_start, is_name_byte, is_word}
+use Rattle.maxj_tokens.specs.Tokens.{is_name_start, is_name_byte, is_word}
 use Rattle.expression_source.specs.Names.{is_plain_name}
 use Rattle.expression_source.specs.Source.{Source, output_of}
 use Rattle.expression_source.specs.Steps.{result_of}
@@ -37,8 +37,8 @@ named_bytes (b ∷ bs) h =
 pub plain : (name : List ℕ) → is_plain_name name ≡ true → ports.is_plain_name name ≡ true
 plain [] h = absurd (cc)
 plain (b ∷ bs) h =
-    let word = (both (is_word (b ∷ bs)) (is_letter b) h).0 in
-    let letter = (both (is_word (b ∷ bs)) (is_letter b) h).1 in
+    let letter = (both (is_letter b) (is_word (b ∷ bs)) h).0 in
+    let word = (both (is_letter b) (is_word (b ∷ bs)) h).1 in
     let rest = (both (is_name_start b) (list_all is_name_byte bs) word).1 in
     rw (letter, named_bytes bs rest) refl
 

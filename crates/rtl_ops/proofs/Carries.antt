@@ -89,9 +89,10 @@ above_test h d r e = grind (arith, nat_tests)
 half_test : (h d r : ℕ) → d ≡ h * 2 → (r == h) ≡ (2 * r == d)
 half_test h d r e = grind (arith, nat_tests)
 
-pub even_test : (k a h x y : ℕ) (odd : Bool) → 1 ≤ k → h ≡ 2 ^ (k - 1) → x ≡ bit (nat_lt h (a % 2 ^ k)) → y ≡ bit_of (a % 2 ^ k == h && odd) → bit_or x y ≡ bit_of (rounds_up ToNearEven odd (a % 2 ^ k) (2 ^ k))
-even_test k a h x y odd some e f g =
-    let twice : 2 ^ k ≡ h * 2 = twice_half k some ∙ ap (λ n. n * 2) (sym e) in
+pub even_test : (k a x y : ℕ) (odd : Bool) → 1 ≤ k → x ≡ bit (nat_lt (2 ^ (k - 1)) (a % 2 ^ k)) → y ≡ bit_of (a % 2 ^ k == 2 ^ (k - 1) && odd) → bit_or x y ≡ bit_of (rounds_up ToNearEven odd (a % 2 ^ k) (2 ^ k))
+even_test k a x y odd some f g =
+    let h = 2 ^ (k - 1) in
+    let twice : 2 ^ k ≡ h * 2 = twice_half k some in
     ap (λ n. bit_or n y) f ∙ ap (bit_or (bit (nat_lt h (a % 2 ^ k)))) g ∙ or_of_bits (nat_lt h (a % 2 ^ k)) (a % 2 ^ k == h && odd)
     ∙ ap (λ b. bit_of (b || (a % 2 ^ k == h && odd))) (above_test h (2 ^ k) (a % 2 ^ k) twice)
     ∙ ap (λ b. bit_of (nat_lt (2 ^ k) (2 * (a % 2 ^ k)) || (b && odd))) (half_test h (2 ^ k) (a % 2 ^ k) twice)

@@ -81,13 +81,9 @@ top_bit a w some lt =
     ap (λ k. k % 2 ^ 1) one ∙ ap bit (sym test))
     (cases_lt a (2 ^ (w - 1)))
 
--- the bits before a signed number
-pub signed_bits : (t : StreamType) (a w k : ℕ) → is_signed t ≡ true → w ≡ width_of t → 1 ≤ w → a < 2 ^ width_of t → repeated k 1 ((a / 2 ^ (w - 1)) % 2 ^ (w - 1 + 1 - (w - 1))) ≡ reduced k (floor_of (value_of t a) (2 ^ width_of t))
-signed_bits t a w k s e some lt =
-    let below : is_below_zero t a ≡ nat_le (2 ^ (width_of t - 1)) a = ap (λ b. b && nat_le (2 ^ (width_of t - 1)) a) s in
-    ap (repeated k 1) (top_bit a w some (subst (λ x. a < 2 ^ x) (sym e) lt) ∙ ap (λ x. bit (nat_le (2 ^ (x - 1)) a)) e ∙ ap bit (sym below))
-    ∙ repeated_bit k (is_below_zero t a)
-    ∙ ap (reduced k) (sym (floor_past t a lt))
+-- the bits before a number, by whether it is below 0
+pub signed_bits : (t : StreamType) (a k : ℕ) → a < 2 ^ width_of t → repeated k 1 (bit (is_below_zero t a)) ≡ reduced k (floor_of (value_of t a) (2 ^ width_of t))
+signed_bits t a k lt = repeated_bit k (is_below_zero t a) ∙ ap (reduced k) (sym (floor_past t a lt))
 
 -- a number's word by its high and its low bits
 parts_split : (z q p : ℤ) (s r j w : ℕ) → Splits z q (2 ^ w) r → Splits q p (2 ^ j) s → Splits z p (2 ^ (j + w)) (s * 2 ^ w + r)

@@ -9,10 +9,9 @@ ghost use Rattle.rtl_ops.specs.Signals.{HasSignal, Makes};
 ghost use Rattle.rtl_ops.specs.Wires.{IsOpen};
 
 use crate::signal::Signal;
-use crate::wires::{binary, complement, literal};
+use crate::wires::{binary, complement, half};
 use fix_arith::StreamType;
 use mx_base::NoMemory;
-use mx_bits::Word;
 use rtl_ir::{Module, Sign};
 use std::alloc::Global;
 
@@ -28,7 +27,7 @@ fn rank(alloc: Global, netlist: &mut Module, t: StreamType, a: Signal) -> Result
     if !t.is_signed() {
         return Ok(a);
     }
-    let half = literal(alloc, netlist, Word::new(1 << (a.width - 1), a.width))?;
+    let half = half(alloc, netlist, a.width)?;
     binary(alloc, netlist, Sign::Add, a.width, a, half)
 }
 

@@ -1,8 +1,10 @@
 // Numbers as words of another width.
-ghost use Rattle.std.specs.Prelude.{◌≡◌, ◌+◌, ◌≤◌, ◌<◌, ◌^◌, length, IfOk};
+ghost use Rattle.std.specs.Prelude.{◌≡◌, ◌+◌, ◌≤◌, ◌<◌, ◌^◌, true, length, IfOk};
 ghost use Rattle.fix_arith.specs.Types.{width_of, is_signed};
 ghost use Rattle.fix_arith.specs.Values.{value_of, reduced};
 ghost use Rattle.fix_arith.specs.Rounding.{floor_of};
+ghost use Rattle.rtl_ir.specs.Value.{bit};
+ghost use Rattle.rtl_ops.specs.Orders.{is_below_zero};
 ghost use Rattle.rtl_ops.specs.Signals.{HasSignal, Makes};
 ghost use Rattle.rtl_ops.specs.Wires.{IsOpen};
 
@@ -26,6 +28,23 @@ pub fn whole_type(t: StreamType, width: u8) -> StreamType
     }
 }
 
+/// One bit: 1 where the number of a signed type is below 0.
+pub fn sign(
+    alloc: Global,
+    netlist: &mut Module,
+    t: StreamType,
+    a: Signal,
+) -> Result<Signal, NoMemory>
+    requires range { IsOpen netlist.old }
+    requires room { length netlist.old.nets + 1 ≤ 2 ^ 32 }
+    requires a { HasSignal netlist.old a }
+    requires a_type { a.width ≡ width_of t }
+    requires signed { is_signed t ≡ true }
+    ensures { IfOk result (Makes netlist.old netlist.new 1 1 (λ v. bit (is_below_zero t (v a.net)))) }
+{
+    part(alloc, netlist, a, a.width - 1, a.width - 1)
+}
+
 /// The bits that stand before a number, so many as the width says: all of them 1 where the number is
 /// below 0, and 0 else.
 pub fn sign_bits(
@@ -47,7 +66,7 @@ pub fn sign_bits(
     if !t.is_signed() {
         return literal(alloc, netlist, Word::new(0, width));
     }
-    let sign = part(alloc, netlist, a, a.width - 1, a.width - 1)?;
+    let sign = sign(alloc, netlist, t, a)?;
     repeat(alloc, netlist, width, sign)
 }
 

@@ -53,6 +53,17 @@ pub fn literal(alloc: Global, netlist: &mut Module, word: Word) -> Result<Signal
     add_wire(alloc, netlist, word.width(), Expr::Literal(word))
 }
 
+/// Half of the number of words of this width: the word whose top bit alone is 1.
+pub fn half(alloc: Global, netlist: &mut Module, width: u8) -> Result<Signal, NoMemory>
+    requires range { IsOpen netlist.old }
+    requires room { length netlist.old.nets < 2 ^ 32 }
+    requires some { 1 ≤ width }
+    requires at_most { width ≤ 128 }
+    ensures { IfOk result (Makes netlist.old netlist.new 1 width (λ v. 2 ^ (width - 1))) }
+{
+    literal(alloc, netlist, Word::new(1 << (width - 1), width))
+}
+
 /// Each bit turned.
 pub fn complement(alloc: Global, netlist: &mut Module, a: Signal) -> Result<Signal, NoMemory>
     requires range { IsOpen netlist.old }

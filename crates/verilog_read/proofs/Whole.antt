@@ -25,7 +25,8 @@ use Rattle.verilog_read.specs.Refused.{IsRuleFault, Refuses, IsReadAs}
 use Rattle.verilog_read.specs.Answers.{AreTokens, IsScanFault, AreTrees, IsDesign, IsTreeFault, BreaksRule, CanRun, HasWrongPort}
 use Rattle.verilog_read.specs.declared.error.VerilogError.{VerilogError}
 use Rattle.verilog_read.specs.declared.error.VerilogError.TheVariants.{NoToken, Syntax, Rtl, PortShape, NoMemory}
-use Rattle.verilog_read.proofs.Readings.{one_reading, not_read, unplaced}
+use Rattle.text_scan.proofs.Places.{plain}
+use Rattle.verilog_read.proofs.Readings.{one_reading, not_read}
 use Rattle.verilog_read.proofs.Good.{file_good}
 use Rattle.verilog_read.proofs.Said.{modules_are, are_numbered}
 use Rattle.verilog_read.proofs.Forms
@@ -53,7 +54,7 @@ scan_excluded d r (IsScanFault.stuck place h) = absurd (not_read r.reads.is.read
 -- the text has these tokens
 module _ (bytes : List ℕ) (tokens : List Placed) (at : AreTokens bytes tokens) where
   are : IsTokens bytes (tokens_of tokens)
-  are = subst (IsTokens bytes) (views tokens) (unplaced at)
+  are = subst (IsTokens bytes) (views tokens) (plain at)
 
   text_of : (trees : List ModuleTree) → AreTrees tokens trees → IsText bytes trees
   text_of trees a = record { tokens = tokens_of tokens; read = are; derived = a.derived }
@@ -141,7 +142,7 @@ module _ (bytes : List ℕ) (tokens : List Placed) (at : AreTokens bytes tokens)
     excluded d h r (Syntax place) f =
         let t = r.reads.is in
         let trees = r.reads.trees in
-        f.bad.none (File trees) (trees, refl) (subst (λ l. Derives Is Choice (File trees ∷ []) l) (one_reading (unplaced f.read) t.read) t.derived)
+        f.bad.none (File trees) (trees, refl) (subst (λ l. Derives Is Choice (File trees ∷ []) l) (one_reading (plain f.read) t.read) t.derived)
     excluded d h r (Rtl (rules.Unknown name)) f =
         let same : f.trees ≡ r.reads.trees = one_tree h.trees f.trees h.are f.is ∙ sym (one_tree h.trees r.reads.trees h.are r.reads.is) in
         let g : Some name ≡ None = sym f.unknown ∙ ap unknown_in same ∙ r.reads.known in absurd (cc)

@@ -3,7 +3,6 @@ use Rattle.std.proofs.Common.{◌≡◌, ◌∙◌, inl, inr, ◌≤◌, ℕ, tr
 use Rattle.std.specs.Str.{bytes_eq}
 use Rattle.std.proofs.lemmas.List.{append-nil}
 use Rattle.std.proofs.lemmas.Bool.Decides.{nat_tests}
-use Rattle.std.proofs.lemmas.Slice.Eq.{bytes_eq-Decides}
 use Rattle.grammar.specs.Grammar.{Derives}
 use Rattle.grammar.specs.Stack.{Starts}
 use Rattle.grammar.proofs.Leftmost.{starts_then, joined}
@@ -17,11 +16,8 @@ use Rattle.verilog_syntax.specs.Pieces.{piece_part, piece_token, same_token, beg
 use Rattle.verilog_syntax.specs.Scanning.{mark_bytes}
 use Rattle.verilog_syntax.specs.declared.keyword.Piece.{Piece}
 use Rattle.verilog_syntax.specs.declared.keyword.Piece.TheVariants.{Word, Sign, Clock, Zero}
-use Rattle.verilog_syntax.proofs.ByteTests.{clash, bytes_same, eq_same, cond_split}
+use Rattle.text_scan.proofs.ByteTests.{clash, bytes_same, bytes_refl, eq_same, cond_split}
 use Rattle.verilog_syntax.proofs.Signs.{mark_is_sign}
-
-pub bytes_refl : (xs : List ℕ) → bytes_eq xs xs ≡ true
-bytes_refl xs = (bytes_eq-Decides xs xs).1 refl
 
 -- tokens as they are compared
 

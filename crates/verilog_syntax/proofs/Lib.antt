@@ -1,7 +1,5 @@
-pub mod ByteTests
 pub mod Words
 pub mod Signs
-pub mod GapLemmas
 pub mod Places
 pub mod Plans
 pub mod Digits

@@ -12,8 +12,8 @@ use Rattle.verilog_syntax.specs.Pieces.{piece_token, begins_with, begins_item, n
 use Rattle.verilog_syntax.specs.declared.keyword.Piece.TheVariants.{Word, Sign}
 use Rattle.verilog_syntax.specs.declared.keyword.Keyword.TheVariants as words
 use Rattle.verilog_syntax.specs.declared.mark.Mark.TheVariants as marks
-use Rattle.verilog_syntax.proofs.ByteTests.{clash, or_true}
-use Rattle.verilog_syntax.proofs.Fronts.{front_is, front_is_not, no_name, bytes_refl}
+use Rattle.text_scan.proofs.ByteTests.{clash, or_true, bytes_refl}
+use Rattle.verilog_syntax.proofs.Fronts.{front_is, front_is_not, no_name}
 use Rattle.verilog_syntax.proofs.Plans.{Plan, read, fixed, Refuses}
 use Rattle.verilog_syntax.proofs.Refusals.{named}
 

@@ -10,8 +10,8 @@ use Rattle.rtl_text.specs.Productions.{Part, Id, Sign_, Number, Literal, Is, Cho
 use Rattle.verilog_syntax.specs.Parsing.{Symbol, NameOf, NumberTo, LiteralOf, OperatorOf, ExprOf, TreeOf, GoesOn, Ends, ended}
 use Rattle.verilog_syntax.specs.Pieces.{piece_part, piece_token, same_token, begins_with, name_at, operator_at}
 use Rattle.verilog_syntax.specs.declared.keyword.Piece.{Piece}
-use Rattle.verilog_syntax.proofs.ByteTests.{clash}
-use Rattle.verilog_syntax.proofs.Fronts.{front_is, front_is_not, no_name, no_operator, is_piece, no_choice, name_front, operator_front, bytes_refl}
+use Rattle.text_scan.proofs.ByteTests.{clash, bytes_refl}
+use Rattle.verilog_syntax.proofs.Fronts.{front_is, front_is_not, no_name, no_operator, is_piece, no_choice, name_front, operator_front}
 use Rattle.verilog_syntax.proofs.Plans.{Plan, done, read, fixed, either, Path, stack, Refuses}
 
 begun_by : (p : Piece) {below : List Part} {t : Token} {u : List Token} → Starts Is Choice (piece_part p ∷ below) (t ∷ u) → t ≡ piece_token p

@@ -1,42 +1,26 @@
 -- The token at the front of a text.
-use Rattle.std.proofs.Common.{◌≡◌, ◌∙◌, inl, inr, ℕ, ◌==◌, Bool, true, false, ◌&&◌, List, [], ◌∷◌, ◌++◌, Option, Some, None, IsSome, refl, sym, ap, subst, append_assoc, arith, length, length-append, ◌-◌, take}
+use Rattle.std.proofs.Common.{◌≡◌, ◌∙◌, inl, inr, ℕ, ◌==◌, Bool, true, false, ◌&&◌, List, [], ◌∷◌, ◌++◌, Some, IsSome, refl, sym, ap, subst, append_assoc}
 use Rattle.std.specs.List.{list_all, list_any}
 use Rattle.std.specs.Str.{bytes_eq}
 use Rattle.std.proofs.lemmas.List.{append_cancel_right}
 use Rattle.grammar.specs.Bytes.{is_digit, is_hex, decimal}
 use Rattle.rtl_text.specs.Tokens.{Token, token_of, is_hex_part, is_quote, is_sign, signs}
 use Rattle.rtl_ir.specs.Names.{begins_name, continues_name}
-use Rattle.std.proofs.Math.Seq.{take-append_seam}
 use Rattle.rtl_ir.specs.declared.design.Sign.TheVariants.{Add, Sub, Mul, Div, And, Or, Xor, Eq, Lt}
 use Rattle.verilog_syntax.specs.declared.mark.Mark.{Mark}
 use Rattle.verilog_syntax.specs.declared.mark.Mark.TheVariants.{Open, Close, OpenBracket, CloseBracket, OpenBrace, CloseBrace, Semicolon, Colon, Comma, Dot, At, Question, Assign, LessEqual, Tilde, Operator}
-use Rattle.verilog_syntax.specs.Classes.{BeginsOutside}
-use Rattle.verilog_syntax.specs.declared.bytes.Class.TheVariants.{Name, Digit, Hex}
+use Rattle.text_scan.specs.Classes.{BeginsOutside}
+use Rattle.text_scan.specs.declared.bytes.ByteClass.TheVariants.{WordOrDollar, Digit, Hex}
 use Rattle.rtl_text.specs.Tokens.{Apart, BeginsStar}
-use Rattle.verilog_syntax.specs.Scanning.{Takes, BeginsNoGap, BeginsNoToken, starts_name, begins_number, begins_double, begins_hex_part, literal_width, literal_value, mark_bytes}
-use Rattle.verilog_syntax.proofs.ByteTests.{and_true, both_true, or_true, clash, not_true, true_or_false, none_some, bytes_same, not_all, eq_same}
+use Rattle.text_scan.specs.Gaps.{BeginsNoGap}
+use Rattle.verilog_syntax.specs.Scanning.{Takes, BeginsNoToken, starts_name, begins_number, begins_double, begins_hex_part, literal_width, literal_value, mark_bytes}
+use Rattle.text_scan.proofs.ByteTests.{and_true, both_true, or_true, clash, not_true, true_or_false, none_some, bytes_same, not_all, eq_same, some_is}
+use Rattle.text_scan.proofs.Fronts.{taken}
 use Rattle.verilog_syntax.proofs.Words.{start_is_name, token_of_word, no_longer_word, token_of_number, no_longer_number, token_of_literal, no_longer_literal, hex_part_ends, sign_alone}
-
--- a word that is a token and that no longer one of the text begins with
-taken : {text : List ℕ} (word rest : List ℕ) {t : Token} → text ≡ word ++ rest → BeginsNoGap text → token_of word ≡ Some t → ((c : ℕ) (cs back : List ℕ) → rest ≡ c ∷ cs ++ back → IsSome (token_of (word ++ c ∷ cs)) → ⊥) → Apart t rest → Takes text t rest
-taken {text = text} word rest {t = t} e gap is longer apart = (
-  word,
-  e,
-  record {
-    is = is;
-    longest = longest;
-    begins = λ g back f k. gap g back (e ∙ f) k;
-    apart = apart;
-  },
-)
-  where
-    longest : (more back : List ℕ) → rest ≡ more ++ back → IsSome (token_of (word ++ more)) → more ≡ []
-    longest [] back f s = refl
-    longest (c ∷ cs) back f s = absurd (longer c cs back f s)
 
 -- words
 
-pub word_taken : (text front rest : List ℕ) → BeginsNoGap text → starts_name text ≡ true → text ≡ front ++ rest → list_all continues_name front ≡ true → BeginsOutside Name rest → Takes text (Token.Word front) rest
+pub word_taken : (text front rest : List ℕ) → BeginsNoGap text → starts_name text ≡ true → text ≡ front ++ rest → list_all continues_name front ≡ true → BeginsOutside WordOrDollar rest → Takes text (Token.Word front) rest
 word_taken text [] [] gap h e a o = absurd (clash (sym (ap starts_name e) ∙ h) refl)
 word_taken text [] (y ∷ rest) gap h e a o = absurd (clash (start_is_name y (sym (ap starts_name e) ∙ h)) o)
 word_taken text (b ∷ bs) rest gap h e a o =
@@ -44,7 +28,7 @@ word_taken text (b ∷ bs) rest gap h e a o =
     taken (b ∷ bs) rest e gap (token_of_word (b ∷ bs) (both_true (begins_name b) _ start (and_true (continues_name b) _ a).1)) (longer start) tt
   where
     longer : begins_name b ≡ true → (c : ℕ) (cs back : List ℕ) → rest ≡ c ∷ cs ++ back → IsSome (token_of (b ∷ bs ++ c ∷ cs)) → ⊥
-    longer start c cs back f s = none_some _ (no_longer_word b (bs ++ c ∷ cs) start (not_all continues_name bs c cs (subst (BeginsOutside Name) f o))) s
+    longer start c cs back f s = none_some _ (no_longer_word b (bs ++ c ∷ cs) start (not_all continues_name bs c cs (subst (BeginsOutside WordOrDollar) f o))) s
 
 -- numbers
 
@@ -154,10 +138,6 @@ none_taken text n d alone (b ∷ bs) rest t e k =
     let name : begins_name b ≡ false = sym (ap starts_name e) ∙ n in
     let digit : is_digit b ≡ false = sym (ap begins_number e) ∙ d in
     clash (sign_first b bs (some_sign b bs name digit (some_is (token_of (b ∷ bs)) k.is))) (alone b (bs ++ rest) e)
-  where
-    some_is : (o : Option Token) → o ≡ Some t → IsSome o
-    some_is None e = cc
-    some_is (Some x) e = refl
 
 -- an open comment is no `/`
 pub open_taken : (text rest : List ℕ) → text ≡ 47 ∷ 42 ∷ rest → BeginsNoToken text
@@ -171,16 +151,6 @@ open_taken text rest e (b ∷ []) back t f k =
 open_taken text rest e (b ∷ c ∷ cs) back t f k =
     let first : b ≡ 47 = cc in
     clash (sign_long 47 c cs (some_sign 47 (c ∷ cs) refl refl (subst (λ x. IsSome (token_of (x ∷ c ∷ cs))) first (some_is (token_of (b ∷ c ∷ cs)) k.is)))).0 refl
-  where
-    some_is : (o : Option Token) → o ≡ Some t → IsSome o
-    some_is None e = cc
-    some_is (Some x) e = refl
-
--- what stands before a rest
-pub front_is : (text front rest : List ℕ) → text ≡ front ++ rest → text ≡ take (length text - length rest) text ++ rest
-front_is text front rest e =
-    let n : length text - length rest ≡ length front = omega (arith, ap length e, length-append front rest) in
-    e ∙ ap (λ l. l ++ rest) (sym (rw (n, e) (take-append_seam front rest)))
 
 pub mark_is_sign : (m : Mark) → is_sign (mark_bytes m) ≡ true
 mark_is_sign Open = refl

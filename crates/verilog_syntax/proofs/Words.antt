@@ -6,7 +6,7 @@ use Rattle.std.proofs.lemmas.Bool.Decides.{nat_tests}
 use Rattle.grammar.specs.Bytes.{is_digit, is_hex, decimal}
 use Rattle.rtl_text.specs.Tokens.{Token, token_of, is_word, is_number, is_literal, is_hex_part, is_quote, is_sign, signs}
 use Rattle.rtl_ir.specs.Names.{begins_name, continues_name}
-use Rattle.verilog_syntax.proofs.ByteTests.{and_true, or_true, clash, not_true, true_or_false, eq_same, bytes_same, not_all, before_here, before_later, parts_at, before_more}
+use Rattle.text_scan.proofs.ByteTests.{and_true, or_true, clash, not_true, true_or_false, eq_same, bytes_same, not_all, before_here, before_later, parts_at, before_more}
 use Rattle.verilog_syntax.specs.Scanning.{literal_width, literal_value}
 
 -- classes of bytes

@@ -1,4 +1,3 @@
-pub mod Classes
 pub mod Scanning
 pub mod Parsing
 pub mod Pieces

@@ -1,11 +1,13 @@
 -- The tokens of a text with their places, and where a text has no token.
-use Rattle.std.specs.Prelude.{◌≡◌, ℕ, ◌+◌, Bool, false, ◌&&◌, ◌||◌, ◌==◌, List, [], ◌∷◌, ◌++◌, length, codes}
+use Rattle.std.specs.Prelude.{◌≡◌, ℕ, Bool, false, ◌&&◌, ◌||◌, ◌==◌, List, [], ◌∷◌, ◌++◌, length, codes}
 use Rattle.grammar.specs.Bytes.{is_digit, is_hex, decimal, hexadecimal}
 use Rattle.grammar.specs.Tokens.{IsNext, Reads, IsText, Gaps}
 use Rattle.rtl_text.specs.Tokens.{Token, token_of, is_quote, hex_digits, Apart}
 use Rattle.rtl_ir.specs.Names.{begins_name}
 use Rattle.rtl_text.specs.Productions.{sign_bytes}
 use Rattle.std.specs.List.{before_first, after_first}
+use Rattle.text_scan.specs.Places as places
+use Rattle.text_scan.specs.Gaps.{BeginsNoGap}
 use Rattle.verilog_syntax.specs.declared.mark.Mark.{Mark}
 use Rattle.verilog_syntax.specs.declared.mark.Mark.TheVariants.{Open, Close, OpenBracket, CloseBracket, OpenBrace, CloseBrace, Semicolon, Colon, Comma, Dot, At, Question, Assign, LessEqual, Tilde, Operator}
 use Rattle.verilog_syntax.specs.declared.token.Token.{Token as Read}
@@ -23,23 +25,12 @@ abbrev pub IsTokens : List ℕ → List Token → Type 0
 IsTokens bytes ts = IsText Gaps token_of Apart bytes ts
 
 -- a token, and the number of bytes before it
-pub record PlacedToken : Type 0 where
-  pub token : Token
-  pub place : ℕ
+abbrev pub PlacedToken : Type 0
+PlacedToken = places.PlacedToken Token
 
 -- the first of these bytes, which have the place n, are these tokens, and the rest is left
-pub data ReadsAt : ℕ → List ℕ → List PlacedToken → List ℕ → Type 0 where
-  end : {n : ℕ} {bytes : List ℕ} → ReadsAt n bytes [] bytes
-  skip : {n : ℕ} {rest left : List ℕ} {ts : List PlacedToken} (gap : List ℕ) → Gaps gap rest → ReadsAt (n + length gap) rest ts left → ReadsAt n (gap ++ rest) ts left
-  token : {n : ℕ} {rest left : List ℕ} {t : Token} {ts : List PlacedToken} (word : List ℕ) → IsNextToken word rest t → ReadsAt (n + length word) rest ts left
-      → ReadsAt n (word ++ rest) (record { token = t; place = n } ∷ ts) left
-
--- white space or a comment stands at the front, and the rest behind it
-abbrev pub Skips : List ℕ → List ℕ → Type 0
-Skips text rest = (gap : List ℕ) × (text ≡ gap ++ rest) × Gaps gap rest
-
-abbrev pub BeginsNoGap : List ℕ → Type 0
-BeginsNoGap text = (gap rest : List ℕ) → text ≡ gap ++ rest → Gaps gap rest → ⊥
+abbrev pub ReadsAt : ℕ → List ℕ → List PlacedToken → List ℕ → Type 0
+ReadsAt n bytes ts left = places.ReadsAt token_of Apart n bytes ts left
 
 -- the token stands at the front, and the rest behind it
 abbrev pub Takes : List ℕ → Token → List ℕ → Type 0

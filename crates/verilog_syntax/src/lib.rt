@@ -1,10 +1,8 @@
 //! The syntax of the Verilog subset: from the bytes of a text to its tokens and its tree, or the place of its first fault.
 #![tactic(auto)]
 
-mod bytes;
 mod cursor;
 mod expr;
-mod gap;
 mod items;
 mod keyword;
 mod mark;

@@ -4,8 +4,8 @@ ghost use Rattle.grammar.specs.Bytes as numerals;
 ghost use Rattle.verilog_syntax.specs.Scanning.{literal_width, literal_value};
 ghost use Rattle.verilog_syntax.specs.Trees.{IsLiteral};
 
-use crate::bytes::{Class, is_digit, split_front};
 use mx_bits::Word;
+use text_scan::{ByteClass, is_digit, split_front};
 
 fn hex_value(byte: u8) -> u8
     ensures { result ≡ numerals.hex_value byte }
@@ -69,7 +69,7 @@ fn behind_quote(part: &[u8]) -> &[u8]
 pub fn literal(bytes: &[u8]) -> Option<Word>
     ensures { MatchOption result (IsLiteral bytes.now → ⊥) (λ w. IsLiteral bytes.now × (w.width ≡ literal_width bytes.now) × (w.bits ≡ literal_value bytes.now)) }
 {
-    let split = split_front(bytes, Class::Unquoted);
+    let split = split_front(bytes, ByteClass::NotApostrophe);
     let width = match decimal(split.front, 128) {
         Some(0) => return None,
         Some(width) => width as u8,

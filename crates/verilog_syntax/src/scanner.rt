@@ -3,10 +3,10 @@ ghost use Rattle.std.specs.Prelude.{◌≡◌, ◌<◌, ◌^◌, [], length, map
 ghost use Rattle.rtl_text.specs.Tokens as tokens;
 ghost use Rattle.verilog_syntax.specs.Scanning.{ReadsAt, HasNoToken, placed_view, Fails};
 
-use crate::gap::skip_gap;
 use crate::token::{Placed, next_token};
 use mx_base::{List, NoMemory};
 use std::alloc::Global;
+use text_scan::skip_gap;
 
 /// Why a text has no tokens.
 #[derive(Clone, Copy, Debug, PartialEq, Eq)]

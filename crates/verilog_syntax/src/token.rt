@@ -3,13 +3,14 @@ ghost use Rattle.std.specs.Prelude.{◌≡◌, ◌<◌, ◌++◌, ◌∷◌, [],
 ghost use Rattle.std.specs.List.{list_all};
 ghost use Rattle.grammar.specs.Bytes.{is_hex};
 ghost use Rattle.rtl_text.specs.Tokens as tokens;
-ghost use Rattle.verilog_syntax.specs.Classes.{BeginsOutside};
-ghost use Rattle.verilog_syntax.specs.Scanning.{Takes, BeginsNoGap, BeginsNoToken, token_view, mark_bytes, starts_name, begins_number, begins_double, begins_hex_part};
-ghost use Rattle.verilog_syntax.specs.declared.bytes.Class.TheVariants.{Hex};
+ghost use Rattle.text_scan.specs.Classes.{BeginsOutside};
+ghost use Rattle.text_scan.specs.Gaps.{BeginsNoGap};
+ghost use Rattle.verilog_syntax.specs.Scanning.{Takes, BeginsNoToken, token_view, mark_bytes, starts_name, begins_number, begins_double, begins_hex_part};
+ghost use Rattle.text_scan.specs.declared.bytes.ByteClass.TheVariants.{Hex};
 
-use crate::bytes::{Class, after, begins_name, is_digit, split_front};
 use crate::mark::{Mark, single};
 use rtl_ir::Sign;
+use text_scan::{ByteClass, after, begins_name, is_digit, split_front};
 
 /// A token of a text. Numbers stand as they are written, since they may have any number of digits.
 #[derive(Clone, Copy, Debug)]
@@ -42,7 +43,7 @@ fn word(text: &[u8]) -> Found<'_>
     requires name { starts_name text.now ≡ true }
     ensures { Takes text.now (token_view result.token) result.rest.now }
 {
-    let split = split_front(text, Class::Name);
+    let split = split_front(text, ByteClass::WordOrDollar);
     Found {
         token: Token::Word(split.front),
         rest: split.rest,
@@ -54,7 +55,7 @@ fn after_hex_part(text: &[u8]) -> Option<&[u8]>
     ensures none { IfNone result (begins_hex_part text.now ≡ false) }
     ensures some { IfSome result (λ rest. (ds : List ℕ) × (text.now ≡ 39 ∷ ds ++ rest.now) × (tokens.is_hex_part ds ≡ true) × BeginsOutside Hex rest.now) }
 {
-    let split = split_front(after(text, b"'h")?, Class::Hex);
+    let split = split_front(after(text, b"'h")?, ByteClass::Hex);
     if split.front.is_empty() {
         None
     } else {
@@ -67,7 +68,7 @@ fn number(text: &[u8]) -> Found<'_>
     requires number { begins_number text.now ≡ true }
     ensures { Takes text.now (token_view result.token) result.rest.now }
 {
-    let digits = split_front(text, Class::Digit);
+    let digits = split_front(text, ByteClass::Digit);
     match after_hex_part(digits.rest) {
         None => Found {
             token: Token::Number(digits.front),

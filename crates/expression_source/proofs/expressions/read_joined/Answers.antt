@@ -2,7 +2,7 @@ use Rattle.std.proofs.Common.{◌∙◌, sym, ap, arith}
 use Rattle.mx_bits.specs.declared.op.Op.{Op}
 use Rattle.expression_source.specs.Source.{Expression, Joined, op_of}
 use Rattle.expression_source.specs.Reading.{Stands}
-use Rattle.expression_source.proofs.Words.{if_none}
+use Rattle.text_scan.proofs.ByteTests.{if_none}
 use Rattle.expression_source.proofs.Forms.{joined_at, joined_below}
 use Rattle.expression_source.proofs.expressions.read_joined.Goals as goal
 

@@ -1,7 +1,7 @@
 use Rattle.std.proofs.Common.{arith}
 use Rattle.expression_source.specs.Source.{Expression, Turned}
 use Rattle.expression_source.specs.Reading.{Stands}
-use Rattle.expression_source.proofs.Words.{if_none}
+use Rattle.text_scan.proofs.ByteTests.{if_none}
 use Rattle.expression_source.proofs.Forms.{turned_at, turned_below}
 use Rattle.expression_source.proofs.expressions.read_turned.Goals as goal
 

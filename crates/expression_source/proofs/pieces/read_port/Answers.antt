@@ -1,6 +1,6 @@
 use Rattle.expression_source.specs.Source.{Name, IsPort, IsPortName, quoted}
 use Rattle.expression_source.specs.Nodes.{SomeAt}
-use Rattle.expression_source.proofs.Words.{if_none}
+use Rattle.text_scan.proofs.ByteTests.{if_none}
 use Rattle.expression_source.proofs.pieces.read_port.Goals as goal
 
 pub returns-in_err-leaf_word-clause-none : goal.returns-in_err-leaf_word-clause-none

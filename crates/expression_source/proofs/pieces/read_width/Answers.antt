@@ -1,7 +1,7 @@
 use Rattle.std.proofs.Common.{List, ℕ, arith}
 use Rattle.expression_source.specs.Source.{IsWidth, IsAllowedWidth}
 use Rattle.expression_source.specs.Nodes.{SomeAt}
-use Rattle.expression_source.proofs.Words.{if_none}
+use Rattle.text_scan.proofs.ByteTests.{if_none}
 use Rattle.expression_source.proofs.Shapes.{width_is, width_below}
 use Rattle.expression_source.proofs.pieces.read_width.Goals as goal
 

@@ -2,7 +2,7 @@ use Rattle.std.proofs.Common.{arith}
 use Rattle.maxj_syntax.specs.Tree.{Trees}
 use Rattle.expression_source.specs.Source.{Name, IsCtor}
 use Rattle.expression_source.specs.Nodes.{SomeAt}
-use Rattle.expression_source.proofs.Words.{if_none}
+use Rattle.text_scan.proofs.ByteTests.{if_none}
 use Rattle.expression_source.proofs.Shapes.{ctor_is, ctor_below}
 use Rattle.expression_source.proofs.read.read_ctor.Goals as goal
 

@@ -1,4 +1,4 @@
-use Rattle.expression_source.proofs.Words.{if_none, clash}
+use Rattle.text_scan.proofs.ByteTests.{if_none, clash}
 use Rattle.expression_source.proofs.Kernels.{NoSource, no_kernel, no_head, no_body, no_names, frame_is}
 use Rattle.expression_source.proofs.read.read_frame.Goals as goal
 

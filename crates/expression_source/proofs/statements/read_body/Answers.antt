@@ -1,4 +1,4 @@
-use Rattle.expression_source.proofs.Words.{if_none}
+use Rattle.text_scan.proofs.ByteTests.{if_none}
 use Rattle.expression_source.proofs.Kernels.{NoStatements, no_first, no_last, body_parts, body_input, body_output}
 use Rattle.expression_source.proofs.statements.read_body.Goals as goal
 

@@ -2,7 +2,7 @@ use Rattle.std.proofs.Common.{◌∙◌, sym, ap, arith}
 use Rattle.std.proofs.lemmas.Bool.Decides.{nat_tests}
 use Rattle.maxj_syntax.specs.Tree.{two}
 use Rattle.expression_source.specs.Names.{is_taken}
-use Rattle.expression_source.proofs.Words.{if_none, clash}
+use Rattle.text_scan.proofs.ByteTests.{if_none, clash}
 use Rattle.expression_source.proofs.Kernels.{NoInput, input_is, input_parts, input_arguments}
 use Rattle.expression_source.proofs.statements.read_input.Goals.{in_default-via-then-branch-lt2, in_default-via-else-branch-lt2+else-this-lt3}
 use Rattle.expression_source.proofs.statements.read_input.Goals as goal

@@ -1,6 +1,6 @@
 use Rattle.std.proofs.Common.{rules}
 use Rattle.expression_source.specs.Scopes.{numbers_of}
-use Rattle.expression_source.proofs.Words.{clash}
+use Rattle.text_scan.proofs.ByteTests.{clash}
 use Rattle.expression_source.proofs.Locals.{no_declaration, not_free, no_value, local_is}
 use Rattle.expression_source.proofs.statements.read_local.Goals as goal
 

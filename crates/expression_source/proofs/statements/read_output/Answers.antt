@@ -5,7 +5,7 @@ use Rattle.std.proofs.lemmas.Bool.Decides.{nat_tests}
 use Rattle.maxj_syntax.specs.Tree.{Cons, two}
 use Rattle.expression_source.specs.Source.{IsWidth}
 use Rattle.expression_source.specs.Nodes.{EachAt}
-use Rattle.expression_source.proofs.Words.{if_none, clash, bytes_same, bytes_refl}
+use Rattle.text_scan.proofs.ByteTests.{if_none, clash, bytes_same, bytes_refl}
 use Rattle.expression_source.proofs.Kernels.{NoOutput, same_width, output_is, output_node, output_below, output_arguments}
 use Rattle.expression_source.proofs.statements.read_output.Goals.{in_default-via-then-as_slice-lt1, in_default-via-else-as_slice-lt1+else-this-lt2, in_default-2-via-then-branch-lt3, in_default-2-via-else-branch-lt3+else-this-lt4, else-is-via-then-is+else-eq, else-is-via-else-is}
 use Rattle.expression_source.proofs.statements.read_output.Goals as goal

@@ -1,6 +1,6 @@
 use Rattle.std.proofs.Common.{◌≡◌, refl, sym, ap, ◌∙◌, ◌++◌, ◌∷◌, [], drop, length, min}
 use Rattle.std.proofs.Math.ListN.{length-map}
-use Rattle.maxj_syntax.specs.Reading.{placed_view}
+use Rattle.maxj_tokens.specs.Reading.{placed_view}
 use Rattle.maxj_syntax.specs.Building.{view_of}
 use Rattle.maxj_syntax.proofs.Nodes.{declared, declared_span}
 use Rattle.maxj_syntax.proofs.build.declare.Goals as goal

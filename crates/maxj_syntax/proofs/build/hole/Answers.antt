@@ -1,4 +1,4 @@
-use Rattle.std.proofs.Common.{◌≡◌, [], drop, subst}
+use Rattle.std.proofs.Common.{[], drop, subst}
 use Rattle.maxj_syntax.specs.declared.tree.NodeKind.TheVariants as N
 use Rattle.maxj_syntax.specs.Tree.{Node, Nil}
 use Rattle.maxj_syntax.specs.Steps.{At, On}

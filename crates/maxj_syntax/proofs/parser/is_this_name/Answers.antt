@@ -1,6 +1,6 @@
 use Rattle.std.proofs.Common.{ap, ◌∙◌}
 use Rattle.maxj_syntax.specs.declared.symbol.TokenClass.TheVariants as C
-use Rattle.maxj_syntax.specs.Reading.{token_view}
+use Rattle.maxj_tokens.specs.Reading.{token_view}
 use Rattle.maxj_syntax.specs.TokenClasses.{class_has}
 use Rattle.maxj_syntax.proofs.Exits.{name_yes, name_no}
 use Rattle.maxj_syntax.proofs.parser.is_this_name.Goals as goal

@@ -1,7 +1,7 @@
-use Rattle.std.proofs.Common.{◌≡◌, ◌∷◌, List, drop, length, ap, sym, ◌∙◌, subst, refl}
+use Rattle.std.proofs.Common.{◌∷◌, drop, length, ap, ◌∙◌, subst, refl}
 use Rattle.maxj_syntax.specs.declared.symbol.Rule.{Rule}
 use Rattle.maxj_syntax.specs.Symbols.{Sub}
-use Rattle.maxj_syntax.specs.Building.{Reached, Settles, todo, view_of}
+use Rattle.maxj_syntax.specs.Building.{Settles, todo, view_of}
 use Rattle.maxj_syntax.proofs.Exits.{start_file, misplaced_token, misplaced_end, read_token, finished_file}
 use Rattle.maxj_syntax.proofs.parser.parse_tokens.Goals as goal
 

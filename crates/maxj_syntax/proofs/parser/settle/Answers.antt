@@ -1,5 +1,5 @@
-use Rattle.std.proofs.Common.{◌≡◌, ◌∷◌, List, drop, subst, sym, ap, ◌∙◌, refl, option_map}
-use Rattle.maxj_syntax.specs.Reading.{placed_view}
+use Rattle.std.proofs.Common.{drop, subst, sym, ap, ◌∙◌, refl, option_map}
+use Rattle.maxj_tokens.specs.Reading.{placed_view}
 use Rattle.maxj_syntax.specs.Symbols.{Mark, Act, fixed_view, symbol_view}
 use Rattle.maxj_syntax.specs.Building.{Reached, IsRule, todo, view_of}
 use Rattle.maxj_syntax.proofs.Machine.{popped, step_act}

@@ -1,4 +1,4 @@
-use Rattle.std.proofs.Common.{◌≡◌, drop}
+use Rattle.std.proofs.Common.{drop}
 use Rattle.maxj_syntax.specs.Choosing.{chain}
 use Rattle.maxj_syntax.specs.Building.{Reached, todo, view_of}
 use Rattle.maxj_syntax.proofs.parser.settle.Given as goal

@@ -1,4 +1,4 @@
-use Rattle.maxj_syntax.specs.Reading.{token_view}
+use Rattle.maxj_tokens.specs.Reading.{token_view}
 use Rattle.maxj_syntax.proofs.Exits.{taken_token, refused_token}
 use Rattle.maxj_syntax.proofs.parser.taken.Goals as goal
 

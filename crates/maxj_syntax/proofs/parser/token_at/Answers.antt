@@ -1,7 +1,7 @@
 use Rattle.std.proofs.Common.{◌≡◌, ℕ, zero, suc, ◌<◌, List, [], ◌∷◌, Some, refl, arith, drop, length, get_or}
 use Rattle.grammar.specs.Stack.{head_of}
-use Rattle.maxj_syntax.specs.declared.token.Placed.{Placed}
-use Rattle.maxj_syntax.specs.Reading.{placed_view}
+use Rattle.maxj_tokens.specs.declared.token.Placed.{Placed}
+use Rattle.maxj_tokens.specs.Reading.{placed_view}
 use Rattle.maxj_syntax.specs.Building.{view_of}
 use Rattle.maxj_syntax.proofs.parser.token_at.Goals as goal
 

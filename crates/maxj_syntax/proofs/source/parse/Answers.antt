@@ -1,8 +1,8 @@
-use Rattle.std.proofs.Common.{◌≡◌, map, refl, sym, subst, arith}
+use Rattle.std.proofs.Common.{map, refl, sym, subst, arith}
 use Rattle.std.specs.Prelude.{IfErr}
 use Rattle.std.proofs.lemmas.Result.{err_from_is_err_and}
-use Rattle.maxj_syntax.specs.Scanning.{AreTokens}
-use Rattle.maxj_syntax.specs.Reading.{placed_view}
+use Rattle.maxj_tokens.specs.Scanning.{AreTokens}
+use Rattle.maxj_tokens.specs.Reading.{placed_view}
 use Rattle.maxj_syntax.specs.Building.{view_of}
 use Rattle.maxj_syntax.specs.Outcomes.{FailsToRead}
 use Rattle.maxj_syntax.proofs.Ends.{ends_in}

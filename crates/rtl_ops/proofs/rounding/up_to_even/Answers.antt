@@ -1,5 +1,4 @@
-use Rattle.std.proofs.Common.{◌==◌, ◌&&◌, ◌-◌, ◌%◌, ◌∙◌, ap, nat_lt, bit_or, refl, arith}
-use Rattle.std.proofs.lemmas.Nat.{one_shl}
+use Rattle.std.proofs.Common.{◌==◌, ◌&&◌, ◌-◌, ◌%◌, ◌^◌, ◌∙◌, ap, nat_lt, bit_or, refl, arith}
 use Rattle.std.proofs.lemmas.Result.{IfOk-weaker}
 use Rattle.rtl_ir.specs.Value.{bit}
 use Rattle.fix_arith.specs.Table.{bit_of}
@@ -15,8 +14,7 @@ returns c =
     let left = c.in_ok-left.left in
     let half = c.in_ok-half.half in
     let above = c.in_ok-above.above in
-    let number = c.new.result.bits in
-    let is_half = c.new.ensures.bits ∙ one_shl (k - 1) 128 (omega (arith, c.requires.within, c.requires.a.at_most, c.requires.some)) in
+    let number = 2 ^ (k - 1) in
     IfOk-weaker _ _ _ (λ r made.
     goes_on 7 1 _ c.in_ok-left.ensures (
     goes_on 6 1 (λ v. bit_or (bit (nat_lt number (v left.net))) (bit_of (v left.net == number && v floor.net % 2 == 1))) c.in_ok-half.ensures (
@@ -27,4 +25,4 @@ returns c =
     (omega arith) refl (λ d v h e. ap (λ n. bit_or (bit (nat_lt n (v left.net))) (bit_of (v left.net == n && v floor.net % 2 == 1))) e))
     (omega arith) refl (λ d v h e.
     ap (λ n. bit_or (bit (nat_lt number n)) (bit_of (n == number && v floor.net % 2 == 1))) (e ∙ left_of (v a.net) k c.requires.some)
-    ∙ even_test k (v a.net) number _ _ (v floor.net % 2 == 1) c.requires.some is_half refl refl)) c.binary-2.ensures
+    ∙ even_test k (v a.net) _ _ (v floor.net % 2 == 1) c.requires.some refl refl)) c.binary-2.ensures

@@ -18,4 +18,4 @@ returns c =
     let q = c.requires in
     let sign = c.in_ok-sign.ensures in
     IfOk-weaker _ _ _ (λ r made. goes_on 2 c.args.width _ sign made (omega arith) refl (λ d v h e.
-    ap (repeated c.args.width 1) e ∙ signed_bits c.args.t (v a.net) a.width c.args.width (cc) q.a_type q.a.some (type_fits c.args.t a (made.keeps a (sign.keeps a q.a)) q.a_type h))) c.repeat.ensures
+    ap (repeated c.args.width 1) e ∙ signed_bits c.args.t (v a.net) c.args.width (type_fits c.args.t a (made.keeps a (sign.keeps a q.a)) q.a_type h))) c.repeat.ensures

@@ -5,7 +5,7 @@ use Rattle.rtl_text.specs.Productions.{Is, Choice}
 use Rattle.verilog_syntax.specs.Parsed.{IsFile, tokens_of}
 use Rattle.verilog_syntax.specs.Scanning.{token_view}
 use Rattle.verilog_syntax.specs.declared.token.Placed.{Placed}
-use Rattle.verilog_syntax.proofs.ByteTests.{eq_same}
+use Rattle.text_scan.proofs.ByteTests.{eq_same}
 use Rattle.verilog_syntax.proofs.Whole.{whole, whole_only, stop_is_bad, more_is_bad}
 use Rattle.verilog_syntax.proofs.modules.parse.Goals as goal
 

@@ -1,7 +1,7 @@
 use Rattle.std.proofs.Common.{◌∙◌, List, ℕ, Bor}
 use Rattle.std.proofs.lemmas.Map.Text.{is_eq-slice_cmp}
 use Rattle.std.specs.Str.{bytes_eq}
-use Rattle.expression_source.proofs.Words.{bytes_same, not_true}
+use Rattle.text_scan.proofs.ByteTests.{bytes_same, not_true}
 use Rattle.expression_source.proofs.scope.Scope.declare.Goals as goal
 
 pub returns : goal.returns

@@ -1,0 +1,9 @@
+pub mod Words
+pub mod Fronts
+pub mod Numbers
+pub mod Places
+pub mod Readings
+pub mod Values
+pub mod FirstFaults
+pub mod Excesses
+pub mod Examples

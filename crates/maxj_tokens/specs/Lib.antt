@@ -1,0 +1,4 @@
+pub mod Tokens
+pub mod Scanning
+pub mod Reading
+pub mod Faults

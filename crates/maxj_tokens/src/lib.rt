@@ -1,0 +1,23 @@
+//! The tokens of sources: from the bytes to the tokens with their places, or the place of the first fault; and the first token
+//! that is out of profile, or that stands too deep or too far.
+#![tactic(auto)]
+
+mod excess;
+mod number;
+mod profile;
+mod scanner;
+mod sign;
+mod token;
+mod word;
+
+pub use excess::first_excess;
+pub use profile::first_outside;
+pub use scanner::{ScanError, scan};
+pub use sign::Sign;
+pub use token::{Placed, Token};
+pub use word::{is_among, is_foreign_word, is_word};
+
+#[cfg(test)]
+mod fault_tests;
+#[cfg(test)]
+mod tests;

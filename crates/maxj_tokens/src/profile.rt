@@ -1,0 +1,109 @@
+// Tokens out of profile.
+ghost use Rattle.std.specs.Prelude.{◌≡◌, ◌≤◌, ◌^◌, ◌↔◌, map, drop, position, true, false, IsTrue, MatchOption, IfSome, IfNone};
+ghost use Rattle.std.specs.List.{before_first};
+ghost use Rattle.grammar.specs.Bytes as numerals;
+ghost use Rattle.maxj_tokens.specs.Tokens.{is_suffix, is_hex_integer};
+ghost use Rattle.maxj_tokens.specs.Faults.{IsFirst, HasNone, IsOutside, IsForeign, integer_value};
+ghost use Rattle.maxj_tokens.specs.Reading.{token_view, placed_view};
+
+use crate::token::{Placed, Token};
+use crate::word::is_foreign_word;
+use text_scan::{ByteClass, after, is_digit, split_front};
+
+/// The most digits of a decimal, those before its point and those behind it together.
+const MOST_DIGITS: usize = 30;
+
+/// The place of the `L` of an integer.
+fn suffix_place(word: &[u8]) -> Option<usize>
+    ensures { result ≡ position is_suffix word.now }
+{
+    word.iter().position(|byte| *byte == b'L' || *byte == b'l')
+}
+
+/// The integer without its `L`.
+fn without_suffix(word: &[u8]) -> &[u8]
+    ensures { result.now ≡ before_first is_suffix word.now }
+{
+    match suffix_place(word) {
+        Some(end) => &word[..end],
+        None => word,
+    }
+}
+
+/// The digits behind `0x`, where the integer is hexadecimal.
+fn hex_digits(integer: &[u8]) -> Option<&[u8]>
+    ensures some { IfSome result (λ digits. (is_hex_integer integer.now ≡ true) × (digits.now ≡ drop 2 integer.now)) }
+    ensures none { IfNone result (is_hex_integer integer.now ≡ false) }
+{
+    let digits = after(integer, b"0x")?;
+    let split = split_front(digits, ByteClass::Hex);
+    if split.front.is_empty() || !split.rest.is_empty() {
+        None
+    } else {
+        Some(digits)
+    }
+}
+
+fn digit_value(digit: u8) -> u8
+    ensures { result ≡ numerals.hex_value digit }
+{
+    if is_digit(digit) {
+        digit - b'0'
+    } else if b'A' <= digit && digit <= b'F' {
+        digit - (b'A' - 10)
+    } else {
+        digit.saturating_sub(b'a' - 10)
+    }
+}
+
+/// The number that digits say to a base, where it has at most 128 bits.
+fn value(base: u128, digits: &[u8]) -> Option<u128>
+    requires { 1 ≤ base }
+    ensures { let said = numerals.digits_value base 0 digits.now in MatchOption result (2 ^ 128 ≤ said) (λ n. n ≡ said) }
+{
+    let mut value: u128 = 0;
+    for digit in digits {
+        value = value
+            .checked_mul(base)?
+            .checked_add(digit_value(*digit) as u128)?;
+    }
+    Some(value)
+}
+
+/// Whether the integer has more than 128 bits.
+fn is_too_large(word: &[u8]) -> bool
+    ensures { IsTrue result ↔ (2 ^ 128 ≤ integer_value word.now) }
+{
+    let integer = without_suffix(word);
+    let value = match hex_digits(integer) {
+        Some(digits) => value(16, digits),
+        None => value(10, integer),
+    };
+    value.is_none()
+}
+
+/// Whether no source has the token.
+fn is_foreign(token: &Token<'_>) -> bool
+    ensures { IsTrue result ↔ IsForeign (token_view token.now) }
+{
+    match token {
+        Token::Word(word) => is_foreign_word(word),
+        Token::Whole(word) => is_too_large(word),
+        Token::Decimal(word) => word.len() > MOST_DIGITS + 1,
+        _ => false,
+    }
+}
+
+/// The place of the first token that is out of profile: a word of Java that no source uses, an
+/// integer of more than 128 bits, or a decimal of more than 30 digits.
+pub fn first_outside(tokens: &[Placed<'_>]) -> Option<u32>
+    ensures some { IfSome result (IsFirst IsOutside (map placed_view tokens.now)) }
+    ensures none { IfNone result (HasNone IsOutside (map placed_view tokens.now)) }
+{
+    for placed in tokens {
+        if is_foreign(&placed.token) {
+            return Some(placed.at);
+        }
+    }
+    None
+}

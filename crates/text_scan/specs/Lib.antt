@@ -1,0 +1,3 @@
+pub mod Classes
+pub mod Gaps
+pub mod Places
