@@ -184,14 +184,6 @@ stop_reads stop r (inl e) x = status_reads stop (sym e ∙ x)
 stop_reads stop r (inr (e, inl y)) x = absurd (cc)
 stop_reads stop r (inr (e, inr y)) x = absurd (cc)
 
-status_writes : (stop : Stop) → stop_status stop ≡ WriteFault → stop ≡ stops.WriteFault
-status_writes (stops.TooManyCells n) e = absurd (cc)
-status_writes (stops.BadLine file line) e = absurd (cc)
-status_writes (stops.WordRange file line) e = absurd (cc)
-status_writes stops.ReadFault e = absurd (cc)
-status_writes stops.WriteFault e = refl
-status_writes stops.NoMemory e = absurd (cc)
-
 abbrev failed : Stop → Result Outcome Stop
 failed stop = Err stop
 

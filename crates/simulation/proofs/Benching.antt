@@ -1,5 +1,5 @@
 -- What the calls of an edge ask for, and what they leave.
-use Rattle.std.proofs.Common.{◌≡◌, ◌⊎◌, inl, inr, ℕ, ◌+◌, ◌^◌, ◌<◌, Bool, List, [], length, map, drop, get_or, Vec, Global, Some, Result, Ok, Err, refl, sym, ap, ◌∙◌, subst, arith}
+use Rattle.std.proofs.Common.{◌≡◌, ℕ, ◌+◌, ◌^◌, ◌<◌, Bool, List, [], length, map, drop, get_or, Vec, Global, Some, Result, Ok, Err, refl, sym, ap, ◌∙◌, subst, arith}
 use Rattle.std.specs.Prelude.{OnOk, slice_get}
 use Rattle.std.specs.Vec.{with_items}
 use Rattle.std.proofs.lemmas.List.{length-map}
@@ -14,7 +14,7 @@ use Rattle.verilog_sim.specs.State.{State}
 use Rattle.verilog_sim.specs.Calls.{nothing, IsEdge}
 use Rattle.verilog_sim.specs.Simulates.{AreOffered}
 use Rattle.verilog_sim.proofs.Edges.{back}
-use Rattle.simulation.specs.Errors.{IsReadStop, IsEdgeStop}
+use Rattle.simulation.specs.Errors.{IsReadStop}
 use Rattle.simulation.specs.declared.stop.Stop.{Stop}
 use Rattle.simulation.specs.declared.stop.Stop.TheVariants as stops
 use Rattle.simulation.specs.Inward.{input_of, AreUnrefused, AreOfWidths}
@@ -95,15 +95,3 @@ no_write_stop (stops.WordRange file line) is q = absurd (cc)
 no_write_stop stops.ReadFault is q = absurd (cc)
 no_write_stop stops.WriteFault is q = is
 no_write_stop stops.NoMemory is q = absurd (cc)
-
-pub edge_stop : (e : Stop) → IsReadStop e → IsEdgeStop e
-edge_stop (stops.TooManyCells n) is = is
-edge_stop (stops.BadLine file line) is = tt
-edge_stop (stops.WordRange file line) is = tt
-edge_stop stops.ReadFault is = tt
-edge_stop stops.WriteFault is = tt
-edge_stop stops.NoMemory is = tt
-
-pub put_stop : (e : Stop) → (e ≡ stops.WriteFault) ⊎ (e ≡ stops.NoMemory) → IsEdgeStop e
-put_stop e (inl q) = subst IsEdgeStop (sym q) tt
-put_stop e (inr q) = subst IsEdgeStop (sym q) tt

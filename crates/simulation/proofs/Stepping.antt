@@ -106,12 +106,6 @@ module _ (held : Held) (f : InputFile) (left : List ℕ) (i j : Input) (told : I
       taken t w.0 w.1
   moved_on stalled o ch v false m r valid t = not_taken t
 
-same_at : (ns xs : List ℕ) (v : Family) (k n d : ℕ) → Same ns xs v → slice_get ns k ≡ Some n → v n ≡ get_or xs k d
-same_at [] xs v k n d s e = absurd (cc)
-same_at (m ∷ ns) [] v k n d s e = absurd s
-same_at (m ∷ ns) (x ∷ xs) v zero n d s e = let q : m ≡ n = cc in ap v (sym q) ∙ s.0
-same_at (m ∷ ns) (x ∷ xs) v (suc k) n d s e = same_at ns xs v k n d s.1 e
-
 valid_at : (chs : List Channel) (offers : List Offer) (v : Family) (k : ℕ) (ch : Channel) → Same (map (λ (c : Channel). c.valid) chs) (map (λ (x : Offer). bit x.valid) offers) v → slice_get chs k ≡ Some ch → v ch.valid ≡ bit (get_or offers k nothing).valid
 valid_at [] offers v k ch s e = absurd (cc)
 valid_at (c ∷ chs) [] v k ch s e = absurd s

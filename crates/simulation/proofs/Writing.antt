@@ -115,10 +115,6 @@ not_lacking first held os k x at told put lacks =
     let p = put (sym told ∙ lacks_told held x.writer.name lacks) in
     let h = (p.1 k x at).holds in cc
 
--- the lines that waited are written
-pub flushed : (held later : Held) (words : List ℕ) (x : Output) (p : IsPut held words x) → Holds later x.writer.name (p.file ++ x.writer.waiting.items) → Holds later x.writer.name (lines_of_words x.width words)
-flushed held later words x p holds = subst (Holds later x.writer.name) p.all holds
-
 -- the files before one are whole
 abbrev pub SomeWhole : Held → (ℕ → List ℕ) → List (Name × ℕ) → ℕ → Type 0
 SomeWhole held words named k = (j : ℕ) (o : Name × ℕ) → j < k → slice_get named j ≡ Some o → Holds held o.0 (lines_of_words o.1 (words j))

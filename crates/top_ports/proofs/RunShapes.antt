@@ -77,9 +77,6 @@ Follow after_done rest = rest ≡ []
 two : (p o : PortView) (rest tail : List PortView) → p ≡ o → rest ≡ tail → p ∷ rest ≡ o ∷ tail
 two p o rest tail e f = ap (λ (x : PortView). x ∷ rest) e ∙ ap (λ (l : List PortView). o ∷ l) f
 
-no_stage : {A : Type 0} (q : StageView) → None ≡ Some q → A
-no_stage q e = absurd (cc)
-
 moved : (q t : StageView) (rest : List PortView) → Some t ≡ Some q → Follow q rest → Follow t rest
 moved q t rest e h = let same : q ≡ t = cc in subst (λ (s : StageView). Follow s rest) same h
 

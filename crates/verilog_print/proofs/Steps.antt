@@ -11,7 +11,7 @@ use Rattle.rtl_ir.specs.declared.design.Net.{Net}
 use Rattle.rtl_ir.specs.declared.design.Module.{Module}
 use Rattle.rtl_ir.specs.declared.design.Update.{Update}
 use Rattle.std.specs.Prelude.{codes}
-use Rattle.std.specs.List.{flat_map, join_by, zip}
+use Rattle.std.specs.List.{flat_map, zip}
 use Rattle.rtl_text.specs.Text.{is_port}
 use Rattle.verilog_print.specs.Printed.{digit_byte, digits_from, digits, nets_text, declaration_text, update_text, updates_text}
 
@@ -99,22 +99,6 @@ lines_printed line xs i head tail start a b c h p q r =
 abbrev pub pieces_left : {A : Type 0} → (A → List ℕ) → List ℕ → List A → List ℕ
 pieces_left piece separator [] = []
 pieces_left piece separator (x ∷ xs) = separator ++ (piece x ++ flat_map (λ y. codes ", " ++ piece y) xs)
-
-pub pieces_all : {A : Type 0} (piece : A → List ℕ) (xs : List A) → pieces_left piece [] xs ≡ join_by piece (codes ", ") xs
-pieces_all piece [] = refl
-pieces_all piece (x ∷ xs) = refl
-
-pub pieces_more : {A : Type 0} (piece : A → List ℕ) (xs : List A) → pieces_left piece (codes ", ") xs ≡ flat_map (λ y. codes ", " ++ piece y) xs
-pieces_more piece [] = refl
-pieces_more piece (x ∷ xs) = refl
-
--- one piece more is printed
-pub piece_printed : {A : Type 0} (piece : A → List ℕ) (x : A) (xs : List A) (whole separator a b c : List ℕ) → whole ≡ a ++ pieces_left piece separator (x ∷ xs) → b ≡ a ++ separator → c ≡ b ++ piece x → whole ≡ c ++ pieces_left piece (codes ", ") xs
-piece_printed piece x xs whole separator a b c w p q =
-    let more : pieces_left piece (codes ", ") xs ≡ flat_map (λ y. codes ", " ++ piece y) xs = pieces_more piece xs in
-    let grouped : a ++ (separator ++ (piece x ++ flat_map (λ y. codes ", " ++ piece y) xs)) ≡ ((a ++ separator) ++ piece x) ++ flat_map (λ y. codes ", " ++ piece y) xs = simp append_assoc in
-    let head : (a ++ separator) ++ piece x ≡ c = ap (λ l. l ++ piece x) (sym p) ∙ sym q in
-    w ∙ grouped ∙ ap (λ l. l ++ flat_map (λ y. codes ", " ++ piece y) xs) head ∙ ap (λ l. c ++ l) (sym more)
 
 pub zip_none : {A B : Type 0} (xs : List A) (ys : List B) → (xs ≡ []) ⊎ (ys ≡ []) → zip xs ys ≡ []
 zip_none xs ys (inl e) = rw e refl

@@ -227,12 +227,6 @@ module _ {sc : Scope} {m : Module} (q : Name) (h : HasNets sc m) where
 
 -- the tables with a net more, and with a memory more
 
-abbrev pub with_net : Module → Net → Module
-with_net m n = record m { nets = m.nets ++ n ∷ [] }
-
-abbrev pub with_memory : Module → Mem → Module
-with_memory m k = record m { mems = m.mems ++ k ∷ [] }
-
 pub push_named : {A : Type 0} (name_of : A → Option Name) (xs : List A) (x : A) (t : Table) → IsTable t (map name_of xs ++ name_of x ∷ []) → IsTable t (map name_of (xs ++ x ∷ []))
 push_named name_of xs x t h = subst (IsTable t) (sym (map_joined name_of xs (x ∷ []))) h
 

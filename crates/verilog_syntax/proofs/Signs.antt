@@ -102,9 +102,6 @@ some_sign b bs n d s = elim (true_or_false (is_sign (b ∷ bs))) [
 sign_is : (b : ℕ) (bs : List ℕ) → begins_name b ≡ false → is_digit b ≡ false → is_sign (b ∷ bs) ≡ true → token_of (b ∷ bs) ≡ Some (Token.Sign (b ∷ bs))
 sign_is b bs n d s = sign_alone b bs n d ∙ (rw s refl)
 
-two_more : (b : ℕ) (bs back : List ℕ) (c d : ℕ) (ds : List ℕ) → begins_double (b ∷ c ∷ ds) ≡ true → (back ≡ c ∷ bs) → begins_double (b ∷ back) ≡ true
-two_more b bs back c d ds h e = rw e h
-
 pub double_taken : (text rest : List ℕ) (b : ℕ) → BeginsNoGap text → text ≡ b ∷ 61 ∷ rest → is_sign (b ∷ 61 ∷ []) ≡ true → begins_name b ≡ false → is_digit b ≡ false → Takes text (Token.Sign (b ∷ 61 ∷ [])) rest
 double_taken text rest b gap e h n d = taken (b ∷ 61 ∷ []) rest e gap (sign_is b (61 ∷ []) n d h) (λ c cs back f s. longer c cs (sign_long b 61 (c ∷ cs) (some_sign b (61 ∷ c ∷ cs) n d s)).1) apart
   where

@@ -1,5 +1,5 @@
 -- From what is read to the first bad token.
-use Rattle.std.proofs.Common.{◌≡◌, ◌∙◌, ◌+◌, ◌-◌, ◌<◌, ◌≤◌, List, [], ◌∷◌, ◌++◌, length, take, length-append, refl, sym, ap, subst, append_assoc, arith}
+use Rattle.std.proofs.Common.{◌≡◌, ◌∙◌, ◌+◌, ◌-◌, ◌<◌, List, [], ◌∷◌, ◌++◌, length, take, length-append, refl, sym, ap, subst, append_assoc, arith}
 use Rattle.std.proofs.lemmas.List.{append-nil}
 use Rattle.std.proofs.Math.Seq.{take-append_seam}
 use Rattle.grammar.specs.Grammar.{Derives, Begins, FirstBad}
@@ -96,9 +96,3 @@ whole_only {xs = xs} {ys = ys} r e others d =
     let same : xs ≡ r.read = r.split ∙ ap (λ l. r.read ++ l) e ∙ append-nil r.read in
     (r.only others tt (Sign_ [] ∷ []) end_ends (end_token ∷ []) [] (λ g. cc) (ap ended e)
     (subst (λ l. Starts Is Choice (File others ∷ Sign_ [] ∷ []) (l ++ end_token ∷ [])) same (starts_then Is Choice (Sign_ [] ∷ []) (end_token ∷ []) d (Starts.eat refl Starts.end)))).0
-
-pub stop_fewer : {xs ys : List Token} → Stops FileOf xs ys → length ys ≤ length xs
-stop_fewer {xs = xs} {ys = ys} r = omega (arith, ap length r.split, length-append r.read ys)
-
-pub read_fewer : {xs ys : List Token} {trees : List ModuleTree} → Reads FileOf xs ys trees → length ys ≤ length xs
-read_fewer {xs = xs} {ys = ys} r = omega (arith, ap length r.split, length-append r.read ys)
