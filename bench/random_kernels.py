@@ -9,17 +9,17 @@ a quotient by 0 takes part in may be any.
     bench/random_kernels.py [COUNT [SEED]]
 """
 import json
-import pathlib
 import random
 import subprocess
 import sys
-import tempfile
 
-TOP = pathlib.Path(__file__).resolve().parent.parent
+import trials
+from trials import PROGRAM, TOP
+
 LEVELS = [["|"], ["^"], ["&"], ["+", "-"], ["*", "/"]]
 TIGHTNESS = {sign: level for level, signs in enumerate(LEVELS) for sign in signs}
 PREFIX = len(LEVELS)
-NAMES = ["a", "b_2", "_c", "Memory", "String_", "xs", "K2", "z9"]
+NAMES = ["a", "b_2", "_c", "Memory", "String_", "xs", "kernel", "z9"]
 WORDS = 12
 
 
@@ -84,7 +84,7 @@ def random_word(width):
 
 
 def maxjc(folder, *words):
-    return subprocess.run([str(TOP / "crates/maxjc/out/maxjc"), *words], cwd=folder, capture_output=True, text=True)
+    return subprocess.run([PROGRAM, *words], cwd=folder, capture_output=True, text=True)
 
 
 def run(folder, pattern):
@@ -114,19 +114,10 @@ def wrong_words(folder):
 
 
 def main():
-    count = int(sys.argv[1]) if len(sys.argv) > 1 else 200
-    random.seed(int(sys.argv[2]) if len(sys.argv) > 2 else 1)
-    if not (TOP / "crates/maxjc/out/maxjc").exists():
-        print("the program isn't built here, passed over")
-        return 0
-    with tempfile.TemporaryDirectory() as folder:
-        for _ in range(count):
-            wrong = wrong_words(pathlib.Path(folder))
-            if wrong:
-                print(wrong)
-                return 1
-    print(f"{count} random kernels: the words that Python gives")
-    return 0
+    count = trials.run(200, wrong_words)
+    if count:
+        print(f"{count} random kernels: the words that Python gives")
+    return 1 if count is None else 0
 
 
 if __name__ == "__main__":

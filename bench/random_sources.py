@@ -9,14 +9,14 @@ where it ends too early) exactly for those that are no file.
 
     bench/random_sources.py [COUNT [SEED]]
 """
-import pathlib
 import random
 import re
 import subprocess
 import sys
-import tempfile
 
-TOP = pathlib.Path(__file__).resolve().parent.parent
+import trials
+from trials import PROGRAM, TOP
+
 PAGE = (TOP / "docs/LANGUAGE.md").read_text()
 PARENTS = {"Kernel": "KernelParameters", "CustomManager": "EngineParameters"}
 LITERALS = ["0", "7", "0x1fL", "12l", "2.5", '"a b"']
@@ -281,7 +281,7 @@ def behind(tokens, words):
     return sorted({token for before, token in zip(tokens, tokens[1:]) if before in words and matches(("name",), token)}) or ["_"]
 
 
-def disagrees(program, folder, tokens):
+def disagrees(folder, tokens):
     """What is wrong of a source, and whether it is a file."""
     grammar = page_grammar()
     add_classes(grammar, behind(tokens, ["class"]), behind(tokens, list(PARENTS.values())))
@@ -289,32 +289,27 @@ def disagrees(program, folder, tokens):
     source, places = written(tokens)
     wanted = None if bad is None else f"refused S3 {places[bad] if bad < len(places) else len(source)}"
     (folder / "source.maxj").write_text(source)
-    words = [program, "compile", "source.maxj", str(TOP / "examples/tables/zero.json"), "out.v", "out.report"]
+    words = [PROGRAM, "compile", "source.maxj", str(TOP / "examples/tables/zero.json"), "out.v", "out.report"]
     said = subprocess.run(words, cwd=folder, capture_output=True, text=True).stdout.strip()
     fits = said == wanted if wanted else not re.match(r"refused S[1-5]", said)
     return (None if fits else f"{said}, and not {wanted or 'a file'}:\n{source}"), bad is None
 
 
 def main():
-    count = int(sys.argv[1]) if len(sys.argv) > 1 else 400
-    random.seed(int(sys.argv[2]) if len(sys.argv) > 2 else 1)
-    program = TOP / "crates/maxjc/out/maxjc"
-    if not program.exists():
-        print("the program isn't built here, passed over")
-        return 0
     grammar = page_grammar()
     add_classes(grammar, ["K", "M"], ["p", "x"])
     size = shortest(grammar)
-    files = 0
-    with tempfile.TemporaryDirectory() as folder:
-        for _ in range(count):
-            wrong, is_file = disagrees(str(program), pathlib.Path(folder), random_tokens(grammar, size))
-            files += is_file
-            if wrong:
-                print(wrong)
-                return 1
-    print(f"{count} random sources, {files} of them files of the grammar: the parser says the same")
-    return 0
+    files = []
+
+    def trial(folder):
+        wrong, is_file = disagrees(folder, random_tokens(grammar, size))
+        files.append(is_file)
+        return wrong
+
+    count = trials.run(400, trial)
+    if count:
+        print(f"{count} random sources, {sum(files)} of them files of the grammar: the parser says the same")
+    return 1 if count is None else 0
 
 
 if __name__ == "__main__":
