@@ -2,7 +2,8 @@
 """The speed of `maxjc simulate` beside Icarus (iverilog, vvp).
 
 A text of some 2,000 assignments is generated, in layers of 200: sums, differences, logic and choices over
-words of 32 bits, under the handshake of a kernel. (In one deep chain an event-driven simulator evaluates a
+words of 32 bits, under the handshake of a kernel. Each layer reads all nets of the one before it, and the output
+is the exclusive or of the last one, so that hardly a net is without an effect. (In one deep chain an event-driven simulator evaluates a
 net again for each way that leads to it.) With `--storage` registers and memories stand between the layers,
 written in each edge in which the kernel isn't held. Both tools run it over the same words for 100,000
 edges; Icarus under the testbench of bench/testbench.py. The words must be the same. The ratio is that of the
@@ -54,7 +55,7 @@ def layers(assignments, storage, seed=1):
             wide, layer = layer, []
             if storage:
                 wide += store(chance, number, wide, lines, updates)
-        a, b = chance.choice(wide), chance.choice(wide)
+        a, b = wide[2 * number % len(wide)], wide[(2 * number + 1) % len(wide)]
         form = chance.randrange(8)
         if form < 5:
             sign = ["+", "-", "^", "&", "|"][form]
@@ -70,7 +71,10 @@ def layers(assignments, storage, seed=1):
         lines += [f"wire [{width - 1}:0] {name};", f"assign {name} = {right};"]
     if updates:
         lines += ["always @(posedge clk) begin", *updates, "end"]
-    return HEAD + "\n".join(lines) + f"\nassign out$y$data = {(layer or wide)[-1]};\nendmodule\n"
+    last = layer or wide
+    for k, name in enumerate(last[1:]):
+        lines += [f"wire [31:0] x{k};", f"assign x{k} = {f'x{k - 1}' if k else last[0]} ^ {name};"]
+    return HEAD + "\n".join(lines) + f"\nassign out$y$data = x{len(last) - 2};\nendmodule\n"
 
 
 def store(chance, number, wide, lines, updates):

@@ -1,5 +1,5 @@
 -- A graph of numbered nodes: for each node the list of the nodes that it reads.
-use Rattle.std.specs.Prelude.{◌≡◌, ℕ, ◌+◌, ◌-◌, ◌<◌, ◌≤◌, List, [], Bool, true, false, length, slice_index, slice_index_or}
+use Rattle.std.specs.Prelude.{◌≡◌, ℕ, ◌+◌, ◌-◌, ◌<◌, ◌≤◌, List, [], length, slice_index, slice_index_or}
 use Rattle.digraph.specs.declared.order.Found.{Found}
 use Rattle.digraph.specs.declared.order.Found.TheVariants.{Ranks, Walk}
 
@@ -45,9 +45,3 @@ RanksOrWalk g (Walk walk) = IsClosedWalk g walk.items × IsLeastFirst walk.items
 pub data Reaches (g : List (List ℕ)) (start : ℕ) : ℕ → Type 0 where
   begin : Reaches g start start
   on : {a : ℕ} (b : ℕ) → Reaches g start a → Reads g b a → Reaches g start b
-
--- the marks of the nodes to which there is a way
-pub record IsReached (g : List (List ℕ)) (start : ℕ) (marks : List Bool) : Type 0 where
-  pub size : length marks ≡ length g
-  pub sound : (x : ℕ) → x < length g → slice_index_or marks x false ≡ true → Reaches g start x
-  pub whole : (x : ℕ) → x < length g → Reaches g start x → slice_index_or marks x false ≡ true

@@ -1,5 +1,5 @@
 -- A search for ranks, in depth first: what holds of its ranks, marks and path.
-use Rattle.std.specs.Prelude.{◌≡◌, ◌⊎◌, ◌≢◌, ℕ, ◌+◌, ◌-◌, ◌<◌, ◌≤◌, List, [], ◌∷◌, ◌++◌, take, slice_set, length, Bool, true, false, if◌then◌else◌, sum_by, slice_index, slice_index_or}
+use Rattle.std.specs.Prelude.{◌≡◌, ◌≢◌, ℕ, ◌+◌, ◌-◌, ◌<◌, ◌≤◌, List, [], ◌∷◌, ◌++◌, take, slice_set, length, Bool, false, if◌then◌else◌, sum_by, slice_index, slice_index_or}
 use Rattle.digraph.specs.declared.search.Search.{Search as State}
 use Rattle.digraph.specs.Graph.{reads_of, Reads}
 
@@ -66,14 +66,3 @@ pub record IsTurned (path : List ℕ) (at : ℕ) (walk : List ℕ) : Type 0 wher
   pub size : length walk ≡ length path - at
   pub first : (i : ℕ) → i ≤ least - at → slice_index walk i ≡ slice_index path (least - i)
   pub after : (i : ℕ) → least - at < i → i < length walk → slice_index walk i ≡ slice_index path (least + length walk - i)
-
--- whether one of these nodes is marked
-abbrev pub IsAnyMarked : List ℕ → List Bool → Bool → Type 0
-IsAnyMarked reads marks true = (i : ℕ) × (i < length reads) × (slice_index_or marks (slice_index reads i) false ≡ true)
-IsAnyMarked reads marks false = (i : ℕ) → i < length reads → slice_index_or marks (slice_index reads i) false ≡ false
-
--- a node's mark, from what it reads
-pub record IsMark (g : List (List ℕ)) (start node : ℕ) (marks : List Bool) (mark : Bool) : Type 0 where
-  pub from : mark ≡ true → (node ≡ start) ⊎ ((k : ℕ) × (k < length (reads_of g node)) × (slice_index_or marks (slice_index (reads_of g node) k) false ≡ true))
-  pub at_start : node ≡ start → mark ≡ true
-  pub to : (k : ℕ) → k < length (reads_of g node) → slice_index_or marks (slice_index (reads_of g node) k) false ≡ true → mark ≡ true

@@ -8,7 +8,7 @@ use Rattle.rtl_ir.specs.declared.design.Net.{Net}
 use Rattle.rtl_ir.specs.declared.design.Assign.{Assign}
 use Rattle.rtl_ir.specs.declared.design.Module.{Module}
 use Rattle.rtl_ir.specs.Rules.{AllDiffer, names_of}
-use Rattle.rtl_ops.specs.Wires.{AreWires}
+use Rattle.rtl_build.specs.Wires.{AreWires}
 use Rattle.expression_source.specs.declared.project.Project.{Project}
 use Rattle.expression_module.proofs.Items.{Each, each_at}
 use Rattle.expression_module.proofs.Insides.{Inside, module_of, IsInside}

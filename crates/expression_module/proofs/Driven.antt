@@ -11,7 +11,7 @@ use Rattle.rtl_ir.specs.declared.design.Assign.{Assign}
 use Rattle.rtl_ir.specs.declared.design.Design.{Design}
 use Rattle.rtl_ir.specs.Typed.{is_input, is_given}
 use Rattle.rtl_ir.specs.Rules.{Connection, Driver, ByAssign, ByPort, Drives, HasDrivers, HasUpdates}
-use Rattle.rtl_ops.specs.Wires.{AreWires}
+use Rattle.rtl_build.specs.Wires.{AreWires}
 use Rattle.expression_source.specs.declared.project.Project.{Project}
 use Rattle.expression_module.specs.Straight.{last_assigns, the_ports}
 use Rattle.expression_module.proofs.Items.{Each, each_at, each_append, in_table, past_table}

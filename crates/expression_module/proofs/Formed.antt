@@ -11,7 +11,7 @@ use Rattle.rtl_ir.specs.Names.{is_name}
 use Rattle.rtl_ir.specs.Operands.{reads, mem_read, bit_numbers}
 use Rattle.rtl_ir.specs.Formed.{IsFormedNet, IsFormedPort, IsFormedAssign, IsFormedModule, IsFormed}
 use Rattle.rtl_ir.specs.Grow.{IsIn}
-use Rattle.rtl_ops.specs.Wires.{AllSmall, IsWire, AreWires}
+use Rattle.rtl_build.specs.Wires.{AllSmall, IsWire, AreWires}
 use Rattle.expression_source.specs.declared.project.Project.{Project}
 use Rattle.expression_module.specs.Straight.{port_nets, last_assigns, the_ports, wire}
 use Rattle.expression_module.specs.Designs.{IsSound}

@@ -7,7 +7,7 @@ use Rattle.rtl_ir.specs.declared.design.Assign.{Assign}
 use Rattle.rtl_ir.specs.declared.design.Module.{Module}
 use Rattle.rtl_ir.specs.Value.{Family, Contents, is_reg, net_kept}
 use Rattle.rtl_ir.specs.Edge.{Fits}
-use Rattle.rtl_ops.specs.Wires.{AreWires}
+use Rattle.rtl_build.specs.Wires.{AreWires}
 use Rattle.expression_source.specs.declared.project.Project.{Project}
 use Rattle.expression_source.specs.Steps.{result_of}
 use Rattle.expression_module.specs.Straight.{port_nets, with_ports, last_assigns}

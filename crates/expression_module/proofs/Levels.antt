@@ -11,7 +11,7 @@ use Rattle.rtl_ir.specs.Value.{width_of, net_width}
 use Rattle.rtl_ir.specs.Operands.{reads, IsRead}
 use Rattle.rtl_ir.specs.Typed.{IsTyped}
 use Rattle.rtl_ir.specs.Rules.{Feeds, by_assign, by_part, HasWidths, IsLevelled}
-use Rattle.rtl_ops.specs.Wires.{is_output, AreInner, IsWire, AreWires}
+use Rattle.rtl_build.specs.Wires.{is_output, AreInner, IsWire, AreWires}
 use Rattle.expression_source.specs.declared.project.Project.{Project}
 use Rattle.expression_module.specs.Straight.{last_assigns, the_ports}
 use Rattle.expression_module.specs.Values.{IsInner}

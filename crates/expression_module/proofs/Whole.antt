@@ -12,8 +12,8 @@ use Rattle.rtl_ir.specs.Value.{Family, Contents}
 use Rattle.rtl_ir.specs.Edge.{Fits}
 use Rattle.rtl_ir.specs.Grow.{Grows, Holds}
 use Rattle.rtl_ir.proofs.Grow.{holds_before, fits_holds}
-use Rattle.rtl_ops.specs.Wires.{AddsWires}
-use Rattle.rtl_ops.proofs.Growing.{adds_on, wires_kept}
+use Rattle.rtl_build.specs.Wires.{IsOpen, AddsWires}
+use Rattle.rtl_build.proofs.Growing.{adds_on, wires_kept}
 use Rattle.expression_source.specs.declared.project.Project.{Project}
 use Rattle.expression_module.specs.Straight.{start_of, with_assigns, last_assigns}
 use Rattle.expression_module.specs.Values.{AddsGate, AddsResult}
@@ -52,12 +52,12 @@ finished p m most gate value low a = record {
 
 is_inside :
     (p : Project) (m n : Module) (gate value : ℕ) (low : Word) (g : AddsGate (start_of p) m gate) (r : AddsResult m n p value) (a : AddsWires (start_of p) n (30 * (length p.steps + 1)))
-    → low.bits ≡ 0 → low.width ≡ 1 → IsInside p (inside_of p n (30 * (length p.steps + 1)) a gate value low)
-is_inside p m n gate value low g r a zero one =
+    → IsOpen n → low.bits ≡ 0 → low.width ≡ 1 → IsInside p (inside_of p n (30 * (length p.steps + 1)) a gate value low)
+is_inside p m n gate value low g r a is_open zero one =
     let x = inside_of p n (30 * (length p.steps + 1)) a gate value low in
     let more : Grows n (module_of p x) = finished p n (30 * (length p.steps + 1)) gate value low a in
     let size : length n.nets ≡ 11 + length a.grows.more_nets = ap length a.grows.nets ∙ omega arith in
-    let made_holds : (c : Contents) (v : Family) → Fits (module_of p x) c v → Holds n c v = λ c v f. holds_before n (module_of p x) more r.is_open.range c v (fits_holds (module_of p x) c v f) in
+    let made_holds : (c : Contents) (v : Family) → Fits (module_of p x) c v → Holds n c v = λ c v f. holds_before n (module_of p x) more is_open.range c v (fits_holds (module_of p x) c v f) in
     record {
       wires = wires_kept n (module_of p x) more 11 x.wires x.assigns (omega arith) a.wires;
       few = omega (arith, a.count);
@@ -65,7 +65,7 @@ is_inside p m n gate value low g r a zero one =
       value = inner_kept n (module_of p x) more p.width value r.inner;
       low_width = one;
       low_bits = zero;
-      gate_is = λ c v f. g.value c v (holds_before m n r.adds.grows g.is_open.range c v (made_holds c v f));
+      gate_is = λ c v f. g.value c v (r.before c v (made_holds c v f));
       value_is = λ c v f. r.value c v (made_holds c v f);
     }
 
@@ -80,17 +80,18 @@ pub whole :
     → l ≡ start_of p
     → AddsGate l m gate
     → AddsResult m n p value
+    → IsOpen n
     → o ≡ with_assigns n (last_assigns gate value low)
     → low.bits ≡ 0
     → low.width ≡ 1
     → IsWhole p o
-whole p l m n o gate value low start added r outputs zero one =
+whole p l m n o gate value low start added r is_open outputs zero one =
     let g : AddsGate (start_of p) m gate = subst (λ k. AddsGate k m gate) start added in
     let a : AddsWires (start_of p) n (30 * (length p.steps + 1)) = adds_on (start_of p) m n 15 (30 * length p.steps) (30 * (length p.steps + 1)) g.adds r.adds (omega arith) in
     let x = inside_of p n (30 * (length p.steps + 1)) a gate value low in
     record {
       inside = x;
-      is_inside = is_inside p m n gate value low g r a zero one;
+      is_inside = is_inside p m n gate value low g r a is_open zero one;
       is =
           outputs
           ∙ made (with_assigns n (last_assigns gate value low)) (module_of p x) a.name a.grows.ports a.grows.nets a.mems

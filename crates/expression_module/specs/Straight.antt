@@ -8,6 +8,7 @@ use Rattle.rtl_ir.specs.declared.design.Assign.{Assign}
 use Rattle.rtl_ir.specs.declared.design.Sign.TheVariants.{And}
 use Rattle.rtl_ir.specs.declared.design.Expr.TheVariants as exprs
 use Rattle.rtl_ir.specs.Run.{Channel}
+use Rattle.rtl_build.specs.Ports.{with_port}
 use Rattle.expression_source.specs.declared.project.Project.{Project}
 
 abbrev pub wire : List ℕ → ℕ → Net
@@ -64,3 +65,15 @@ last_assigns gate value low =
 -- the module with these assignments beside its own
 abbrev pub with_assigns : Module → List Assign → Module
 with_assigns m more = record m { assigns = m.assigns ++ more }
+
+-- a module with the ports of the kernel after its own, those of an input, and those of an output
+abbrev pub with_kernel : Module → List ℕ → Module
+with_kernel m name = with_port (with_port m (codes "hold$" ++ name) 1 false) (codes "ticks$" ++ name) 48 false
+
+abbrev pub with_input : Module → List ℕ → ℕ → Module
+with_input m name w =
+    with_port (with_port (with_port m (codes "in$" ++ name ++ codes "$data") w false) (codes "in$" ++ name ++ codes "$valid") 1 false) (codes "in$" ++ name ++ codes "$ready") 1 true
+
+abbrev pub with_output : Module → List ℕ → ℕ → Module
+with_output m name w =
+    with_port (with_port (with_port m (codes "out$" ++ name ++ codes "$data") w true) (codes "out$" ++ name ++ codes "$valid") 1 true) (codes "out$" ++ name ++ codes "$ready") 1 false

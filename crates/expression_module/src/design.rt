@@ -8,23 +8,24 @@ use crate::steps::{add_gate, add_steps};
 use expression_source::Project;
 use mx_base::{List, NoMemory};
 use mx_bits::Word;
-use rtl_ir::{Assign, Design, Expr, Module, Sign};
+use rtl_ir::{Assign, Design, Expr, Module, NetId, Sign};
 use std::alloc::Global;
 
-fn assign(top: &mut Module, target: u32, expr: Expr) -> Result<(), NoMemory>
+fn assign(top: &mut Module, target: NetId, expr: Expr) -> Result<(), NoMemory>
     ensures { OnOk result (top.new ≡ with_assigns top.old (record { target = target; expr = expr } ∷ [])) }
 {
     top.assigns.push(Assign { target, expr })
 }
 
 // Gives the outputs their values: the output's data and valid, the input's ready, and done.
-fn assign_outputs(top: &mut Module, gate: u32, value: u32, low: Word) -> Result<(), NoMemory>
+fn assign_outputs(top: &mut Module, gate: NetId, value: NetId, low: Word) -> Result<(), NoMemory>
     ensures { OnOk result (top.new ≡ with_assigns top.old (last_assigns gate value low)) }
 {
-    assign(top, 7, Expr::Net(value))?;
-    assign(top, 8, Expr::Binary(Sign::And, 5, gate))?;
-    assign(top, 6, Expr::Binary(Sign::And, 9, gate))?;
-    assign(top, 10, Expr::Literal(low))
+    let (valid, ready) = (NetId::new(5), NetId::new(9));
+    assign(top, NetId::new(7), Expr::Net(value))?;
+    assign(top, NetId::new(8), Expr::Binary(Sign::And, valid, gate))?;
+    assign(top, NetId::new(6), Expr::Binary(Sign::And, ready, gate))?;
+    assign(top, NetId::new(10), Expr::Literal(low))
 }
 
 /// The design of a kernel of expressions: one module `top$project` of assignments, with no register.
@@ -45,9 +46,10 @@ pub fn kernel_design(alloc: Global, project: &Project) -> Result<Design, NoMemor
     requires { IsSound project.now }
     ensures { IfOk result (λ d. IsDesignOf project.now d) }
 {
-    let mut top = ports_alone(alloc, project)?;
-    let gate = add_gate(alloc, &mut top)?;
-    let value = add_steps(alloc, &mut top, project)?;
+    let mut netlist = ports_alone(alloc, project)?;
+    let gate = add_gate(&mut netlist)?;
+    let value = add_steps(alloc, &mut netlist, project)?;
+    let mut top = netlist.finish();
     assign_outputs(&mut top, gate, value, Word::new(0, 1))?;
     let mut modules = Vec::new(alloc);
     modules.push(top)?;

@@ -2,7 +2,7 @@
 use Rattle.std.proofs.Common.{◌≡◌, ◌∙◌, ◌≤◌, ◌+◌, inl, inr, ℕ, true, List, [], ◌∷◌, Some, None, IsSome, Contains, length, map, refl, sym, ap, subst, arith}
 use Rattle.std.specs.Str.{bytes_eq}
 use Rattle.std.proofs.lemmas.List.Elements.{All-nil}
-use Rattle.grammar.specs.Bytes.{decimal}
+use Rattle.grammar.specs.Bytes.{decimal_value}
 use Rattle.maxj_syntax.specs.declared.tree.Node.{Node as Cell}
 use Rattle.maxj_syntax.specs.declared.tree.Program.{Program}
 use Rattle.maxj_syntax.specs.Tree.{ClassTree, ProgramIs}
@@ -132,7 +132,7 @@ frame_at program nodes f q h classes is = let (c, only, fr) = h classes is in (c
 
 pub project_is : (program : Program) (nodes : List Cell) (f : Frame) (none numbers : Numbers) (steps : List Step) (to : Stage) (ls : List Local) (new : List Step) (number : ℕ) (e : Expression) (project : Project)
     → IsRead program nodes f none numbers steps to ls → ReadsAs nodes f.body.result to.numbers to.steps new number e
-    → project.name ≡ f.name.now → project.input ≡ f.body.input.port.now → project.output ≡ f.body.output.now → project.width ≡ decimal f.body.input.width.digits.now → project.steps ≡ new → project.result ≡ number
+    → project.name ≡ f.name.now → project.input ≡ f.body.input.port.now → project.output ≡ f.body.output.now → project.width ≡ decimal_value f.body.input.width.digits.now → project.steps ≡ new → project.result ≡ number
     → (classes : List ClassTree) → ProgramIs program classes → IsProject classes project
 project_is program nodes f none numbers steps to ls new number e project r o e1 e2 e3 e4 e5 e6 classes is =
     let p = f.parameter.now in
@@ -193,7 +193,7 @@ project_is program nodes f none numbers steps to ls new number e project r o e1 
         arithmetic = let h = o.computes.sound.arithmetic in rw e5 h;
         within = rw (e5, e6) o.computes.within;
         value = λ x.
-            let w = decimal f.body.input.width.digits.now in
+            let w = decimal_value f.body.input.width.digits.now in
             let values : List Value = record { variable = v; value = Some x } ∷ [] in
             let shows : Shows w x numbers values steps = subst (λ l. Shows w x numbers values l) (sym r.first.no_steps) (first_shows none numbers v w x r.first.empty r.first.declares) in
             let h = o.computes.value w x (values_after w values ls) (r.locals.value w x values shows) in

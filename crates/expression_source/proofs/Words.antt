@@ -3,7 +3,7 @@ use Rattle.std.proofs.Common.{◌+◌, ◌*◌, ◌-◌, ◌<◌, ◌≤◌, ◌
 use Rattle.std.specs.List.{list_all}
 use Rattle.std.proofs.lemmas.List.Folds.{list_all_at}
 use Rattle.std.proofs.lemmas.Bool.{true_from_ne_false}
-use Rattle.grammar.specs.Bytes.{is_digit, digits_value, decimal, hex_value}
+use Rattle.grammar.specs.Bytes.{is_digit, digits_value, decimal_value, hex_value}
 use Rattle.text_scan.proofs.ByteTests.{clash}
 use Rattle.text_scan.proofs.Digits.{large_at}
 
@@ -13,7 +13,7 @@ digit_at ds i h e =
     rw d refl
 
 -- a number is no less than what its first digits say
-pub digits_too_many : (ds : List ℕ) (i n : ℕ) → i < length ds → list_all is_digit ds ≡ true → digits_value 10 n (drop i ds) ≡ decimal ds → n * 10 + (get_or ds i 0 - 48) ≤ decimal ds
+pub digits_too_many : (ds : List ℕ) (i n : ℕ) → i < length ds → list_all is_digit ds ≡ true → digits_value 10 n (drop i ds) ≡ decimal_value ds → n * 10 + (get_or ds i 0 - 48) ≤ decimal_value ds
 digits_too_many ds i n h e same =
     let d = digit_at ds i h e in
-    large_at 10 n (n * 10 + (get_or ds i 0 - 48)) (decimal ds) ds i (omega arith) h same (omega arith)
+    large_at 10 n (n * 10 + (get_or ds i 0 - 48)) (decimal_value ds) ds i (omega arith) h same (omega arith)

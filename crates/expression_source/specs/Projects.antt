@@ -1,6 +1,6 @@
 -- What is made of a source.
 use Rattle.std.specs.Prelude.{◌≡◌, ◌≤◌, ◌+◌, ℕ, List, length, sum_by, All}
-use Rattle.grammar.specs.Bytes.{decimal}
+use Rattle.grammar.specs.Bytes.{decimal_value}
 use Rattle.maxj_syntax.specs.Tree.{ClassTree}
 use Rattle.expression_source.specs.Source.{Source, IsSource, Local, operators_of, output_of}
 use Rattle.expression_source.specs.Steps.{InOrder, IsArithmetic, result_of}
@@ -11,7 +11,7 @@ pub record Says (s : Source) (p : Project) : Type 0 where
   pub name : p.name ≡ s.name
   pub input : p.input ≡ s.input
   pub output : p.output ≡ s.output
-  pub width : p.width ≡ decimal s.digits
+  pub width : p.width ≡ decimal_value s.digits
   pub operators : length p.steps ≡ sum_by (λ (l : Local). operators_of l.value) s.locals + operators_of s.result
   pub order : InOrder 0 p.steps
   pub arithmetic : All IsArithmetic p.steps

@@ -1,7 +1,7 @@
 -- A kernel of expressions: what its tree is, and what it says of one word of its input.
 use Rattle.std.specs.Prelude.{◌≡◌, ◌≤◌, ℕ, ◌+◌, true, false, List, [], ◌∷◌, ◌++◌, length, map, sum_by, Contains, Option, Some, None, if◌then◌else◌, codes}
 use Rattle.std.specs.Str.{bytes_eq}
-use Rattle.grammar.specs.Bytes.{decimal}
+use Rattle.grammar.specs.Bytes.{decimal_value}
 use Rattle.mx_base.specs.declared.span.Span.{Span}
 use Rattle.mx_bits.specs.declared.op.Op.{Op}
 use Rattle.mx_bits.specs.declared.op.Op.TheVariants.{Add, Sub, Mul, Div, And, Or, Xor, Not}
@@ -187,8 +187,8 @@ IsPortName name = (is_plain_name name ≡ true) × (length name ≤ 64)
 -- decimal digits that say a number from 1 to 128
 pub record IsAllowedWidth (digits : List ℕ) : Type 0 where
   pub written : is_decimal_integer digits ≡ true
-  pub some : 1 ≤ decimal digits
-  pub narrow : decimal digits ≤ 128
+  pub some : 1 ≤ decimal_value digits
+  pub narrow : decimal_value digits ≤ 128
 
 -- no name stands twice
 abbrev pub AreApart : List Name → Type 0
@@ -272,5 +272,5 @@ values_after width values (l ∷ ls) = values_after width (record { variable = l
 -- the word of the output for this word of the input, if it has one
 abbrev pub output_of : Source → ℕ → Option ℕ
 output_of s x =
-    let width = decimal s.digits in
+    let width = decimal_value s.digits in
     expression_value width (values_after width (record { variable = s.variable; value = Some x } ∷ []) s.locals) s.result

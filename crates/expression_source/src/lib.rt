@@ -13,6 +13,3 @@ mod stop;
 
 pub use project::{Project, Step};
 pub use read::read_kernel;
-
-#[cfg(test)]
-mod tests;

@@ -1,7 +1,7 @@
 // The parts of a kernel that stand in it more than once.
 ghost use Rattle.std.specs.Prelude.{◌≡◌, ◌≤◌, ◌∷◌, [], ◌++◌, List, ℕ, Bool, true, false, IsTrue, IfSome, IfNone, length, codes};
 ghost use Rattle.std.specs.List.{list_all};
-ghost use Rattle.grammar.specs.Bytes.{is_digit, decimal};
+ghost use Rattle.grammar.specs.Bytes.{is_digit, decimal_value};
 ghost use Rattle.maxj_tokens.specs.Tokens.{is_decimal_integer};
 ghost use Rattle.maxj_syntax.specs.Tree.{Tree, Trees, IsAt};
 ghost use Rattle.expression_source.specs.Source.{Name, IsLeaf, IsPort, IsPortName, IsWidth, IsIoCall, IsDeclaration, IsAllowedWidth, quoted};
@@ -63,8 +63,8 @@ fn is_decimal(word: &[u8]) -> bool
 /// The number that digits say, if it is from 1 to 128.
 fn bits(digits: &[u8]) -> Option<u8>
     requires { list_all is_digit digits.now ≡ true }
-    ensures some { IfSome result (λ bits. (bits ≡ decimal digits.now) × (1 ≤ bits) × (bits ≤ 128)) }
-    ensures none { IfNone result (1 ≤ decimal digits.now → decimal digits.now ≤ 128 → ⊥) }
+    ensures some { IfSome result (λ bits. (bits ≡ decimal_value digits.now) × (1 ≤ bits) × (bits ≤ 128)) }
+    ensures none { IfNone result (1 ≤ decimal_value digits.now → decimal_value digits.now ≤ 128 → ⊥) }
 {
     let mut value: u16 = 0;
     for digit in digits {
@@ -80,7 +80,7 @@ fn bits(digits: &[u8]) -> Option<u8>
 pub fn read_width(nodes: &[Node], number: u32) -> Option<Width<'_>>
     ensures some { IfSome result (λ w. EachAt nodes.now number (IsWidth w.digits.now)) }
     ensures allowed { IfSome result (λ w. IsAllowedWidth w.digits.now) }
-    ensures bits { IfSome result (λ w. w.bits ≡ decimal w.digits.now) }
+    ensures bits { IfSome result (λ w. w.bits ≡ decimal_value w.digits.now) }
     ensures none { IfNone result ((digits : List ℕ) → IsAllowedWidth digits → SomeAt nodes.now number (IsWidth digits) → ⊥) }
 {
     let call = node_of(nodes, number, NodeKind::Call)?;

@@ -1,6 +1,6 @@
 // A kernel of expressions, read from the tree of a source.
 ghost use Rattle.std.specs.Prelude.{Err, ◌≡◌, ◌≤◌, ◌∷◌, ◌↔◌, [], List, ℕ, false, IsTrue, IfOk, IfSome, IfNone};
-ghost use Rattle.grammar.specs.Bytes.{decimal};
+ghost use Rattle.grammar.specs.Bytes.{decimal_value};
 ghost use Rattle.maxj_syntax.specs.declared.tree.Class.{Class as TheClass};
 ghost use Rattle.maxj_syntax.specs.Tree.{Tree, Trees, ClassTree, ProgramIs};
 ghost use Rattle.expression_source.specs.Source.{Name, Source, IsSource, IsParameter, IsCtor, IsHead};
@@ -117,7 +117,7 @@ fn read_frame(program: &Program) -> Option<Frame<'_>>
     ensures some { IfSome result (λ f. (classes : List ClassTree) → ProgramIs program.now classes
         → (c : ClassTree) × (classes ≡ c ∷ []) × IsFrame program.now.nodes f c) }
     ensures allowed { IfSome result (λ f. IsAllowedBody f.body × AreAllowed f.name.now f.parameter.now f.body.input.variable.now) }
-    ensures bits { IfSome result (λ f. f.body.input.width.bits ≡ decimal f.body.input.width.digits.now) }
+    ensures bits { IfSome result (λ f. f.body.input.width.bits ≡ decimal_value f.body.input.width.digits.now) }
     ensures none { IfNone result ((classes : List ClassTree) → ProgramIs program.now classes
         → (s : Source) → IsSource classes s → ⊥) }
 {

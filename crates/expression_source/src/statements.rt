@@ -1,6 +1,6 @@
 // The statements of a kernel.
 ghost use Rattle.std.specs.Prelude.{Ok, Err, ◌≡◌, ◌≤◌, ◌+◌, [], List, ℕ, IfSome, IfNone, IsTrue, OnOk, ◌↔◌, length};
-ghost use Rattle.grammar.specs.Bytes.{decimal};
+ghost use Rattle.grammar.specs.Bytes.{decimal_value};
 ghost use Rattle.maxj_syntax.specs.Tree.{Tree, Trees, IsAt};
 ghost use Rattle.expression_source.specs.Source.{Name, Source, Local, IsAllowed, AreStatements, IsInput, IsOutput, IsLocal, IsVariable, IsPortName, IsAllowedWidth, operators_of};
 ghost use Rattle.expression_source.specs.Scopes.{numbers_of};
@@ -29,7 +29,7 @@ pub struct Input<'a> {
 pub fn read_input(nodes: &[Node], number: u32) -> Option<Input<'_>>
     ensures some { IfSome result (λ i. EachAt nodes.now number (IsInput i.variable.now i.port.now i.width.digits.now)) }
     ensures allowed { IfSome result (λ i. IsVariable i.variable.now × IsPortName i.port.now × IsAllowedWidth i.width.digits.now) }
-    ensures bits { IfSome result (λ i. i.width.bits ≡ decimal i.width.digits.now) }
+    ensures bits { IfSome result (λ i. i.width.bits ≡ decimal_value i.width.digits.now) }
     ensures none { IfNone result ((variable port : Name) (digits : List ℕ)
         → IsVariable variable → IsPortName port → IsAllowedWidth digits
         → SomeAt nodes.now number (IsInput variable port digits) → ⊥) }
@@ -100,7 +100,7 @@ pub struct Body<'a> {
 pub fn read_body<'a>(nodes: &'a [Node], statements: &'a [u32]) -> Option<Body<'a>>
     ensures some { IfSome result (λ b. (ts : Trees) → StandAt nodes.now statements.now ts → IsBody nodes.now b ts) }
     ensures allowed { IfSome result IsAllowedBody }
-    ensures bits { IfSome result (λ b. b.input.width.bits ≡ decimal b.input.width.digits.now) }
+    ensures bits { IfSome result (λ b. b.input.width.bits ≡ decimal_value b.input.width.digits.now) }
     ensures none { IfNone result ((s : Source) → IsAllowed s
         → (ts : Trees) → StandAt nodes.now statements.now ts → AreStatements s ts → ⊥) }
 {

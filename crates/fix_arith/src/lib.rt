@@ -2,18 +2,12 @@
 //! then rounding, then reduction modulo two to the power of the width.
 #![tactic(auto)]
 
-#[cfg(test)]
-mod cast_tests;
 mod casting;
 mod integer;
-#[cfg(test)]
-mod literal_tests;
 mod literals;
 mod number;
 mod round;
 mod table;
-#[cfg(test)]
-mod table_tests;
 mod types;
 mod typing;
 

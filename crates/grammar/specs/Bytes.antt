@@ -25,8 +25,8 @@ digits_value base so_far [] = so_far
 digits_value base so_far (d ∷ ds) = digits_value base (so_far * base + hex_value d) ds
 
 -- the number that decimal digits say
-abbrev pub decimal : List ℕ → ℕ
-decimal ds = digits_value 10 0 ds
+abbrev pub decimal_value : List ℕ → ℕ
+decimal_value ds = digits_value 10 0 ds
 
 -- the number that hexadecimal digits say
 abbrev pub hexadecimal : List ℕ → ℕ

@@ -3,4 +3,4 @@
 
 mod laws;
 
-pub use laws::derivations;
+pub use laws::{Grammar, begins};

@@ -33,7 +33,7 @@ use Rattle.maxj_tokens.specs.Reading.{placed_view, token_view}
 use Rattle.maxj_syntax.specs.Tree.{ClassTree, ClassesAre}
 use Rattle.maxj_syntax.specs.TokenClasses.{Accepts}
 use Rattle.maxj_syntax.specs.Productions.{is_name}
-use Rattle.maxj_syntax.specs.Faults.{FirstBad, IsMisplaced, place_of}
+use Rattle.maxj_syntax.specs.Faults.{IsFirstMisplaced, IsMisplaced, place_of}
 use Rattle.maxj_syntax.specs.Symbols.{Symbol, Mark, Name, Sub, fixed_view}
 use Rattle.maxj_syntax.specs.Choosing.{Is, Choice, choose, chain}
 use Rattle.maxj_syntax.specs.Steps.{Entry, Ground}
@@ -68,33 +68,33 @@ same_head : {t u : PlacedToken} {ts us : List PlacedToken} → t ∷ ts ≡ u �
 same_head e = cc
 
 -- another token than the one that the stack begins with
-pub bad_taken : (tokens : List PlacedToken) (at : ℕ) (d : PlacedToken) (s : Settled) (after : List Symbol) (builder : Builder) → at < length tokens → IsRefused s (get_or tokens at d).token → Settles s tokens (drop at tokens) after builder → FirstBad tokens at
+pub bad_taken : (tokens : List PlacedToken) (at : ℕ) (d : PlacedToken) (s : Settled) (after : List Symbol) (builder : Builder) → at < length tokens → IsRefused s (get_or tokens at d).token → Settles s tokens (drop at tokens) after builder → IsFirstMisplaced tokens at
 bad_taken tokens at d (T.Token k e) after builder h never r =
-    subst (λ n. FirstBad tokens n) (at_place tokens at (omega (arith, h))) (bad_place tokens (drop at tokens) _ builder r
+    subst (λ n. IsFirstMisplaced tokens n) (at_place tokens at (omega (arith, h))) (bad_place tokens (drop at tokens) _ builder r
     (stuck_mark (drop at tokens) k e after (λ t zs f i. never (subst (λ x. Accepts k x.token) (sym (same_head (sym (next_token tokens at d h) ∙ f))) i))))
 bad_taken tokens at d (T.Name w e) after builder h never r =
-    subst (λ n. FirstBad tokens n) (at_place tokens at (omega (arith, h))) (bad_place tokens (drop at tokens) _ builder r
+    subst (λ n. IsFirstMisplaced tokens n) (at_place tokens at (omega (arith, h))) (bad_place tokens (drop at tokens) _ builder r
     (stuck_name (drop at tokens) w.now e after (λ t zs f i. never (subst (λ x. (x.token ≡ Token.Word w.now) × (is_name w.now ≡ true)) (sym (same_head (sym (next_token tokens at d h) ∙ f))) i))))
 bad_taken tokens at d T.Empty after builder h never r =
-    subst (λ n. FirstBad tokens n) (at_place tokens at (omega (arith, h))) (bad_place tokens (drop at tokens) [] builder r (rw (next_token tokens at d h) (stuck_end (get_or tokens at d) (drop (at + 1) tokens))))
-bad_taken tokens at d T.Stuck after builder h never r = subst (λ n. FirstBad tokens n) (at_place tokens at (omega (arith, h))) r
+    subst (λ n. IsFirstMisplaced tokens n) (at_place tokens at (omega (arith, h))) (bad_place tokens (drop at tokens) [] builder r (rw (next_token tokens at d h) (stuck_end (get_or tokens at d) (drop (at + 1) tokens))))
+bad_taken tokens at d T.Stuck after builder h never r = subst (λ n. IsFirstMisplaced tokens n) (at_place tokens at (omega (arith, h))) r
 
 -- the end of the tokens
-pub bad_end : (tokens ys : List PlacedToken) (s : Settled) (after : List Symbol) (builder : Builder) → ys ≡ [] → (s ≡ T.Empty → ⊥) → Settles s tokens ys after builder → FirstBad tokens (length tokens)
+pub bad_end : (tokens ys : List PlacedToken) (s : Settled) (after : List Symbol) (builder : Builder) → ys ≡ [] → (s ≡ T.Empty → ⊥) → Settles s tokens ys after builder → IsFirstMisplaced tokens (length tokens)
 bad_end tokens ys T.Empty after builder z never r = absurd (never refl)
 bad_end tokens ys (T.Token k e) after builder z never r =
     let n : length tokens - length ys ≡ length tokens = rw z (omega arith) in
-    subst (λ n. FirstBad tokens n) n (bad_place tokens ys _ builder r (stuck_mark ys k e after (λ t zs f i. none t zs (sym z ∙ f))))
+    subst (λ n. IsFirstMisplaced tokens n) n (bad_place tokens ys _ builder r (stuck_mark ys k e after (λ t zs f i. none t zs (sym z ∙ f))))
   where
     none : (t : PlacedToken) (zs : List PlacedToken) → [] ≡ t ∷ zs → ⊥
     none t zs f = absurd (cc)
 bad_end tokens ys (T.Name w e) after builder z never r =
     let n : length tokens - length ys ≡ length tokens = rw z (omega arith) in
-    subst (λ n. FirstBad tokens n) n (bad_place tokens ys _ builder r (stuck_name ys w.now e after (λ t zs f i. none t zs (sym z ∙ f))))
+    subst (λ n. IsFirstMisplaced tokens n) n (bad_place tokens ys _ builder r (stuck_name ys w.now e after (λ t zs f i. none t zs (sym z ∙ f))))
   where
     none : (t : PlacedToken) (zs : List PlacedToken) → [] ≡ t ∷ zs → ⊥
     none t zs f = absurd (cc)
-bad_end tokens ys T.Stuck after builder z never r = let n : length tokens - length ys ≡ length tokens = rw z (omega arith) in subst (λ n. FirstBad tokens n) n r
+bad_end tokens ys T.Stuck after builder z never r = let n : length tokens - length ys ≡ length tokens = rw z (omega arith) in subst (λ n. IsFirstMisplaced tokens n) n r
 
 -- the token that the stack begins with
 pub read_on : (tokens : List PlacedToken) (at : ℕ) (d : PlacedToken) (s : Settled) (f : Effect) (after : List Symbol) (old new : Builder) → at < length tokens → IsTaken s (get_or tokens at d).token f → Takes tokens f (get_or tokens at d).token (drop at tokens) (drop (at + 1) tokens) old new
@@ -212,7 +212,7 @@ pub expanded_less : (next : Option PlacedToken) (p : Symbol) (old rest new : Lis
 expanded_less next p old rest new b i x t f = rule_less p next rest old new i (subst (λ c. IsExpanded p next rest new c) t (x i)) f
 
 pub stuck_on : (tokens ys : List PlacedToken) (next : Option PlacedToken) (p : Symbol) (old rest new : List Symbol) (builder : Builder) (b : Bool) → head_of ys ≡ next → IsRule p → (IsRule p → IsExpanded p next rest new b) → b ≡ false → old ≡ p ∷ rest → Reached tokens ys old builder
-    → FirstBad tokens (length tokens - length ys)
+    → IsFirstMisplaced tokens (length tokens - length ys)
 stuck_on tokens ys next p old rest new builder b e i x t f r =
     let y : IsExpanded p next rest new false = subst (λ c. IsExpanded p next rest new c) t (x i) in
     let q : Reached tokens ys (p ∷ rest) builder = subst (λ l. Reached tokens ys l builder) f r in

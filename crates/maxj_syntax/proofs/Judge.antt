@@ -10,7 +10,7 @@ use Rattle.maxj_syntax.specs.Tree.{ClassTree}
 use Rattle.maxj_syntax.specs.Productions.{Part, IsFile}
 use Rattle.maxj_syntax.specs.Productions as S
 use Rattle.maxj_syntax.specs.Derivation.{Derives}
-use Rattle.maxj_syntax.specs.Faults.{Begins, FirstBad}
+use Rattle.maxj_syntax.specs.Faults.{BeginsSource, IsFirstMisplaced}
 use Rattle.maxj_syntax.specs.Symbols.{Symbol, Mark, Name, Sub, Call, Act}
 use Rattle.maxj_syntax.specs.Choosing.{Is, Choice}
 use Rattle.maxj_syntax.specs.Steps.{Entry, Below, Ground, Goes, between}
@@ -82,7 +82,7 @@ to_runs : (xs : List PlacedToken) (classes : List ClassTree) → IsFile xs class
 to_runs xs classes d = goes_runs [] (to_goes xs classes d) Runs.end
 
 -- the first bad token
-pub bad_place : (tokens ys : List PlacedToken) (symbols : List Symbol) (builder : Builder) → Reached tokens ys symbols builder → Refused Is Choice symbols ys ys → FirstBad tokens (length tokens - length ys)
+pub bad_place : (tokens ys : List PlacedToken) (symbols : List Symbol) (builder : Builder) → Reached tokens ys symbols builder → Refused Is Choice symbols ys ys → IsFirstMisplaced tokens (length tokens - length ys)
 bad_place tokens ys symbols builder h f =
     let r = refused_after Is Choice h.0 f in
     let n : length tokens - length ys ≡ length r.read = omega (arith, ap length r.split, length-append r.read ys) in
@@ -94,7 +94,7 @@ bad_place tokens ys symbols builder h f =
       none = λ tree d. over ys refl (to_runs tokens tree d);
     }
   where
-    at : (zs : List PlacedToken) → ys ≡ zs → length (refused_after Is Choice h.0 f).read < length tokens → Begins (take (length (refused_after Is Choice h.0 f).read + 1) tokens) → ⊥
+    at : (zs : List PlacedToken) → ys ≡ zs → length (refused_after Is Choice h.0 f).read < length tokens → BeginsSource (take (length (refused_after Is Choice h.0 f).read + 1) tokens) → ⊥
     at [] e k b = let r = refused_after Is Choice h.0 f in let g = ap length r.split in let i = ap length e in absurd (omega (arith, k, g, i, length-append r.read ys))
     at (t ∷ rest) e k b =
         let r = refused_after Is Choice h.0 f in

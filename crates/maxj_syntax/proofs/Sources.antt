@@ -7,7 +7,7 @@ use Rattle.maxj_tokens.specs.Scanning.{PlacedToken, AreTokens, begins_stray}
 use Rattle.maxj_syntax.specs.Tree.{ClassTree, ProgramIs}
 use Rattle.maxj_syntax.specs.Productions.{IsFile}
 use Rattle.maxj_tokens.specs.Faults.{IsFirst, HasNone, IsOutside, IsExcess}
-use Rattle.maxj_syntax.specs.Faults.{Begins, FirstBad, IsMisplaced, place_of, IsNoProject}
+use Rattle.maxj_syntax.specs.Faults.{BeginsSource, IsFirstMisplaced, IsMisplaced, place_of, IsNoProject}
 use Rattle.maxj_syntax.specs.Source.{AreWithin, IsSourceOf, Fault, HasFirst}
 use Rattle.maxj_syntax.specs.declared.tree.Program.{Program}
 use Rattle.maxj_tokens.specs.declared.scanner.ScanError.{ScanError}
@@ -59,15 +59,15 @@ take_split (suc k) zero ts h = absurd (omega (arith, h))
 take_split (suc k) (suc m) [] h = ([], refl)
 take_split (suc k) (suc m) (t ∷ ts) h = let r = take_split k m ts (omega (arith, h)) in (r.0, ap (λ l. t ∷ l) r.1)
 
-begins_less : (k m : ℕ) (ts : List PlacedToken) → k ≤ m → Begins (take m ts) → Begins (take k ts)
+begins_less : (k m : ℕ) (ts : List PlacedToken) → k ≤ m → BeginsSource (take m ts) → BeginsSource (take k ts)
 begins_less k m ts h b =
     let r = take_split k m ts h in
     (r.0 ++ b.0, b.1, subst (λ l. IsFile l b.1) (ap (λ l. l ++ b.0) r.1 ∙ append_assoc (take k ts) r.0 b.0) b.2)
 
-none_before : (ts : List PlacedToken) (n m : ℕ) → FirstBad ts n → FirstBad ts m → n < m → ⊥
+none_before : (ts : List PlacedToken) (n m : ℕ) → IsFirstMisplaced ts n → IsFirstMisplaced ts m → n < m → ⊥
 none_before ts n m a b h = let w = b.within in a.bad (omega (arith, h, w)) (begins_less (n + 1) m ts (omega (arith, h)) b.begun)
 
-one_bad : (ts : List PlacedToken) (n m : ℕ) → FirstBad ts n → FirstBad ts m → m ≡ n
+one_bad : (ts : List PlacedToken) (n m : ℕ) → IsFirstMisplaced ts n → IsFirstMisplaced ts m → m ≡ n
 one_bad ts n m a b = by_cases (nat_lt n m) refl (nat_lt m n) refl
   where
     by_cases : (x : Bool) → nat_lt n m ≡ x → (y : Bool) → nat_lt m n ≡ y → m ≡ n

@@ -23,7 +23,7 @@ use Rattle.maxj_tokens.specs.Scanning.{PlacedToken}
 use Rattle.maxj_tokens.specs.Reading.{placed_view}
 use Rattle.maxj_syntax.specs.Tree.{Node, Nil, one, ClassTree, AreAt, ClassesAre, ProgramIs}
 use Rattle.maxj_syntax.specs.Productions.{IsFile}
-use Rattle.maxj_syntax.specs.Faults.{FirstBad, IsMisplaced}
+use Rattle.maxj_syntax.specs.Faults.{IsFirstMisplaced, IsMisplaced}
 use Rattle.maxj_syntax.specs.declared.kind.Kind.{Kind}
 use Rattle.maxj_syntax.specs.TokenClasses.{Accepts}
 use Rattle.maxj_syntax.specs.Productions.{is_name}
@@ -115,7 +115,7 @@ abbrev pub Settles : Settled → List PlacedToken → List PlacedToken → List 
 Settles (T.Token k e) tokens ys after builder = Reached tokens ys (Mark k e ∷ after) builder
 Settles (T.Name w e) tokens ys after builder = Reached tokens ys (Name w.now e ∷ after) builder
 Settles T.Empty tokens ys after builder = Reached tokens ys [] builder
-Settles T.Stuck tokens ys after builder = FirstBad tokens (length tokens - length ys)
+Settles T.Stuck tokens ys after builder = IsFirstMisplaced tokens (length tokens - length ys)
 
 -- a rule's choice stands on the stack in its place, or there is none
 abbrev pub IsExpanded : Symbol → Option PlacedToken → List Symbol → List Symbol → Bool → Type 0

@@ -8,14 +8,14 @@ use Rattle.maxj_syntax.specs.Productions.{IsFile}
 -- the first token that no source has after the tokens before it
 
 -- with some others behind them the tokens are a source
-abbrev pub Begins : List PlacedToken → Type 0
-Begins tokens = (more : List PlacedToken) × (classes : List ClassTree) × IsFile (tokens ++ more) classes
+abbrev pub BeginsSource : List PlacedToken → Type 0
+BeginsSource tokens = (more : List PlacedToken) × (classes : List ClassTree) × IsFile (tokens ++ more) classes
 
 -- The token with this number is the first with which the tokens begin no source; at the end of the tokens, they are no whole one.
-pub record FirstBad (tokens : List PlacedToken) (number : ℕ) : Type 0 where
+pub record IsFirstMisplaced (tokens : List PlacedToken) (number : ℕ) : Type 0 where
   pub within : number ≤ length tokens
-  pub begun : Begins (take number tokens)
-  pub bad : number < length tokens → Begins (take (number + 1) tokens) → ⊥
+  pub begun : BeginsSource (take number tokens)
+  pub bad : number < length tokens → BeginsSource (take (number + 1) tokens) → ⊥
   pub none : (classes : List ClassTree) → IsFile tokens classes → ⊥
 
 -- the place of a token in bytes, or the size of the source past the last one
@@ -24,7 +24,7 @@ place_of tokens size number = slice_index_or (map (λ (t : PlacedToken). t.place
 
 pub record IsMisplaced (tokens : List PlacedToken) (size place : ℕ) : Type 0 where
   pub number : ℕ
-  pub bad : FirstBad tokens number
+  pub bad : IsFirstMisplaced tokens number
   pub at : place ≡ place_of tokens size number
 
 -- classes that are no project

@@ -1,8 +1,7 @@
 -- What a source is, and what its first fault is.
 use Rattle.std.specs.Prelude.{ℕ, List, length}
-use Rattle.maxj_syntax.specs.declared.tree.Program.{Program}
 use Rattle.maxj_tokens.specs.Scanning.{PlacedToken, AreTokens, HasStrayByte, HasNoToken}
-use Rattle.maxj_syntax.specs.Tree.{ClassTree, ProgramIs}
+use Rattle.maxj_syntax.specs.Tree.{ClassTree}
 use Rattle.maxj_syntax.specs.Productions.{IsFile}
 use Rattle.maxj_tokens.specs.Faults.{IsFirst, HasNone, IsOutside, IsExcess}
 use Rattle.maxj_syntax.specs.Faults.{IsMisplaced, IsNoProject}
@@ -23,10 +22,6 @@ pub record IsSourceOf (bytes : List ℕ) (classes : List ClassTree) : Type 0 whe
   pub within : AreWithin bytes tokens
   pub file : IsFile tokens classes
   pub project : IsNoProject classes → ⊥
-
--- the bytes are a source, and the program is its tree
-abbrev pub IsSource : List ℕ → Program → Type 0
-IsSource bytes p = (classes : List ClassTree) × IsSourceOf bytes classes × ProgramIs p classes
 
 -- a fault of a source
 pub data Fault : Type 0 where

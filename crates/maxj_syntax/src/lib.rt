@@ -22,8 +22,3 @@ pub use parser::{ParseError, parse_tokens};
 pub use project::is_no_project;
 pub use source::{SourceError, parse};
 pub use tree::{Class, Node, NodeKind, Program};
-
-#[cfg(test)]
-mod parse_tests;
-#[cfg(test)]
-mod project_tests;

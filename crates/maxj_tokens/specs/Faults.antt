@@ -1,7 +1,7 @@
 -- The faults of the tokens of a source: the first one that is out of profile, that stands too deep or too far.
 use Rattle.std.specs.Prelude.{◌≡◌, ◌⊎◌, ◌≤◌, ◌<◌, ◌+◌, ◌^◌, ℕ, Bool, true, false, List, [], ◌∷◌, ◌++◌, length, drop, if◌then◌else◌, codes}
 use Rattle.std.specs.List.{list_any, before_first}
-use Rattle.grammar.specs.Bytes.{decimal, hexadecimal}
+use Rattle.grammar.specs.Bytes.{decimal_value, hexadecimal}
 use Rattle.maxj_tokens.specs.Tokens.{Token, is_among, is_hex_integer, is_suffix}
 use Rattle.maxj_tokens.specs.Scanning.{PlacedToken}
 
@@ -30,7 +30,7 @@ foreign_words =
 
 -- the number that an integer says
 abbrev pub integer_value : List ℕ → ℕ
-integer_value word = let plain = before_first is_suffix word in if is_hex_integer plain then hexadecimal (drop 2 plain) else decimal plain
+integer_value word = let plain = before_first is_suffix word in if is_hex_integer plain then hexadecimal (drop 2 plain) else decimal_value plain
 
 -- a word that no source uses, an integer above 2^128 - 1, or a decimal of more than 30 digits
 abbrev pub IsForeign : Token → Type 0

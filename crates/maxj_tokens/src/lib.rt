@@ -16,8 +16,3 @@ pub use scanner::{ScanError, scan};
 pub use sign::Sign;
 pub use token::{Placed, Token};
 pub use word::{is_among, is_foreign_word, is_word};
-
-#[cfg(test)]
-mod fault_tests;
-#[cfg(test)]
-mod tests;

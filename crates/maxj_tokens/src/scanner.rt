@@ -51,7 +51,9 @@ fn fault(text: &[u8], left: &[u8]) -> ScanError
 }
 
 /// How many tokens a text has, up to the first place where none begins.
-fn count(text: &[u8]) -> usize {
+fn count(text: &[u8]) -> usize
+    ensures at_most { result ≤ length text.now }
+{
     let mut count = 0usize;
     let mut rest = text;
     while !rest.is_empty() {
@@ -61,7 +63,7 @@ fn count(text: &[u8]) -> usize {
             let Some(found) = next_token(rest) else {
                 return count;
             };
-            count = count.saturating_add(1);
+            count += 1;
             rest = found.rest;
         }
     }

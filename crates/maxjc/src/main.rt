@@ -33,7 +33,9 @@ fn main(rt: HostRuntime) -> ExitCode {
         Ok(words) => words,
         Err(error) => return ExitCode::from(status_without_words(&error).code()),
     };
-    let mut files = RealFiles::new(&rt);
+    let Ok(mut files) = RealFiles::new(rt.alloc(), &rt) else {
+        return ExitCode::from(Status::NoMemory.code());
+    };
     let mut say = StdSay::new(&rt);
     let stalls = Pattern::new(|pick: u64, edge: u64, port: u32| program_stalls(pick, edge, port));
     let status = maxjc(rt.alloc(), &words, &mut files, &mut say, &stalls);

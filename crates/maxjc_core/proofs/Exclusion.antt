@@ -3,7 +3,7 @@ use Rattle.std.proofs.Common.{◌≡◌, ◌<◌, ℕ, List, Some, None, length,
 use Rattle.std.specs.Prelude.{IsSome}
 use Rattle.mx_base.specs.Files.{Held, Name, Holds}
 use Rattle.maxj_syntax.specs.Tree.{ClassTree}
-use Rattle.maxj_syntax.specs.Source.{IsSourceOf, Fault, HasFirst}
+use Rattle.maxj_syntax.specs.Source.{IsSourceOf, HasFirst}
 use Rattle.maxj_syntax.proofs.Sources.{one_source, no_fault}
 use Rattle.expression_source.specs.Source.{Source, IsSource}
 use Rattle.maxjc_core.specs.Command.{Names}

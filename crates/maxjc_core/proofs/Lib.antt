@@ -1,3 +1,4 @@
+pub mod Refusing
 pub mod Reading
 pub mod RunReading
 pub mod RuleLines
@@ -8,5 +9,6 @@ pub mod RunClauses
 pub mod OneCommand
 pub mod Sources
 pub mod Exclusion
+pub mod OneShape
 pub mod Answering
 pub mod Writing

@@ -1,12 +1,18 @@
 -- Words are one command.
 use Rattle.std.proofs.Common.{◌≡◌, List, Some}
-use Rattle.maxjc_core.specs.Command.{Name, RunNames, Command, Simulate, command_of}
+use Rattle.maxjc_core.specs.Command.{Name, Names, RunNames, Command, Compile, Simulate, command_of}
 
 same_command : (words : List Name) (a b : Command) → command_of words ≡ Some a → command_of words ≡ Some b → a ≡ b
 same_command words a b x y = cc
 
-told_once : (a b : RunNames) → Simulate a ≡ Simulate b → a ≡ b
-told_once a b e = cc
+compiled_once : (a b : Names) → Compile a ≡ Compile b → a ≡ b
+compiled_once a b e = cc
+
+simulated_once : (a b : RunNames) → Simulate a ≡ Simulate b → a ≡ b
+simulated_once a b e = cc
+
+pub same_names : (words : List Name) (a b : Names) → command_of words ≡ Some (Compile a) → command_of words ≡ Some (Compile b) → a ≡ b
+same_names words a b x y = compiled_once a b (same_command words (Compile a) (Compile b) x y)
 
 pub same_run_names : (words : List Name) (a b : RunNames) → command_of words ≡ Some (Simulate a) → command_of words ≡ Some (Simulate b) → a ≡ b
-same_run_names words a b x y = told_once a b (same_command words (Simulate a) (Simulate b) x y)
+same_run_names words a b x y = simulated_once a b (same_command words (Simulate a) (Simulate b) x y)

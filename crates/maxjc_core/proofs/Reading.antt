@@ -6,9 +6,11 @@ use Rattle.mx_base.specs.Files.{Held, Name, Holds, Lacks}
 use Rattle.maxjc_core.specs.Causes.{file_limit, IsWithin, IsPast, IsMissing}
 use Rattle.maxjc_core.specs.Lines.{Cause, TooLarge}
 use Rattle.maxjc_core.specs.Command.{Names}
+use Rattle.maxjc_core.specs.Refusals.{cause_told}
 use Rattle.maxjc_core.specs.Stops.{IfRefused}
 use Rattle.maxjc_core.specs.declared.stop.Stop.{Stop}
 use Rattle.maxjc_core.specs.declared.stop.Stop.TheVariants as stops
+use Rattle.maxjc_core.proofs.Refusing.{if_cause_so, of_cause}
 
 -- a file that is told is held or not
 found_in : (held : Held) (name : Name) (f : Option (List ℕ)) → IsSome held → (Lacks held name → ⊥) → Some f ≡ (let told : Option (Option (List ℕ)) = elim held [ None ↦ None | Some m ↦ Some (get m name) ] in told) → (bytes : List ℕ) × Holds held name bytes
@@ -36,13 +38,15 @@ past limit held name told lacks large =
 pub read_stops : (limit : ℕ) (held : Held) (name : Name) (stop : Stop) (G : Cause → Type 0) → IfRefused stop (λ c. c ≡ TooLarge name) → ((file : List ℕ) → Holds held name file → IfRefused stop (λ _. limit < length file)) → (Lacks held name → stop ≡ stops.ReadFault)
     → (IsSome held → IsPast limit held name → G (TooLarge name)) → IfRefused stop (λ c. IsSome held → G c)
 read_stops limit held name (stops.Refused r) G named large lacks g =
-    λ told. subst G (sym named) (g told (past limit held name told (λ l. let e = lacks l in cc) large))
+    if_cause_so (cause_told r) (λ c. c ≡ TooLarge name) (λ c. IsSome held → G c)
+    (λ c same told. subst G (sym same) (g told (past limit held name told (λ l. let e = lacks l in cc) (λ file holds. of_cause (cause_told r) (limit < length file) (large file holds)))))
+    named
 read_stops limit held name stops.ReadFault G named large lacks g = tt
 read_stops limit held name stops.NoMemory G named large lacks g = tt
 
 -- where a file is missing, the first read that stops is a read fault or want of memory
 pub missing_stops : (names : Names) (held : Held) (stop : Stop) → ((file : List ℕ) → Holds held names.source file → IfRefused stop (λ _. file_limit < length file)) → (Lacks held names.source → stop ≡ stops.ReadFault) → IsMissing names held → (stop ≡ stops.ReadFault) ⊎ (stop ≡ stops.NoMemory)
 missing_stops names held stop large lacks (inl l) = inl (lacks l)
-missing_stops names held (stops.Refused r) large lacks (inr a) = absurd (let h = large a.source a.source_is.holds in let k = a.source_is.within in omega arith)
+missing_stops names held (stops.Refused r) large lacks (inr a) = absurd (let h = of_cause (cause_told r) (file_limit < length a.source) (large a.source a.source_is.holds) in let k = a.source_is.within in omega arith)
 missing_stops names held stops.ReadFault large lacks (inr a) = inl refl
 missing_stops names held stops.NoMemory large lacks (inr a) = inr refl

@@ -1,6 +1,8 @@
 -- What `simulate` ends with, where a run was made of what was loaded: a lemma for each clause.
 use Rattle.std.proofs.Common.{◌≡◌, ◌⊎◌, ◌<◌, ◌-◌, ◌^◌, min, ℕ, List, Bool, true, false, Option, Result, Ok, Err, inl, inr, ⊎_elim, refl, sym, ap, subst, ◌∙◌}
 use Rattle.std.specs.Prelude.{IsSome}
+use Rattle.std.proofs.lemmas.Bool.{cases_lt}
+use Rattle.mx_base.specs.Counts.{Rose}
 use Rattle.mx_base.specs.Files.{Held, Name}
 use Rattle.rtl_ir.specs.declared.design.Design.{Design}
 use Rattle.stall_source.specs.Stalls.{Answers}
@@ -20,12 +22,13 @@ use Rattle.simulation.specs.declared.stop.Stop.TheVariants as stops
 use Rattle.maxjc_core.specs.Command.{RunNames, said_more}
 use Rattle.maxjc_core.specs.Ends.{IsCutOff, IsQuiet}
 use Rattle.maxjc_core.specs.Lines.{Cause, TooManyCells}
+use Rattle.maxjc_core.specs.Refusals.{IfCause, stop_cause}
 use Rattle.maxjc_core.specs.RunCauses.{IsFaulty, StandsIn, LacksFile, LacksInput}
-use Rattle.maxjc_core.specs.RunEnds.{IsRunTo, IsRunDone, IsRunLimited, AreFirstWords, ChangesOutputs}
-use Rattle.maxjc_core.specs.RunStops.{end_status, end_line, stop_status, stop_cause}
+use Rattle.maxjc_core.specs.RunEnds.{IsRunTo, IsRunDone, IsRunLimited, RefusesRun, ReadFails, ChangesOutputs}
+use Rattle.maxjc_core.specs.RunStops.{end_status, end_line, stop_status}
 use Rattle.maxjc_core.specs.declared.status.Status.{Status}
 use Rattle.maxjc_core.specs.declared.status.Status.TheVariants.{Done, Refused, ReadFault, WriteFault, NoMemory, EdgeLimit}
-use Rattle.maxjc_core.proofs.RunEnding.{IsMade, IsSimulated, loaded_of, same_run, of_loaded, small_ok, small_err, ends_so, run_of_ends}
+use Rattle.maxjc_core.proofs.RunEnding.{IsMade, IsSimulated, loaded_of, same_run, of_loaded, small_of, small_ok, small_err, ends_so}
 
 -- the statuses where a run ended, and where it was stopped
 abbrev pub IsEnded : Outcome → Status → Type 0
@@ -137,38 +140,40 @@ pub lacks_cut_off : {names : RunNames} {stalls : Answers} {held now : Held} {d :
 lacks_cut_off r made sim stopped never (inl file) = absurd (never file)
 lacks_cut_off {stop = stop} r made sim stopped never (inr (l, small, missing)) = fails_missing stop r (ends_so l made sim small missing.restart missing.vs _ missing.ends) stopped
 
--- the outputs alone change
-pub others_so : {names : RunNames} {held now : Held} {d : Design} {p : Plan} → IsMade names held d p → ChangesOnlyOutputs p.outputs held now → IsSome held → ChangesOutputs names held now
-others_so {held = held} {now = now} made changes told =
+-- the outputs alone change, and these where the design is small
+pub others_so : {names : RunNames} {stalls : Answers} {held now : Held} {d : Design} {p : Plan} {result : Result Outcome Stop} → IsMade names held d p → IsSimulated stalls d p held now result → ChangesOnlyOutputs p.outputs held now → IsSome held → ChangesOutputs names held now
+others_so {held = held} {now = now} {d = d} made sim changes told =
     let l = loaded_of (made.loaded told) in
-    inr (l, of_loaded l made (λ (s : Setup) (outputs : List (Name × ℕ)). ChangesOnlyOutputs outputs held now) changes)
+    ⊎_elim (λ large. inl (sim.too_many large).1)
+    (λ small. inr (l, small_of l made small, of_loaded l made (λ (s : Setup) (outputs : List (Name × ℕ)). ChangesOnlyOutputs outputs held now) changes))
+    (cases_lt (2 ^ 26) (all_cells d))
 
--- a refusal of a run stands
-refused_so : {names : RunNames} {stalls : Answers} {held now : Held} {d : Design} {p : Plan} (stop : Stop) → IsMade names held d p → IsSimulated stalls d p held now (Err stop) → stop_status stop ≡ Refused → IsSome held → StandsIn stalls names held (stop_cause stop)
-refused_so {names} {stalls} {held} (stops.TooManyCells n) made sim e told =
+-- a refusal of a run has a cause that stands, and what it leaves in the files
+refused_so : {names : RunNames} {stalls : Answers} {held now : Held} {d : Design} {p : Plan} (stop : Stop) → IsMade names held d p → IsSimulated stalls d p held now (Err stop) → stop_status stop ≡ Refused → IfCause (stop_cause stop) (λ cause. IsSome held → RefusesRun stalls names held now cause)
+refused_so {names} {stalls} {held} {now} (stops.TooManyCells n) made sim e = λ told.
     let l = loaded_of (made.loaded told) in
     let many = sim.cells n refl in
     let designs = sym (same_run l made).designs in
-    subst (λ (k : ℕ). StandsIn stalls names held (TooManyCells k)) (sym (subst (λ (e : Design). n ≡ min (all_cells e) (2 ^ 64 - 1)) designs many.1))
-    (StandsIn.vast l (subst (λ (e : Design). 2 ^ 26 < all_cells e) designs many.0))
-refused_so {stalls = stalls} {now = now} (stops.BadLine file line) made sim e told =
+    subst (λ (k : ℕ). RefusesRun stalls names held now (TooManyCells k)) (sym (subst (λ (e : Design). n ≡ min (all_cells e) (2 ^ 64 - 1)) designs many.1))
+    (RefusesRun.vast l (subst (λ (e : Design). 2 ^ 26 < all_cells e) designs many.0) (sim.too_many many.0).1)
+refused_so {stalls = stalls} {now = now} (stops.BadLine file line) made sim e = λ told.
     let l = loaded_of (made.loaded told) in
-    let breaks = of_loaded l made (λ (s : Setup) (outputs : List (Name × ℕ)). Breaks stalls s outputs now (Stopped (lines.BadLine file line))) (sim.tells made.can.is.top made.can.is.shape made.can.is.is_top made.can.is.is_run.has told) in
-    StandsIn.bad_line l breaks.restart breaks.vs file line (small_err l made sim (λ n x. cc) (λ x. cc)) breaks.ends
-refused_so {stalls = stalls} {now = now} (stops.WordRange file line) made sim e told =
+    RefusesRun.bad_line l file line (small_err l made sim (λ n x. cc) (λ x. cc))
+    (of_loaded l made (λ (s : Setup) (outputs : List (Name × ℕ)). Breaks stalls s outputs now (Stopped (lines.BadLine file line))) (sim.tells made.can.is.top made.can.is.shape made.can.is.is_top made.can.is.is_run.has told))
+refused_so {stalls = stalls} {now = now} (stops.WordRange file line) made sim e = λ told.
     let l = loaded_of (made.loaded told) in
-    let breaks = of_loaded l made (λ (s : Setup) (outputs : List (Name × ℕ)). Breaks stalls s outputs now (Stopped (lines.WordRange file line))) (sim.tells made.can.is.top made.can.is.shape made.can.is.is_top made.can.is.is_run.has told) in
-    StandsIn.word_range l breaks.restart breaks.vs file line (small_err l made sim (λ n x. cc) (λ x. cc)) breaks.ends
-refused_so stops.ReadFault made sim e told = absurd (cc)
-refused_so stops.WriteFault made sim e told = absurd (cc)
-refused_so stops.NoMemory made sim e told = absurd (cc)
+    RefusesRun.word_range l file line (small_err l made sim (λ n x. cc) (λ x. cc))
+    (of_loaded l made (λ (s : Setup) (outputs : List (Name × ℕ)). Breaks stalls s outputs now (Stopped (lines.WordRange file line))) (sim.tells made.can.is.top made.can.is.shape made.can.is.is_top made.can.is.is_run.has told))
+refused_so stops.ReadFault made sim e = absurd (cc)
+refused_so stops.WriteFault made sim e = absurd (cc)
+refused_so stops.NoMemory made sim e = absurd (cc)
 
 status_refused : (stop : Stop) (r : Status) → IsStopped stop r → r ≡ Refused → stop_status stop ≡ Refused
 status_refused stop r (inl e) x = sym e ∙ x
 status_refused stop r (inr e) x = e.0
 
-pub refused_stands : {names : RunNames} {stalls : Answers} {held now : Held} {d : Design} {p : Plan} (stop : Stop) (r : Status) → IsMade names held d p → IsSimulated stalls d p held now (Err stop) → IsStopped stop r → r ≡ Refused → IsSome held → StandsIn stalls names held (stop_cause stop)
-refused_stands stop r made sim stopped e told = refused_so stop made sim (status_refused stop r stopped e) told
+pub refused_stands : {names : RunNames} {stalls : Answers} {held now : Held} {d : Design} {p : Plan} (stop : Stop) (r : Status) → IsMade names held d p → IsSimulated stalls d p held now (Err stop) → IsStopped stop r → r ≡ Refused → IfCause (stop_cause stop) (λ cause. IsSome held → RefusesRun stalls names held now cause)
+refused_stands stop r made sim stopped e = refused_so stop made sim (status_refused stop r stopped e)
 
 -- a read fault is the run's own
 status_reads : (stop : Stop) → stop_status stop ≡ ReadFault → stop ≡ stops.ReadFault
@@ -207,35 +212,15 @@ read_fault_so {stalls = stalls} {held = held} {now = now} {d = d} {p = p} stop r
     let same = stop_reads stop r stopped e in
     ⊎_elim (λ rose. inl rose) (λ missing. inr (missing_so made (subst (λ (z : Stop). IsSimulated stalls d p held now (Err z)) same sim) missing.0 missing.1)) (fault same)
 
--- after a refusal and a read fault the output files hold the first words that left
-broken : {stalls : Answers} {s : Setup} {outputs : List (Name × ℕ)} {now : Held} {end : End} → Breaks stalls s outputs now end → answers.IsCutOff stalls s outputs now
-broken b = record { restart = b.restart; vs = b.vs; run = run_of_ends b.ends; begun = b.begun }
-
-abbrev IsRefusalOrRead : Status → Type 0
-IsRefusalOrRead r = (r ≡ Refused) ⊎ (r ≡ ReadFault)
-
-begun_so : {names : RunNames} {stalls : Answers} {held now : Held} {d : Design} {p : Plan} (stop : Stop) → IsMade names held d p → IsSimulated stalls d p held now (Err stop) → IsRefusalOrRead (stop_status stop) → IsSome held → AreFirstWords stalls names held now
-begun_so (stops.TooManyCells n) made sim e told = inl (sim.too_many (sim.cells n refl).0).1
-begun_so {stalls = stalls} {now = now} (stops.BadLine file line) made sim e told =
+-- what a read fault in a run leaves in the files
+pub cut_off_so : {names : RunNames} {stalls : Answers} {held now : Held} {d : Design} {p : Plan} {count_before count_now : ℕ} (stop : Stop) (r : Status) (made : IsMade names held d p) → IsSimulated stalls d p held now (Err stop) → IsStopped stop r → (stop ≡ stops.ReadFault → Rose count_before count_now ⊎ (IsSome held × IsMissing stalls (setup_of d made.can.is.top made.can.is.shape p held))) → r ≡ ReadFault → IsSome held → ReadFails stalls names held now count_before count_now
+cut_off_so {stalls = stalls} {held = held} {now = now} {d = d} {p = p} stop r made sim stopped fault e told =
+    let same = stop_reads stop r stopped e in
+    let reads = subst (λ (z : Stop). IsSimulated stalls d p held now (Err z)) same sim in
     let l = loaded_of (made.loaded told) in
-    inr (l, of_loaded l made (λ (s : Setup) (outputs : List (Name × ℕ)). answers.IsCutOff stalls s outputs now) (broken (sim.tells made.can.is.top made.can.is.shape made.can.is.is_top made.can.is.is_run.has told)))
-begun_so {stalls = stalls} {now = now} (stops.WordRange file line) made sim e told =
-    let l = loaded_of (made.loaded told) in
-    inr (l, of_loaded l made (λ (s : Setup) (outputs : List (Name × ℕ)). answers.IsCutOff stalls s outputs now) (broken (sim.tells made.can.is.top made.can.is.shape made.can.is.is_top made.can.is.is_run.has told)))
-begun_so {stalls = stalls} {now = now} stops.ReadFault made sim e told =
-    let l = loaded_of (made.loaded told) in
-    inr (l, of_loaded l made (λ (s : Setup) (outputs : List (Name × ℕ)). answers.IsCutOff stalls s outputs now) (sim.tells made.can.is.top made.can.is.shape made.can.is.is_top made.can.is.is_run.has told))
-begun_so stops.WriteFault made sim (inl e) told = absurd (cc)
-begun_so stops.WriteFault made sim (inr e) told = absurd (cc)
-begun_so stops.NoMemory made sim (inl e) told = absurd (cc)
-begun_so stops.NoMemory made sim (inr e) told = absurd (cc)
-
-status_as : (stop : Stop) (r : Status) → IsStopped stop r → IsRefusalOrRead r → IsRefusalOrRead (stop_status stop)
-status_as stop r (inl e) x = subst IsRefusalOrRead e x
-status_as stop r (inr e) x = inl e.0
-
-pub begun_stopped : {names : RunNames} {stalls : Answers} {held now : Held} {d : Design} {p : Plan} (stop : Stop) (r : Status) → IsMade names held d p → IsSimulated stalls d p held now (Err stop) → IsStopped stop r → IsRefusalOrRead r → IsSome held → AreFirstWords stalls names held now
-begun_stopped stop r made sim stopped e told = begun_so stop made sim (status_as stop r stopped e) told
+    ReadFails.in_run l (small_err l made reads (λ n x. cc) (λ x. cc))
+    (of_loaded l made (λ (s : Setup) (outputs : List (Name × ℕ)). answers.IsInterrupted stalls s outputs now) (reads.tells made.can.is.top made.can.is.shape made.can.is.is_top made.can.is.is_run.has told))
+    (⊎_elim (λ rose. inl rose) (λ missing. inr (of_loaded l made (λ (s : Setup) (outputs : List (Name × ℕ)). IsMissing stalls s) missing.1)) (fault same))
 
 -- no call of the outside failed
 pub quiet_reads : (r : Status) → IsQuiet r → r ≡ ReadFault → ⊥

@@ -13,7 +13,7 @@ use Rattle.verilog_sim.specs.Start.{all_cells}
 use Rattle.simulation.specs.Answers.{Tells, IsOrFails}
 use Rattle.simulation.specs.Ends.{End, Ends}
 use Rattle.simulation.specs.Plans.{setup_of}
-use Rattle.simulation.specs.Runs.{Setup, IsRun}
+use Rattle.simulation.specs.Runs.{Setup}
 use Rattle.simulation.specs.declared.plan.Plan.{Plan}
 use Rattle.simulation.specs.declared.stop.Outcome.{Outcome}
 use Rattle.simulation.specs.declared.stop.Stop.{Stop}
@@ -83,7 +83,7 @@ of_loaded {names} {held} {d} {p} l made P h =
     subst (λ (q : Plan). P (setup l) q.outputs) (sym same.plans) (subst (λ (s : Setup). P s p.outputs) (sym same.setups) h)
 
 -- a design that isn't too large is small
-small_of : {names : RunNames} {held : Held} {d : Design} {p : Plan} (l : IsLoaded names held) (made : IsMade names held d p) → all_cells d ≤ 2 ^ 26 → IsSmall l
+pub small_of : {names : RunNames} {held : Held} {d : Design} {p : Plan} (l : IsLoaded names held) (made : IsMade names held d p) → all_cells d ≤ 2 ^ 26 → IsSmall l
 small_of l made small = subst (λ (e : Design). all_cells e ≤ 2 ^ 26) (sym (same_run l made).designs) small
 
 -- where the answer isn't that of a large design, the design is small
@@ -104,12 +104,6 @@ ends_so {stalls = stalls} l made sim small restart vs end ends =
     sim.exact made.can.is.top made.can.is.shape made.can.is.is_top made.can.is.is_run.has (told_loaded l)
     (subst (λ (e : Design). all_cells e ≤ 2 ^ 26) same.designs small) restart vs end
     (subst (λ (s : Setup). Ends stalls s restart vs end) same.setups ends)
-
--- a run that ends is a run
-pub run_of_ends : {stalls : Answers} {s : Setup} {restart : Families} {vs : List Families} {end : End} → Ends stalls s restart vs end → IsRun stalls s restart vs
-run_of_ends (Ends.done run within is) = run
-run_of_ends (Ends.limit run all is) = run
-run_of_ends (Ends.stopped fault run within is by) = run
 
 -- the contract of `simulate`, where loading changed no file
 pub simulated : {stalls : Answers} {d : Design} {p : Plan} {other held now : Held} {result : Result Outcome Stop}

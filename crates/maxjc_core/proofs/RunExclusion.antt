@@ -6,10 +6,11 @@ use Rattle.rtl_ir.specs.declared.design.Design.{Design}
 use Rattle.rtl_ir.specs.declared.design.Module.{Module}
 use Rattle.rtl_ir.specs.Ports.{Shape}
 use Rattle.word_files.specs.declared.run_file.RunFile.{RunFile}
-use Rattle.word_files.specs.declared.run_file.PortList.{PortList}
-use Rattle.word_files.specs.declared.error.RunError.TheVariants as run_errors
+use Rattle.rtl_ir.specs.declared.interface.Interface.{Interface}
+use Rattle.rtl_ir.specs.Interfaces.{shape_of}
+use Rattle.word_files.specs.declared.error.RunFileError.TheVariants as run_errors
 use Rattle.word_files.specs.RunFiles.{Reads, IsRunFile, Fits}
-use Rattle.top_ports.specs.Shapes.{IsTop, IsPortList}
+use Rattle.top_ports.specs.Shapes.{IsTop}
 use Rattle.verilog_read.specs.Refused.{IsReadAs}
 use Rattle.simulation.specs.declared.plan.Plan.{Plan}
 use Rattle.simulation.specs.Plans.{IsPlanOf}
@@ -19,6 +20,7 @@ use Rattle.maxjc_core.specs.Causes.{file_limit, IsWithin, IsPast}
 use Rattle.maxjc_core.specs.Loading.{text_limit, FitTogether, AreRead, IsLoaded}
 use Rattle.maxjc_core.specs.RunCauses.{BreaksForm, IsFaulty}
 use Rattle.maxjc_core.proofs.Exclusion.{same_bytes}
+use Rattle.maxjc_core.proofs.OneShape.{ticks_along, scalars_along, inputs_along, outputs_along, plan_along}
 use Rattle.top_ports.proofs.ShapeLists.{one_alone}
 use Rattle.maxjc_core.specs.LoadStops.{IsOnlyDesign, IsUnfit, IsUnfitFor, IsRunFault}
 use Rattle.verilog_read.specs.Refused.{Refuses}
@@ -53,18 +55,6 @@ run_once run a b x y =
     (let e = p.pick in let f = q.pick in cc)
     (let e = p.fill in let f = q.fill in cc)
 
-abbrev port_list : List Name → List (Name × ℕ) → List (Name × ℕ) → List (Name × ℕ) → PortList
-port_list k c i o = record { kernels = k; scalars = c; inputs = i; outputs = o }
-
-ports_once : (s : Shape) (p q : PortList) → IsPortList p s → IsPortList q s → p ≡ q
-ports_once s p q a b =
-    let k : p.kernels ≡ q.kernels = a.kernels ∙ sym b.kernels in
-    let c : p.scalars ≡ q.scalars = a.scalars ∙ sym b.scalars in
-    let i : p.inputs ≡ q.inputs = a.inputs ∙ sym b.inputs in
-    let o : p.outputs ≡ q.outputs = a.outputs ∙ sym b.outputs in
-    let same : port_list p.kernels p.scalars p.inputs p.outputs ≡ port_list q.kernels q.scalars q.inputs q.outputs = rw (k, c, i, o) refl in
-    same
-
 cons_once : {A : Type 0} (x y : A) (xs ys : List A) → x ∷ xs ≡ y ∷ ys → xs ≡ ys
 cons_once x y xs ys e = cc
 
@@ -98,8 +88,9 @@ pairs_once (x ∷ xs) (y ∷ ys) e f =
 abbrev plan : List ℕ → List ℕ → List (Name × ℕ) → List (Name × ℕ) → ℕ → ℕ → ℕ → Plan
 plan t s i o e k f = record { ticks = t; scalars = s; inputs = i; outputs = o; edges = e; pick = k; fill = f }
 
-plan_once : (r : RunFile) (ports : PortList) (p q : Plan) → IsPlanOf r ports p → IsPlanOf r ports q → p ≡ q
-plan_once r ports p q a b =
+plan_once : (r : RunFile) (ports others : Interface) → shape_of ports ≡ shape_of others → (p q : Plan) → IsPlanOf r ports p → IsPlanOf r others q → p ≡ q
+plan_once r ports others same p q a' b =
+    let a = plan_along r ports others same p a' in
     let t : p.ticks ≡ q.ticks = somes_once _ _ (a.ticks ∙ sym b.ticks) in
     let s : p.scalars ≡ q.scalars = somes_once _ _ (a.scalars ∙ sym b.scalars) in
     let i : p.inputs ≡ q.inputs = pairs_once _ _ (a.input_files ∙ sym b.input_files) (a.input_widths ∙ sym b.input_widths) in
@@ -107,8 +98,8 @@ plan_once r ports p q a b =
     let e : p.edges ≡ q.edges = a.edges ∙ sym b.edges in
     let k : p.pick ≡ q.pick = a.pick ∙ sym b.pick in
     let f : p.fill ≡ q.fill = a.fill ∙ sym b.fill in
-    let same : plan p.ticks p.scalars p.inputs p.outputs p.edges p.pick p.fill ≡ plan q.ticks q.scalars q.inputs q.outputs q.edges q.pick q.fill = rw (t, s, i, o, e, k, f) refl in
-    same
+    let whole : plan p.ticks p.scalars p.inputs p.outputs p.edges p.pick p.fill ≡ plan q.ticks q.scalars q.inputs q.outputs q.edges q.pick q.fill = rw (t, s, i, o, e, k, f) refl in
+    whole
 
 -- two designs and runs of texts and run files that are the same are the same
 pub record SameFit {text other run file : List ℕ} (a : FitTogether text run) (b : FitTogether other file) : Type 0 where
@@ -130,12 +121,12 @@ fit_once text other run file same_text same_run d only a b =
     let tops = top_once text other a.design b.design a.is b.is designs in
     let shapes = one_alone b.is.top a.is.shape b.is.shape (subst (λ (m : Module). IsTop m a.is.shape) tops a.is.is_run) b.is.is_run in
     let runs = run_once file a.run_file b.run_file (subst (λ (r : List ℕ). Reads r (Ok a.run_file)) same_run a.says) b.says in
-    let ports = ports_once b.is.shape a.ports b.ports (subst (IsPortList a.ports) shapes a.are) b.are in
+    let ports = a.are ∙ shapes ∙ sym b.are in
     record {
       designs = designs;
       tops = tops;
       shapes = shapes;
-      plans = plan_once b.run_file b.ports a.plan b.plan (subst (λ (r : RunFile). IsPlanOf r b.ports a.plan) runs (subst (λ (p : PortList). IsPlanOf a.run_file p a.plan) ports a.planned)) b.planned;
+      plans = plan_once b.run_file a.ports b.ports ports a.plan b.plan (subst (λ (r : RunFile). IsPlanOf r a.ports a.plan) runs a.planned) b.planned;
     }
 
 no_error : (run : List ℕ) (a : RunFile) (key : List ℕ) → Reads run (Ok a) → Reads run (Err (run_errors.Shape key)) → ⊥
@@ -148,11 +139,11 @@ no_error run a key x y =
 no_text : (run : List ℕ) (a : RunFile) → Reads run (Ok a) → Reads run (Err run_errors.NotJson) → ⊥
 no_text run a x y = let e = x.1.1 in let f = y x.1.0 in absurd (cc)
 
-fits_not : (text run : List ℕ) (f : FitTogether text run) (key : List ℕ) → Fits f.run_file f.ports (Err (run_errors.Shape key)) → ⊥
-fits_not text run f key (inl x) = x.1 f.ticks
-fits_not text run f key (inr (inl x)) = x.2 f.scalars
-fits_not text run f key (inr (inr (inl x))) = x.3 f.inputs
-fits_not text run f key (inr (inr (inr x))) = x.4 f.outputs
+fits_not : (text run : List ℕ) (f : FitTogether text run) (ports : Interface) → shape_of f.ports ≡ shape_of ports → (key : List ℕ) → Fits f.run_file ports (Err (run_errors.Shape key)) → ⊥
+fits_not text run f ports same key (inl x) = x.1 (ticks_along f.run_file f.ports ports same f.ticks)
+fits_not text run f ports same key (inr (inl x)) = x.2 (scalars_along f.run_file f.ports ports same f.scalars)
+fits_not text run f ports same key (inr (inr (inl x))) = x.3 (inputs_along f.run_file f.ports ports same f.inputs)
+fits_not text run f ports same key (inr (inr (inr x))) = x.4 (outputs_along f.run_file f.ports ports same f.outputs)
 
 -- a run file that is of its form has no fault
 run_fits : (run : List ℕ) (a : RunFile) (cause : Cause) → Reads run (Ok a) → IsRunFault run cause → ⊥
@@ -160,18 +151,17 @@ run_fits run a cause x (IsRunFault.not_json h) = no_text run a x h
 run_fits run a cause x (IsRunFault.shape key h) = no_error run a key x h
 
 -- and one that fits the ports of the text's one design has none there
-unfit_apart : (text run : List ℕ) (f : FitTogether text run) (d : Design) → IsOnlyDesign text d → (e : Design) (is : IsReadAs text e) (r : RunFile) (ports : PortList) (key : List ℕ) → Reads run (Ok r) → IsPortList ports is.shape → Fits r ports (Err (run_errors.Shape key)) → ⊥
+unfit_apart : (text run : List ℕ) (f : FitTogether text run) (d : Design) → IsOnlyDesign text d → (e : Design) (is : IsReadAs text e) (r : RunFile) (ports : Interface) (key : List ℕ) → Reads run (Ok r) → shape_of ports ≡ is.shape → Fits r ports (Err (run_errors.Shape key)) → ⊥
 unfit_apart text run f d only e is r ports key says are fits =
     let designs : e ≡ f.design = only e is.reads ∙ sym (only f.design f.is.reads) in
     let tops = top_once text text e f.design is f.is designs in
     let shapes = one_alone f.is.top is.shape f.is.shape (subst (λ (m : Module). IsTop m is.shape) tops is.is_run) f.is.is_run in
     let runs = run_once run r f.run_file says f.says in
-    let same = ports_once f.is.shape ports f.ports (subst (IsPortList ports) shapes are) f.are in
-    fits_not text run f key (subst (λ (x : RunFile). Fits x f.ports (Err (run_errors.Shape key))) runs (subst (λ (p : PortList). Fits r p (Err (run_errors.Shape key))) same fits))
+    fits_not text run f ports (f.are ∙ sym shapes ∙ sym are) key (subst (λ (x : RunFile). Fits x ports (Err (run_errors.Shape key))) runs fits)
 
 -- bytes that fit together break no form, where the text has one design and isn't refused
 pub fit_apart : (text run : List ℕ) (cause : Cause) (d : Design) → IsOnlyDesign text d → ((e : VerilogError) → Refuses text e → ⊥) → FitTogether text run → BreaksForm text run cause → ⊥
-fit_apart text run cause d only exact f (BreaksForm.of_text e r) = exact e r
+fit_apart text run cause d only exact f (BreaksForm.of_text e c r is) = exact e r
 fit_apart text run cause d only exact f (BreaksForm.no_json e is h) = no_text run f.run_file f.says h
 fit_apart text run cause d only exact f (BreaksForm.of_run e key is h) = no_error run f.run_file key f.says h
 fit_apart text run cause d only exact f (BreaksForm.unfit e is r ports key says are fits) = unfit_apart text run f d only e is r ports key says are fits
@@ -180,7 +170,7 @@ fit_apart text run cause d only exact f (BreaksForm.unfit e is r ports key says 
 pub run_not_refused : (text run : List ℕ) (f : FitTogether text run) (stop : Stop) → IfRefused stop (IsRunFault run) → IfRefused stop (λ _. ⊥)
 run_not_refused text run f stop h = refused_so stop (IsRunFault run) (λ _. ⊥) (λ cause x. run_fits run f.run_file cause f.says x) h
 
-unfit_for : (text run : List ℕ) (f : FitTogether text run) (d : Design) → IsOnlyDesign text d → (is : IsReadAs text d) (r : RunFile) → Reads run (Ok r) → (ports : PortList) → IsPortList ports is.shape → (cause : Cause) → IsUnfitFor r ports cause → ⊥
+unfit_for : (text run : List ℕ) (f : FitTogether text run) (d : Design) → IsOnlyDesign text d → (is : IsReadAs text d) (r : RunFile) → Reads run (Ok r) → (ports : Interface) → shape_of ports ≡ is.shape → (cause : Cause) → IsUnfitFor r ports cause → ⊥
 unfit_for text run f d only is r says ports are cause (IsUnfitFor.at_key key fits) = unfit_apart text run f d only d is r ports key says are fits
 
 pub plan_not_refused : (text run : List ℕ) (f : FitTogether text run) (d : Design) → IsOnlyDesign text d → (is : IsReadAs text d) (r : RunFile) → Reads run (Ok r) → (stop : Stop) → IfRefused stop (IsUnfit r is.shape) → IfRefused stop (λ _. ⊥)

@@ -8,24 +8,26 @@ use Rattle.maxjc_core.specs.Causes.{file_limit, IsWithin}
 use Rattle.maxjc_core.specs.Loading.{text_limit, FitTogether, AreRead, IsLoaded}
 use Rattle.maxjc_core.specs.LoadStops.{FitAs, LoadAnswers}
 use Rattle.maxjc_core.specs.RunCauses.{BreaksForm, IsFaulty, LacksFile}
+use Rattle.maxjc_core.specs.Refusals.{cause_told}
 use Rattle.maxjc_core.specs.Stops.{IfRefused}
 use Rattle.maxjc_core.specs.declared.stop.Stop.{Stop}
 use Rattle.maxjc_core.specs.declared.stop.Stop.TheVariants as stops
 use Rattle.maxjc_core.specs.declared.load.Loaded.{Loaded}
 use Rattle.maxjc_core.proofs.Exclusion.{told}
+use Rattle.maxjc_core.proofs.Refusing.{of_cause}
 use Rattle.maxjc_core.proofs.RunReading.{refused_so}
 use Rattle.maxjc_core.proofs.RunExclusion.{moved, read_faulty}
 
 -- where a file is missing, the first read that stops is a read fault or want of memory
 pub missing_stops : (names : RunNames) (held : Held) (stop : Stop) → ((file : List ℕ) → Holds held names.text file → IfRefused stop (λ _. text_limit < length file)) → (Lacks held names.text → stop ≡ stops.ReadFault) → LacksFile names held → (stop ≡ stops.ReadFault) ⊎ (stop ≡ stops.NoMemory)
 missing_stops names held stop large lacks (inl l) = inl (lacks l)
-missing_stops names held (stops.Refused r) large lacks (inr a) = absurd (let h = large a.text a.text_is.holds in let k = a.text_is.within in omega arith)
+missing_stops names held (stops.Refused r) large lacks (inr a) = absurd (let h = of_cause (cause_told r) (text_limit < length a.text) (large a.text a.text_is.holds) in let k = a.text_is.within in omega arith)
 missing_stops names held stops.ReadFault large lacks (inr a) = inl refl
 missing_stops names held stops.NoMemory large lacks (inr a) = inr refl
 
 -- a file within its limit isn't refused
 pub within_read : (limit : ℕ) (held : Held) (name : Name) (bytes : List ℕ) (stop : Stop) → IsWithin limit held name bytes → ((file : List ℕ) → Holds held name file → IfRefused stop (λ _. limit < length file)) → IfRefused stop (λ _. ⊥)
-within_read limit held name bytes (stops.Refused r) within large = (let h = large bytes within.holds in let k = within.within in omega arith)
+within_read limit held name bytes (stops.Refused r) within large = absurd (let h = of_cause (cause_told r) (limit < length bytes) (large bytes within.holds) in let k = within.within in omega arith)
 within_read limit held name bytes stops.ReadFault within large = tt
 within_read limit held name bytes stops.NoMemory within large = tt
 

@@ -1,30 +1,32 @@
 -- What reading a text and a run file says of their bytes.
-use Rattle.std.proofs.Common.{◌≡◌, ℕ, List, Some, Ok, sym, subst, refl}
+use Rattle.std.proofs.Common.{◌≡◌, ℕ, List, Some, Ok, subst, refl}
 use Rattle.rtl_ir.specs.declared.design.Design.{Design}
 use Rattle.rtl_ir.specs.declared.design.Module.{Module}
 use Rattle.rtl_ir.specs.Flat.{top_of}
-use Rattle.verilog_read.specs.Refused.{Refuses, IsReadAs}
-use Rattle.verilog_read.specs.declared.error.VerilogError.{VerilogError}
+use Rattle.verilog_read.specs.Refused.{IsReadAs}
 use Rattle.word_files.specs.declared.run_file.RunFile.{RunFile}
 use Rattle.word_files.specs.RunFiles.{Reads}
-use Rattle.top_ports.specs.Shapes.{IsTop, IsPortList}
-use Rattle.word_files.specs.declared.run_file.PortList.{PortList}
+use Rattle.top_ports.specs.Shapes.{IsTop}
+use Rattle.rtl_ir.specs.declared.interface.Interface.{Interface}
+use Rattle.rtl_ir.specs.Interfaces.{shape_of}
 use Rattle.simulation.specs.declared.plan.Plan.{Plan}
 use Rattle.maxjc_core.specs.Lines.{Cause}
 use Rattle.maxjc_core.specs.LoadStops.{FitAs, IsOnlyDesign, IsRunFault, IsPlanned, IsUnfit, IsUnfitFor}
-use Rattle.maxjc_core.specs.RunCauses.{BreaksForm, text_cause}
+use Rattle.maxjc_core.specs.RunCauses.{BreaksForm}
+use Rattle.maxjc_core.specs.Refusals.{cause_told}
 use Rattle.maxjc_core.specs.Stops.{IfRefused}
 use Rattle.maxjc_core.specs.declared.stop.Stop.{Stop}
 use Rattle.maxjc_core.specs.declared.stop.Stop.TheVariants as stops
+use Rattle.maxjc_core.proofs.Refusing.{IsTextFault, if_cause_so}
 
 -- a refusal has a further property that its cause has
 pub refused_so : (stop : Stop) (P Q : Cause → Type 0) → ((cause : Cause) → P cause → Q cause) → IfRefused stop P → IfRefused stop Q
-refused_so (stops.Refused r) P Q f p = f _ p
+refused_so (stops.Refused r) P Q f p = if_cause_so (cause_told r) P Q f p
 refused_so stops.ReadFault P Q f p = tt
 refused_so stops.NoMemory P Q f p = tt
 
-pub text_breaks : (text run : List ℕ) (cause : Cause) → (e : VerilogError) × Refuses text e × (cause ≡ text_cause e) → BreaksForm text run cause
-text_breaks text run cause r = subst (BreaksForm text run) (sym r.2) (BreaksForm.of_text r.0 r.1)
+pub text_breaks : (text run : List ℕ) (cause : Cause) → IsTextFault text cause → BreaksForm text run cause
+text_breaks text run cause r = BreaksForm.of_text r.0 cause r.1 r.2
 
 pub run_breaks : (text run : List ℕ) (d : Design) → IsReadAs text d → (cause : Cause) → IsRunFault run cause → BreaksForm text run cause
 run_breaks text run d is cause (IsRunFault.not_json h) = BreaksForm.no_json d is h
@@ -37,7 +39,7 @@ top_is text d is m top =
     let same : is.top ≡ m = cc in
     subst (λ (x : Module). IsTop x is.shape) same is.is_run
 
-plan_unfit : (text run : List ℕ) (d : Design) (is : IsReadAs text d) (r : RunFile) → Reads run (Ok r) → (ports : PortList) → IsPortList ports is.shape → (cause : Cause) → IsUnfitFor r ports cause → BreaksForm text run cause
+plan_unfit : (text run : List ℕ) (d : Design) (is : IsReadAs text d) (r : RunFile) → Reads run (Ok r) → (ports : Interface) → shape_of ports ≡ is.shape → (cause : Cause) → IsUnfitFor r ports cause → BreaksForm text run cause
 plan_unfit text run d is r says ports are cause (IsUnfitFor.at_key key fits) = BreaksForm.unfit d is r ports key says are fits
 
 pub plan_breaks : (text run : List ℕ) (d : Design) (is : IsReadAs text d) (r : RunFile) → Reads run (Ok r) → (cause : Cause) → IsUnfit r is.shape cause → BreaksForm text run cause

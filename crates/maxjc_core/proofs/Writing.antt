@@ -25,6 +25,8 @@ use Rattle.maxjc_core.specs.Compiling.{Compiles, kernel_shape}
 use Rattle.maxjc_core.specs.Loading.{IsLoaded, setup}
 use Rattle.maxjc_core.specs.Writing.{WritesWords, WritesAllWords}
 use Rattle.top_ports.proofs.ShapeLists.{one_alone}
+use Rattle.rtl_ir.specs.Interfaces.{stream_shape}
+use Rattle.maxjc_core.proofs.OneShape.{fused}
 use Rattle.maxjc_core.specs.LoadStops.{IsOnlyDesign}
 use Rattle.simulation.specs.Answers.{end_of}
 use Rattle.simulation.specs.declared.stop.Outcome.{Outcome}
@@ -117,8 +119,8 @@ pub words_written :
 words_written stalls source line {names} {before} l d only c now end finishes =
     let (streams, shapes) = streams_read source line l d only c in
     let p = l.fit.plan in
-    let inputs = single (λ (i : Name × ℕ). i.1) p.inputs _ (l.fit.planned.input_widths ∙ ap (map (λ (i : Name × ℕ). i.1)) (l.fit.are.inputs ∙ ap (λ (s : Shape). s.inputs) shapes)) in
-    let outputs = single (λ (i : Name × ℕ). i.1) p.outputs _ (l.fit.planned.output_widths ∙ ap (map (λ (i : Name × ℕ). i.1)) (l.fit.are.outputs ∙ ap (λ (s : Shape). s.outputs) shapes)) in
+    let inputs = single (λ (i : Name × ℕ). i.1) p.inputs _ (l.fit.planned.input_widths ∙ fused stream_shape (λ (i : Name × ℕ). i.1) l.fit.ports.inputs ∙ ap (map (λ (i : Name × ℕ). i.1)) (ap (λ (s : Shape). s.inputs) (l.fit.are ∙ shapes))) in
+    let outputs = single (λ (i : Name × ℕ). i.1) p.outputs _ (l.fit.planned.output_widths ∙ fused stream_shape (λ (i : Name × ℕ). i.1) l.fit.ports.outputs ∙ ap (map (λ (i : Name × ℕ). i.1)) (ap (λ (s : Shape). s.outputs) (l.fit.are ∙ shapes))) in
     let files = one_file before p.inputs inputs.0 inputs.1 in
     let run = run_of stalls l finishes.restart finishes.vs end finishes.ends in
     let words = streamed (output_of c.kernel) l.fit.design l.fit.is.top l.fit.is.shape p before now stalls finishes.restart finishes.vs streams run finishes.written files.0 files.1 outputs.0 outputs.1 in

@@ -1,6 +1,6 @@
 -- What `compile` makes of a source.
 use Rattle.std.specs.Prelude.{ℕ, ◌≡◌, ◌+◌, List, [], ◌∷◌, ◌++◌, sum_by, codes}
-use Rattle.grammar.specs.Bytes.{decimal}
+use Rattle.grammar.specs.Bytes.{decimal_value}
 use Rattle.rtl_ir.specs.declared.design.Design.{Design}
 use Rattle.rtl_ir.specs.Ports.{Shape}
 use Rattle.rtl_text.specs.Text.{TextOf}
@@ -15,8 +15,8 @@ abbrev pub kernel_shape : Source → Shape
 kernel_shape s = record {
   kernels = s.name ∷ [];
   scalars = [];
-  inputs = (s.input, decimal s.digits) ∷ [];
-  outputs = (s.output, decimal s.digits) ∷ [];
+  inputs = (s.input, decimal_value s.digits) ∷ [];
+  outputs = (s.output, decimal_value s.digits) ∷ [];
 }
 
 -- how many operators a source has

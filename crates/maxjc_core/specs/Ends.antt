@@ -3,6 +3,7 @@ use Rattle.std.specs.Prelude.{ℕ, ◌≡◌, ◌⊎◌, List, Option, IsSome}
 use Rattle.mx_base.specs.Counts.{Rose}
 use Rattle.mx_base.specs.Files.{Held, Holds}
 use Rattle.maxjc_core.specs.Command.{Names, said_more}
+use Rattle.maxjc_core.specs.Outside.{Outside}
 use Rattle.maxjc_core.specs.Causes.{Stands, IsReadable}
 use Rattle.maxjc_core.specs.Lines.{Cause, line_of}
 use Rattle.maxjc_core.specs.Compiling.{Compiles}
@@ -70,3 +71,17 @@ pub record IsRefused (names : Names) (held : Held) (said_before said_now : Optio
   pub cause : Cause
   pub stands : IsSome held → Stands names held cause
   pub said : said_now ≡ said_more said_before (line_of cause)
+
+-- The outside before and after any command, and the status that it answers.
+pub record EndsAll (before after : Outside) (status : Status) : Type 0 where
+  -- `WriteFault` comes only where one call of writing or saying failed, and no call was made after it
+  pub write_fault :
+      status ≡ WriteFault
+      → WriteFailed before.write_faults after.write_faults before.say_faults after.say_faults before.said after.said
+  pub write_fault_reads : status ≡ WriteFault → after.read_faults ≡ before.read_faults
+  pub read_fault_writes : status ≡ ReadFault → (after.write_faults ≡ before.write_faults) × (after.say_faults ≡ before.say_faults)
+  -- no count rises where no call failed, and nothing more is said after a fault or want of memory
+  pub quiet :
+      IsQuiet status
+      → (after.read_faults ≡ before.read_faults) × (after.write_faults ≡ before.write_faults) × (after.say_faults ≡ before.say_faults)
+  pub silent : IsSilent status → after.said ≡ before.said

@@ -1,4 +1,5 @@
 pub mod Command
+pub mod Outside
 pub mod Lines
 pub mod Causes
 pub mod Compiling
@@ -14,3 +15,5 @@ pub mod RunEnds
 pub mod LoadStops
 pub mod RunStops
 pub mod Writing
+pub mod CompileEnds
+pub mod SimulateEnds

@@ -7,9 +7,9 @@ use Rattle.rtl_reading.specs.Reads.{ReadsAs}
 use Rattle.verilog_read.specs.Refused.{IsReadAs}
 use Rattle.word_files.specs.RunFiles.{Reads, Fits, TicksFit, ScalarsFit, InputsFit, OutputsFit}
 use Rattle.word_files.specs.declared.run_file.RunFile.{RunFile}
-use Rattle.word_files.specs.declared.run_file.PortList.{PortList}
-use Rattle.word_files.specs.declared.error.RunError.TheVariants as run_errors
-use Rattle.top_ports.specs.Shapes.{IsPortList}
+use Rattle.rtl_ir.specs.declared.interface.Interface.{Interface}
+use Rattle.word_files.specs.declared.error.RunFileError.TheVariants as run_errors
+use Rattle.rtl_ir.specs.Interfaces.{shape_of}
 use Rattle.rtl_ir.specs.Ports.{Shape}
 use Rattle.simulation.specs.Plans.{IsPlanOf, FitsShape, AreApart}
 use Rattle.maxjc_core.specs.Command.{RunNames}
@@ -27,8 +27,8 @@ pub data IsRunFault (bytes : List ℕ) : Cause → Type 0 where
 
 -- a plan of a run file, for the ports of a shape
 pub record IsPlanned (run : RunFile) (s : Shape) (plan : Plan) : Type 0 where
-  pub ports : PortList
-  pub are : IsPortList ports s
+  pub ports : Interface
+  pub are : shape_of ports ≡ s
   pub ticks : TicksFit run ports
   pub scalars : ScalarsFit run ports
   pub inputs : InputsFit run ports
@@ -36,13 +36,13 @@ pub record IsPlanned (run : RunFile) (s : Shape) (plan : Plan) : Type 0 where
   pub planned : IsPlanOf run ports plan
 
 -- the cause of a run file that doesn't fit these ports
-pub data IsUnfitFor (run : RunFile) (ports : PortList) : Cause → Type 0 where
+pub data IsUnfitFor (run : RunFile) (ports : Interface) : Cause → Type 0 where
   at_key : (key : List ℕ) → Fits run ports (Err (run_errors.Shape key)) → IsUnfitFor run ports (RunShape key)
 
 -- or the ports of a shape
 pub record IsUnfit (run : RunFile) (s : Shape) (cause : Cause) : Type 0 where
-  pub ports : PortList
-  pub are : IsPortList ports s
+  pub ports : Interface
+  pub are : shape_of ports ≡ s
   pub unfit : IsUnfitFor run ports cause
 
 -- no other design is read from the text

@@ -1,11 +1,11 @@
 -- What `simulate` reads: a text and a run file that fits its design.
-use Rattle.std.specs.Prelude.{ℕ, List, Ok}
+use Rattle.std.specs.Prelude.{ℕ, ◌≡◌, List, Ok}
 use Rattle.mx_base.specs.Files.{Held}
 use Rattle.rtl_ir.specs.declared.design.Design.{Design}
 use Rattle.word_files.specs.declared.run_file.RunFile.{RunFile}
-use Rattle.word_files.specs.declared.run_file.PortList.{PortList}
+use Rattle.rtl_ir.specs.declared.interface.Interface.{Interface}
 use Rattle.word_files.specs.RunFiles.{Reads, TicksFit, ScalarsFit, InputsFit, OutputsFit}
-use Rattle.top_ports.specs.Shapes.{IsPortList}
+use Rattle.rtl_ir.specs.Interfaces.{shape_of}
 use Rattle.verilog_read.specs.Refused.{IsReadAs}
 use Rattle.simulation.specs.declared.plan.Plan.{Plan}
 use Rattle.simulation.specs.Plans.{IsPlanOf, setup_of}
@@ -24,8 +24,8 @@ pub record FitTogether (text run : List ℕ) : Type 0 where
   pub is : IsReadAs text design
   pub run_file : RunFile
   pub says : Reads run (Ok run_file)
-  pub ports : PortList
-  pub are : IsPortList ports is.shape
+  pub ports : Interface
+  pub are : shape_of ports ≡ is.shape
   pub ticks : TicksFit run_file ports
   pub scalars : ScalarsFit run_file ports
   pub inputs : InputsFit run_file ports

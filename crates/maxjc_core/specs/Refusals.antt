@@ -1,25 +1,48 @@
--- The cause that a refusal of the code names.
+-- The cause that a refusal of the code names. Want of memory and a call that failed are none.
+use Rattle.std.specs.Prelude.{Option, Some, None}
 use Rattle.maxj_syntax.specs.Source.{Fault}
-use Rattle.maxjc_core.specs.Lines.{Cause, TooLarge, SourceFault, NotBuilt, NoToken, Syntax, PortShape, TooManyCells, NotJson, RunShape, BadLine, WordRange}
-use Rattle.maxjc_core.specs.RunCauses.{rule_cause}
+use Rattle.maxj_syntax.specs.declared.source.SourceError.{SourceError}
+use Rattle.maxj_syntax.specs.declared.source.SourceError.TheVariants as source_errors
+use Rattle.word_files.specs.declared.error.RunFileError.{RunFileError}
+use Rattle.word_files.specs.declared.error.RunFileError.TheVariants as run_errors
+use Rattle.simulation.specs.declared.stop.Stop.{Stop}
+use Rattle.simulation.specs.declared.stop.Stop.TheVariants as stops
+use Rattle.maxjc_core.specs.Lines.{Cause, TooLarge, SourceFault, NotBuilt, TooManyCells, NotJson, RunShape, BadLine, WordRange}
+use Rattle.maxjc_core.specs.RunCauses.{text_cause}
 use Rattle.maxjc_core.specs.declared.refusal.Refusal.{Refusal}
 use Rattle.maxjc_core.specs.declared.refusal.Refusal.TheVariants as refusals
 
-abbrev pub cause_told : Refusal → Cause
-cause_told (refusals.TooLarge name) = TooLarge name.now
-cause_told (refusals.StrayByte place) = SourceFault (Fault.StrayByte place)
-cause_told (refusals.NoSourceToken place) = SourceFault (Fault.NoToken place)
-cause_told (refusals.Misplaced place) = SourceFault (Fault.Misplaced place)
-cause_told (refusals.OutOfProfile place) = SourceFault (Fault.Outside place)
-cause_told (refusals.TooDeep place) = SourceFault (Fault.Excess place)
-cause_told refusals.NoProject = SourceFault Fault.NoProject
-cause_told refusals.NotBuilt = NotBuilt
-cause_told (refusals.NoToken place) = NoToken place
-cause_told (refusals.Syntax place) = Syntax place
-cause_told (refusals.Rule e) = rule_cause e
-cause_told (refusals.PortShape name) = PortShape name
-cause_told (refusals.TooManyCells n) = TooManyCells n
-cause_told refusals.NotJson = NotJson
-cause_told (refusals.RunShape key) = RunShape key
-cause_told (refusals.BadLine file line) = BadLine file line
-cause_told (refusals.WordRange file line) = WordRange file line
+abbrev pub source_cause : SourceError → Option Cause
+source_cause (source_errors.StrayByte place) = Some (SourceFault (Fault.StrayByte place))
+source_cause (source_errors.NoToken place) = Some (SourceFault (Fault.NoToken place))
+source_cause (source_errors.Misplaced place) = Some (SourceFault (Fault.Misplaced place))
+source_cause (source_errors.Outside place) = Some (SourceFault (Fault.Outside place))
+source_cause (source_errors.Excess place) = Some (SourceFault (Fault.Excess place))
+source_cause source_errors.NoProject = Some (SourceFault Fault.NoProject)
+source_cause source_errors.NoMemory = None
+
+abbrev pub run_file_cause : RunFileError → Option Cause
+run_file_cause run_errors.NotJson = Some NotJson
+run_file_cause (run_errors.Shape key) = Some (RunShape key)
+run_file_cause run_errors.NoMemory = None
+
+abbrev pub stop_cause : Stop → Option Cause
+stop_cause (stops.TooManyCells n) = Some (TooManyCells n)
+stop_cause (stops.BadLine file line) = Some (BadLine file line)
+stop_cause (stops.WordRange file line) = Some (WordRange file line)
+stop_cause stops.ReadFault = None
+stop_cause stops.WriteFault = None
+stop_cause stops.NoMemory = None
+
+abbrev pub cause_told : Refusal → Option Cause
+cause_told (refusals.TooLarge name) = Some (TooLarge name.now)
+cause_told (refusals.Source error) = source_cause error
+cause_told refusals.NotBuilt = Some NotBuilt
+cause_told (refusals.Verilog error) = text_cause error
+cause_told (refusals.RunFile error) = run_file_cause error
+cause_told (refusals.Run stop) = stop_cause stop
+
+-- there is a cause, and this holds of it
+abbrev pub IfCause : Option Cause → (Cause → Type 0) → Type 0
+IfCause (Some cause) P = P cause
+IfCause None P = ⊥

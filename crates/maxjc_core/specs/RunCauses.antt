@@ -1,44 +1,44 @@
 -- Why `simulate` refuses its files, in the order in which this is looked for.
-use Rattle.std.specs.Prelude.{ℕ, ◌⊎◌, ◌<◌, ◌≤◌, ◌-◌, ◌^◌, min, List, [], ◌∷◌, Ok, Err}
+use Rattle.std.specs.Prelude.{ℕ, ◌≡◌, ◌⊎◌, ◌<◌, ◌≤◌, ◌-◌, ◌^◌, min, List, [], ◌∷◌, Option, Some, None, Ok, Err}
 use Rattle.mx_base.specs.Files.{Held, Lacks}
 use Rattle.rtl_ir.specs.declared.error.RtlError.{RtlError}
 use Rattle.rtl_ir.specs.declared.error.RtlError.TheVariants as rules
 use Rattle.rtl_ir.specs.Flat.{Families}
 use Rattle.stall_source.specs.Stalls.{Answers}
 use Rattle.word_files.specs.RunFiles.{Reads, Fits}
-use Rattle.word_files.specs.declared.error.RunError.TheVariants as run_errors
+use Rattle.word_files.specs.declared.error.RunFileError.TheVariants as run_errors
 use Rattle.verilog_sim.specs.Start.{all_cells}
 use Rattle.verilog_read.specs.Refused.{Refuses, IsReadAs}
-use Rattle.top_ports.specs.Shapes.{IsPortList}
+use Rattle.rtl_ir.specs.Interfaces.{shape_of}
 use Rattle.rtl_ir.specs.declared.design.Design.{Design}
 use Rattle.word_files.specs.declared.run_file.RunFile.{RunFile}
-use Rattle.word_files.specs.declared.run_file.PortList.{PortList}
+use Rattle.rtl_ir.specs.declared.interface.Interface.{Interface}
 use Rattle.verilog_read.specs.declared.error.VerilogError.{VerilogError}
 use Rattle.verilog_read.specs.declared.error.VerilogError.TheVariants as errors
 use Rattle.simulation.specs.Inputs as lines
 use Rattle.simulation.specs.Ends.{Ends, Stopped}
 use Rattle.simulation.specs.Answers.{IsMissing}
 use Rattle.maxjc_core.specs.Command.{RunNames}
-use Rattle.maxjc_core.specs.Lines.{Cause, TooLarge, NotBuilt, NoToken, Syntax, Rule, PortShape, TooManyCells, NotJson, RunShape, BadLine, WordRange}
+use Rattle.maxjc_core.specs.Lines.{Cause, TooLarge, NoToken, Syntax, Rule, PortShape, TooManyCells, NotJson, RunShape, BadLine, WordRange}
 use Rattle.maxjc_core.specs.Causes.{file_limit, IsWithin, IsPast}
 use Rattle.maxjc_core.specs.Loading.{text_limit, AreRead, IsLoaded, setup}
 
--- the number of a rule, and the names that break it
-abbrev pub rule_cause : RtlError → Cause
-rule_cause (rules.Unknown name) = Rule 1 (name ∷ [])
-rule_cause (rules.Width name) = Rule 2 (name ∷ [])
-rule_cause (rules.TwoDrivers name) = Rule 3 (name ∷ [])
-rule_cause (rules.CombLoop names) = Rule 4 names
-rule_cause (rules.NoDriver name) = Rule 5 (name ∷ [])
-rule_cause (rules.SameName name) = Rule 6 (name ∷ [])
-rule_cause rules.NoMemory = Rule 0 []
+-- the number of a rule, and the names that break it. Want of memory is no cause
+abbrev pub rule_cause : RtlError → Option Cause
+rule_cause (rules.Unknown name) = Some (Rule 1 (name ∷ []))
+rule_cause (rules.Width name) = Some (Rule 2 (name ∷ []))
+rule_cause (rules.TwoDrivers name) = Some (Rule 3 (name ∷ []))
+rule_cause (rules.CombLoop names) = Some (Rule 4 names)
+rule_cause (rules.NoDriver name) = Some (Rule 5 (name ∷ []))
+rule_cause (rules.SameName name) = Some (Rule 6 (name ∷ []))
+rule_cause rules.NoMemory = None
 
-abbrev pub text_cause : VerilogError → Cause
-text_cause (errors.NoToken place) = NoToken place
-text_cause (errors.Syntax place) = Syntax place
+abbrev pub text_cause : VerilogError → Option Cause
+text_cause (errors.NoToken place) = Some (NoToken place)
+text_cause (errors.Syntax place) = Some (Syntax place)
 text_cause (errors.Rtl e) = rule_cause e
-text_cause (errors.PortShape name) = PortShape name
-text_cause errors.NoMemory = NotBuilt
+text_cause (errors.PortShape name) = Some (PortShape name)
+text_cause errors.NoMemory = None
 
 -- the run file is read after a text within its limit
 pub record AfterText (names : RunNames) (held : Held) (P : Type 0) : Type 0 where
@@ -48,13 +48,13 @@ pub record AfterText (names : RunNames) (held : Held) (P : Type 0) : Type 0 wher
 
 -- the cause of bytes that don't fit together, in the order in which it is looked for
 pub data BreaksForm (text run : List ℕ) : Cause → Type 0 where
-  of_text : (e : VerilogError) → Refuses text e → BreaksForm text run (text_cause e)
+  of_text : (e : VerilogError) (cause : Cause) → Refuses text e → text_cause e ≡ Some cause → BreaksForm text run cause
   no_json : (d : Design) → IsReadAs text d → Reads run (Err run_errors.NotJson) → BreaksForm text run NotJson
   of_run : (d : Design) (key : List ℕ) → IsReadAs text d → Reads run (Err (run_errors.Shape key)) → BreaksForm text run (RunShape key)
   unfit :
-      (d : Design) (is : IsReadAs text d) (r : RunFile) (ports : PortList) (key : List ℕ)
+      (d : Design) (is : IsReadAs text d) (r : RunFile) (ports : Interface) (key : List ℕ)
       → Reads run (Ok r)
-      → IsPortList ports is.shape
+      → shape_of ports ≡ is.shape
       → Fits r ports (Err (run_errors.Shape key))
       → BreaksForm text run (RunShape key)
 

@@ -3,7 +3,6 @@ use Rattle.std.specs.Prelude.{ℕ, List, if◌then◌else◌}
 use Rattle.simulation.specs.declared.stop.Outcome.{Outcome}
 use Rattle.simulation.specs.declared.stop.Stop.{Stop}
 use Rattle.simulation.specs.declared.stop.Stop.TheVariants as stops
-use Rattle.maxjc_core.specs.Lines.{Cause, NotBuilt, TooManyCells, BadLine, WordRange}
 use Rattle.maxjc_core.specs.RunEnds.{done_line, limit_line}
 use Rattle.maxjc_core.specs.declared.status.Status.{Status}
 use Rattle.maxjc_core.specs.declared.status.Status.TheVariants.{Done, Refused, ReadFault, WriteFault, NoMemory, EdgeLimit}
@@ -21,12 +20,3 @@ stop_status (stops.WordRange file line) = Refused
 stop_status stops.ReadFault = ReadFault
 stop_status stops.WriteFault = WriteFault
 stop_status stops.NoMemory = NoMemory
-
--- the cause of a stop that is a refusal
-abbrev pub stop_cause : Stop → Cause
-stop_cause (stops.TooManyCells n) = TooManyCells n
-stop_cause (stops.BadLine file line) = BadLine file line
-stop_cause (stops.WordRange file line) = WordRange file line
-stop_cause stops.ReadFault = NotBuilt
-stop_cause stops.WriteFault = NotBuilt
-stop_cause stops.NoMemory = NotBuilt

@@ -4,15 +4,15 @@ use Rattle.mx_base.specs.Files.{Held}
 use Rattle.maxjc_core.specs.Command.{Names}
 use Rattle.maxjc_core.specs.Causes.{IsReadable, Stands}
 use Rattle.maxjc_core.specs.Lines.{Cause}
-use Rattle.maxjc_core.specs.Refusals.{cause_told}
+use Rattle.maxjc_core.specs.Refusals.{cause_told, IfCause}
 use Rattle.maxjc_core.specs.Compiling.{Compiles}
 use Rattle.maxjc_core.specs.declared.stop.Stop.{Stop}
 use Rattle.maxjc_core.specs.declared.stop.Stop.TheVariants as stops
 use Rattle.maxjc_core.specs.declared.compile.Compiled.{Compiled}
 
--- this holds of the cause of a refusal
+-- a refusal has a cause, and this holds of it
 abbrev pub IfRefused : Stop → (Cause → Type 0) → Type 0
-IfRefused (stops.Refused refusal) P = P (cause_told refusal)
+IfRefused (stops.Refused refusal) P = IfCause (cause_told refusal) P
 IfRefused stops.ReadFault P = Unit {0}
 IfRefused stops.NoMemory P = Unit {0}
 

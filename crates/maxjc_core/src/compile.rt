@@ -57,13 +57,8 @@ fn refused<'a>(error: SourceError) -> Stop<'a>
     ensures no_read { result ≡ Stop.ReadFault → ⊥ }
 {
     match error {
-        SourceError::StrayByte(place) => Stop::Refused(Refusal::StrayByte(place)),
-        SourceError::NoToken(place) => Stop::Refused(Refusal::NoSourceToken(place)),
-        SourceError::Misplaced(place) => Stop::Refused(Refusal::Misplaced(place)),
-        SourceError::Outside(place) => Stop::Refused(Refusal::OutOfProfile(place)),
-        SourceError::Excess(place) => Stop::Refused(Refusal::TooDeep(place)),
-        SourceError::NoProject => Stop::Refused(Refusal::NoProject),
         SourceError::NoMemory => Stop::NoMemory,
+        fault => Stop::Refused(Refusal::Source(fault)),
     }
 }
 
@@ -88,11 +83,14 @@ fn skip_table<'a, F: Files>(alloc: Global, files: &mut F, name: &'a Text) -> Res
     ensures same { F.held files.new ≡ F.held files.old }
     ensures quiet { (result ≡ Err Stop.ReadFault → ⊥) → F.read_faults files.new ≡ F.read_faults files.old }
     ensures write_quiet { F.write_faults files.new ≡ F.write_faults files.old }
-    ensures fault { result ≡ Err Stop.ReadFault → Rose (F.read_faults files.old) (F.read_faults files.new) ⊎ Lacks (F.held files.old) name.entry.now }
+    ensures fault { result ≡ Err Stop.ReadFault
+        → Rose (F.read_faults files.old) (F.read_faults files.new)
+        ⊎ Lacks (F.held files.old) name.entry.now }
     ensures lacking { Lacks (F.held files.old) name.entry.now → result ≡ Err Stop.ReadFault }
     ensures lacking_quiet { Lacks (F.held files.old) name.entry.now → F.read_faults files.new ≡ F.read_faults files.old }
     ensures refused { IfErr result (λ stop. IfRefused stop (λ cause. cause ≡ TooLarge name.entry.now)) }
-    ensures too_large { (file : List ℕ) → Holds (F.held files.old) name.entry.now file → IfErr result (λ stop. IfRefused stop (λ _. file_limit < length file)) }
+    ensures too_large { (file : List ℕ) → Holds (F.held files.old) name.entry.now file
+        → IfErr result (λ stop. IfRefused stop (λ _. file_limit < length file)) }
     ensures fits { (file : List ℕ) → Holds (F.held files.old) name.entry.now file → OnOk result (length file ≤ file_limit) }
 {
     match read_file(alloc, files, name, FILE_LIMIT) {
@@ -112,7 +110,9 @@ pub fn compile<'a, F: Files>(
     ensures write_quiet { F.write_faults files.new ≡ F.write_faults files.old }
 
     // A read fails only where its count rose or the file isn't held, and a file that isn't held is no fault.
-    ensures fault { result ≡ Err Stop.ReadFault → Rose (F.read_faults files.old) (F.read_faults files.new) ⊎ IsMissing (names_told names.entry) (F.held files.old) }
+    ensures fault { result ≡ Err Stop.ReadFault
+        → Rose (F.read_faults files.old) (F.read_faults files.new)
+        ⊎ IsMissing (names_told names.entry) (F.held files.old) }
     ensures missing { IsMissing (names_told names.entry) (F.held files.old) → (result ≡ Err Stop.ReadFault) ⊎ (result ≡ Err Stop.NoMemory) }
     ensures missing_quiet { Lacks (F.held files.old) names.entry.source.now → F.read_faults files.new ≡ F.read_faults files.old }
 

@@ -30,7 +30,9 @@ fn deliver<F: Files, S: Say>(
     ensures said { result ≡ Status.Done → S.said say.new ≡ said_more (S.said say.old) compiled.now.summary.items }
     ensures write_quiet { result ≡ Status.Done → F.write_faults files.new ≡ F.write_faults files.old }
     ensures say_quiet { result ≡ Status.Done → S.say_faults say.new ≡ S.say_faults say.old }
-    ensures fault { result ≡ Status.WriteFault → WriteFailed (F.write_faults files.old) (F.write_faults files.new) (S.say_faults say.old) (S.say_faults say.new) (S.said say.old) (S.said say.new) }
+    ensures fault { result ≡ Status.WriteFault → WriteFailed
+        (F.write_faults files.old) (F.write_faults files.new)
+        (S.say_faults say.old) (S.say_faults say.new) (S.said say.old) (S.said say.new) }
 {
     let Ok(()) = files.create(output) else {
         return Status::WriteFault;
@@ -64,16 +66,25 @@ pub fn run_compile<F: Files, S: Say>(
     ensures built { IsBuilt (names_told names.entry) (F.held files.old) → (result ≡ Status.Done) ⊎ IsCutOff result }
 
     // `ReadFault` comes only where the count of read faults rose or a file that is read isn't held, and always there.
-    ensures read_fault { result ≡ Status.ReadFault → Rose (F.read_faults files.old) (F.read_faults files.new) ⊎ IsMissing (names_told names.entry) (F.held files.old) }
+    ensures read_fault { result ≡ Status.ReadFault
+        → Rose (F.read_faults files.old) (F.read_faults files.new)
+        ⊎ IsMissing (names_told names.entry) (F.held files.old) }
     ensures missing { IsMissing (names_told names.entry) (F.held files.old) → (result ≡ Status.ReadFault) ⊎ (result ≡ Status.NoMemory) }
     ensures missing_quiet { Lacks (F.held files.old) names.entry.source.now → F.read_faults files.new ≡ F.read_faults files.old }
 
     // `WriteFault` comes only where one call of writing or saying failed, and no call was made after it.
-    ensures write_fault { result ≡ Status.WriteFault → WriteFailed (F.write_faults files.old) (F.write_faults files.new) (S.say_faults say.old) (S.say_faults say.new) (S.said say.old) (S.said say.new) }
+    ensures write_fault { result ≡ Status.WriteFault → WriteFailed
+        (F.write_faults files.old) (F.write_faults files.new)
+        (S.say_faults say.old) (S.say_faults say.new) (S.said say.old) (S.said say.new) }
     ensures write_fault_reads { result ≡ Status.WriteFault → F.read_faults files.new ≡ F.read_faults files.old }
-    ensures read_fault_writes { result ≡ Status.ReadFault → (F.write_faults files.new ≡ F.write_faults files.old) × (S.say_faults say.new ≡ S.say_faults say.old) }
+    ensures read_fault_writes { result ≡ Status.ReadFault →
+        (F.write_faults files.new ≡ F.write_faults files.old)
+        × (S.say_faults say.new ≡ S.say_faults say.old) }
 
-    ensures quiet { IsQuiet result → (F.read_faults files.new ≡ F.read_faults files.old) × (F.write_faults files.new ≡ F.write_faults files.old) × (S.say_faults say.new ≡ S.say_faults say.old) }
+    ensures quiet { IsQuiet result →
+        (F.read_faults files.new ≡ F.read_faults files.old)
+        × (F.write_faults files.new ≡ F.write_faults files.old)
+        × (S.say_faults say.new ≡ S.say_faults say.old) }
     ensures silent { IsSilent result → S.said say.new ≡ S.said say.old }
 
     // Only `Done` and `WriteFault` change a file, and that is the output: all memory is taken before it is created.

@@ -26,11 +26,14 @@ pub fn read_file<'a, F: Files>(
     ensures same { F.held files.new ≡ F.held files.old }
     ensures quiet { (result ≡ Err Stop.ReadFault → ⊥) → F.read_faults files.new ≡ F.read_faults files.old }
     ensures write_quiet { F.write_faults files.new ≡ F.write_faults files.old }
-    ensures fault { result ≡ Err Stop.ReadFault → Rose (F.read_faults files.old) (F.read_faults files.new) ⊎ Lacks (F.held files.old) name.entry.now }
+    ensures fault { result ≡ Err Stop.ReadFault
+        → Rose (F.read_faults files.old) (F.read_faults files.new)
+        ⊎ Lacks (F.held files.old) name.entry.now }
     ensures lacking { Lacks (F.held files.old) name.entry.now → result ≡ Err Stop.ReadFault }
     ensures lacking_quiet { Lacks (F.held files.old) name.entry.now → F.read_faults files.new ≡ F.read_faults files.old }
     ensures refused { IfErr result (λ stop. IfRefused stop (λ cause. cause ≡ TooLarge name.entry.now)) }
-    ensures too_large { (file : List ℕ) → Holds (F.held files.old) name.entry.now file → IfErr result (λ stop. IfRefused stop (λ _. limit < length file)) }
+    ensures too_large { (file : List ℕ) → Holds (F.held files.old) name.entry.now file
+        → IfErr result (λ stop. IfRefused stop (λ _. limit < length file)) }
     ensures whole { (file : List ℕ) → Holds (F.held files.old) name.entry.now file → IfOk result (λ bytes. bytes.items ≡ file) }
     ensures fits { IfOk result (λ bytes. length bytes.items ≤ limit) }
 {

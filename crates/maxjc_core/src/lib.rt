@@ -16,12 +16,3 @@ mod top;
 
 pub use status::Status;
 pub use top::maxjc;
-
-#[cfg(test)]
-mod design_tests;
-#[cfg(test)]
-mod simulate_tests;
-#[cfg(test)]
-mod storage_tests;
-#[cfg(test)]
-mod tests;

@@ -25,12 +25,12 @@ use crate::files::{FILE_LIMIT, TEXT_LIMIT, read_file};
 use crate::refusal::Refusal;
 use crate::stop::Stop;
 use mx_base::Files;
-use rtl_ir::{Design, Module};
+use rtl_ir::{Design, Interface, Module};
 use simulation::{Plan, plan_of};
 use std::alloc::Global;
-use top_ports::ports;
+use top_ports::interface;
 use verilog_read::{VerilogError, read};
-use word_files::{PortList, RunError, RunFile};
+use word_files::{RunFile, RunFileError};
 
 /// A design, and what its run is handed.
 #[derive(Drop)]
@@ -46,16 +46,15 @@ fn design_of<'a>(alloc: Global, text: &[u8]) -> Result<Design, Stop<'a>>
     ensures only { IfOk result (λ d. IsOnlyDesign text.now d) }
     ensures every { (d : Design) → IsReadAs text.now d → IfErr result (λ stop. IfRefused stop (λ _. ⊥)) }
     ensures exact { (e : VerilogError) → Refuses text.now e → IfOk result (λ _. ⊥) }
-    ensures refused { IfErr result (λ stop. IfRefused stop (λ cause. (e : VerilogError) × Refuses text.now e × (cause ≡ text_cause e))) }
+    ensures refused { IfErr result (λ stop. IfRefused stop (λ cause. (e : VerilogError) × Refuses text.now e × (text_cause e ≡ Some cause))) }
     ensures no_fault { result ≡ Err Stop.ReadFault → ⊥ }
 {
     match read(alloc, text) {
         Ok(design) => Ok(design),
-        Err(VerilogError::NoMemory) => Err(Stop::NoMemory),
-        Err(VerilogError::NoToken(place)) => Err(Stop::Refused(Refusal::NoToken(place))),
-        Err(VerilogError::Syntax(place)) => Err(Stop::Refused(Refusal::Syntax(place))),
-        Err(VerilogError::Rtl(error)) => Err(Stop::Refused(Refusal::Rule(error))),
-        Err(VerilogError::PortShape(name)) => Err(Stop::Refused(Refusal::PortShape(name))),
+        Err(error) => match error {
+            VerilogError::NoMemory => Err(Stop::NoMemory),
+            fault => Err(Stop::Refused(Refusal::Verilog(fault))),
+        },
     }
 }
 
@@ -67,9 +66,10 @@ fn run_of<'a>(alloc: Global, bytes: &[u8]) -> Result<RunFile, Stop<'a>>
 {
     match RunFile::read(alloc, bytes) {
         Ok(run) => Ok(run),
-        Err(RunError::NotJson) => Err(Stop::Refused(Refusal::NotJson)),
-        Err(RunError::Shape(key)) => Err(Stop::Refused(Refusal::RunShape(key))),
-        Err(_) => Err(Stop::NoMemory),
+        Err(error) => match error {
+            RunFileError::NoMemory => Err(Stop::NoMemory),
+            fault => Err(Stop::Refused(Refusal::RunFile(fault))),
+        },
     }
 }
 
@@ -82,15 +82,17 @@ fn top(design: &Design) -> &Module
 }
 
 // Tests a run file beside the ports of a design.
-fn fit_for<'a>(alloc: Global, run: &RunFile, ports: &PortList) -> Result<(), Stop<'a>>
+fn fit_for<'a>(alloc: Global, run: &RunFile, ports: &Interface) -> Result<(), Stop<'a>>
     ensures fits { OnOk result (Fits run.now ports.now (Ok tt)) }
     ensures unfit { IfErr result (λ stop. IfRefused stop (IsUnfitFor run.now ports.now)) }
     ensures no_fault { result ≡ Err Stop.ReadFault → ⊥ }
 {
     match run.fit(alloc, ports) {
         Ok(()) => Ok(()),
-        Err(RunError::Shape(key)) => Err(Stop::Refused(Refusal::RunShape(key))),
-        Err(_) => Err(Stop::NoMemory),
+        Err(error) => match error {
+            RunFileError::NoMemory => Err(Stop::NoMemory),
+            fault => Err(Stop::Refused(Refusal::RunFile(fault))),
+        },
     }
 }
 
@@ -100,10 +102,11 @@ fn plan_for<'a>(alloc: Global, module: &Module, run: &RunFile) -> Result<Plan, S
     ensures planned { (s : Shape) → IsTop «module».now s → IfOk result (λ plan. IsPlanned run.now s plan) }
     ensures unfit { (s : Shape) → IsTop «module».now s → IfErr result (λ stop. IfRefused stop (IsUnfit run.now s)) }
     ensures fits { (s : Shape) → IsTop «module».now s → (d : Data) → IsRunFile d run.now → IfOk result (λ plan. FitsShape plan s) }
-    ensures apart { (s : Shape) → IsTop «module».now s → (d : Data) → IsRunFile d run.now → AllDiffer (map (λ (y : Name × ℕ). y.0) s.outputs) → IfOk result (λ plan. AreApart plan) }
+    ensures apart { (s : Shape) → IsTop «module».now s → (d : Data) → IsRunFile d run.now
+        → AllDiffer (map (λ (y : Name × ℕ). y.0) s.outputs) → IfOk result (λ plan. AreApart plan) }
     ensures no_fault { result ≡ Err Stop.ReadFault → ⊥ }
 {
-    let ports = ports(alloc, module)?;
+    let ports = interface(alloc, module)?;
     match fit_for(alloc, run, &ports) {
         Ok(()) => Ok(plan_of(alloc, run, &ports)?),
         Err(stop) => Err(stop),
@@ -144,9 +147,12 @@ pub fn load<'a, F: Files>(
     ensures quiet { (result ≡ Err Stop.ReadFault → ⊥) → F.read_faults files.new ≡ F.read_faults files.old }
     ensures write_quiet { F.write_faults files.new ≡ F.write_faults files.old }
 
-    // A read fails only where its count rose or the file isn't held.
-    ensures fault { result ≡ Err Stop.ReadFault → Rose (F.read_faults files.old) (F.read_faults files.new) ⊎ LacksFile (run_told names.entry) (F.held files.old) }
+    // A read fails only where its count rose or the file isn't held, and a text that isn't held is no fault.
+    ensures fault { result ≡ Err Stop.ReadFault
+        → Rose (F.read_faults files.old) (F.read_faults files.new)
+        ⊎ LacksFile (run_told names.entry) (F.held files.old) }
     ensures missing { LacksFile (run_told names.entry) (F.held files.old) → (result ≡ Err Stop.ReadFault) ⊎ (result ≡ Err Stop.NoMemory) }
+    ensures missing_quiet { Lacks (F.held files.old) names.entry.text.now → F.read_faults files.new ≡ F.read_faults files.old }
 
     ensures answers { LoadAnswers (run_told names.entry) (F.held files.old) result }
     ensures can_run { IfOk result (λ l. CanRun l.design l.plan) }

@@ -3,14 +3,18 @@ ghost use Rattle.std.specs.Prelude.{◌≡◌, ◌++◌, ◌∷◌, [], IfOk, On
 ghost use Rattle.std.specs.List.{flat_map};
 ghost use Rattle.std.specs.Fmt.{decimal};
 ghost use Rattle.maxjc_core.specs.Lines.{line_of, after_blank};
-ghost use Rattle.maxjc_core.specs.RunCauses.{rule_cause};
-ghost use Rattle.maxjc_core.specs.Refusals.{cause_told};
+ghost use Rattle.maxjc_core.specs.RunCauses.{rule_cause, text_cause};
+ghost use Rattle.maxjc_core.specs.Refusals.{source_cause, run_file_cause, stop_cause, cause_told, IfCause};
 
 use crate::refusal::Refusal;
 use itoa::Buffer;
+use maxj_syntax::SourceError;
 use mx_base::{List, NoMemory, Text};
 use rtl_ir::RtlError;
+use simulation::Stop;
 use std::alloc::Global;
+use verilog_read::VerilogError;
+use word_files::RunFileError;
 
 /// A line with a number in it, between these parts.
 pub fn number_line(
@@ -82,7 +86,7 @@ fn names_line(alloc: Global, begin: &[u8], names: &List<Text>) -> Result<Vec<u8>
 
 // The line of a rule that is broken: its number and the names.
 fn rule_line(alloc: Global, error: &RtlError) -> Result<Vec<u8>, NoMemory>
-    ensures { IfOk result (λ line. line.items ≡ line_of (rule_cause error.now)) }
+    ensures { IfOk result (λ line. IfCause (rule_cause error.now) (λ cause. line.items ≡ line_of cause)) }
 {
     match error {
         RtlError::Unknown(name) => name_line(alloc, b"refused V3 1 ", name),
@@ -95,27 +99,68 @@ fn rule_line(alloc: Global, error: &RtlError) -> Result<Vec<u8>, NoMemory>
     }
 }
 
-/// The line that is said of a refusal: `refused`, the code and its values, and a line end.
+// The line of a fault of a source.
+fn source_line(alloc: Global, error: &SourceError) -> Result<Vec<u8>, NoMemory>
+    ensures { IfOk result (λ line. IfCause (source_cause error.now) (λ cause. line.items ≡ line_of cause)) }
+{
+    match error {
+        SourceError::StrayByte(place) => number_line(alloc, b"refused S1 ", *place as u64, b"\n"),
+        SourceError::NoToken(place) => number_line(alloc, b"refused S2 ", *place as u64, b"\n"),
+        SourceError::Misplaced(place) => number_line(alloc, b"refused S3 ", *place as u64, b"\n"),
+        SourceError::Outside(place) => number_line(alloc, b"refused S4 ", *place as u64, b"\n"),
+        SourceError::Excess(place) => number_line(alloc, b"refused S5 ", *place as u64, b"\n"),
+        SourceError::NoProject => Ok(b"refused S6\n".to_vec(alloc)?),
+        SourceError::NoMemory => Err(NoMemory),
+    }
+}
+
+// The line of a text that isn't read.
+fn text_line(alloc: Global, error: &VerilogError) -> Result<Vec<u8>, NoMemory>
+    ensures { IfOk result (λ line. IfCause (text_cause error.now) (λ cause. line.items ≡ line_of cause)) }
+{
+    match error {
+        VerilogError::NoToken(place) => number_line(alloc, b"refused V1 ", *place as u64, b"\n"),
+        VerilogError::Syntax(place) => number_line(alloc, b"refused V2 ", *place as u64, b"\n"),
+        VerilogError::Rtl(error) => rule_line(alloc, error),
+        VerilogError::PortShape(name) => name_line(alloc, b"refused V4 ", name),
+        VerilogError::NoMemory => Err(NoMemory),
+    }
+}
+
+// The line of a run file that isn't read or doesn't fit.
+fn run_file_line(alloc: Global, error: &RunFileError) -> Result<Vec<u8>, NoMemory>
+    ensures { IfOk result (λ line. IfCause (run_file_cause error.now) (λ cause. line.items ≡ line_of cause)) }
+{
+    match error {
+        RunFileError::NotJson => Ok(b"refused U1\n".to_vec(alloc)?),
+        RunFileError::Shape(key) => name_line(alloc, b"refused U2 ", key),
+        RunFileError::NoMemory => Err(NoMemory),
+    }
+}
+
+// The line of a run that stopped.
+fn stop_line(alloc: Global, stop: &Stop) -> Result<Vec<u8>, NoMemory>
+    ensures { IfOk result (λ line. IfCause (stop_cause stop.now) (λ cause. line.items ≡ line_of cause)) }
+{
+    match stop {
+        Stop::TooManyCells(cells) => number_line(alloc, b"refused V5 ", *cells, b"\n"),
+        Stop::BadLine(file, line) => place_line(alloc, b"refused U3 ", file, *line),
+        Stop::WordRange(file, line) => place_line(alloc, b"refused U4 ", file, *line),
+        Stop::ReadFault | Stop::WriteFault | Stop::NoMemory => Err(NoMemory),
+    }
+}
+
+/// The line that is said of a refusal: `refused`, the code and its values, and a line end. There is
+/// none of an error that is no refusal.
 pub fn refusal_line(alloc: Global, refusal: &Refusal<'_>) -> Result<Vec<u8>, NoMemory>
-    ensures { IfOk result (λ line. line.items ≡ line_of (cause_told refusal.now)) }
+    ensures { IfOk result (λ line. IfCause (cause_told refusal.now) (λ cause. line.items ≡ line_of cause)) }
 {
     match refusal {
         Refusal::TooLarge(name) => name_line(alloc, b"refused F1 ", name),
-        Refusal::StrayByte(place) => number_line(alloc, b"refused S1 ", *place as u64, b"\n"),
-        Refusal::NoSourceToken(place) => number_line(alloc, b"refused S2 ", *place as u64, b"\n"),
-        Refusal::Misplaced(place) => number_line(alloc, b"refused S3 ", *place as u64, b"\n"),
-        Refusal::OutOfProfile(place) => number_line(alloc, b"refused S4 ", *place as u64, b"\n"),
-        Refusal::TooDeep(place) => number_line(alloc, b"refused S5 ", *place as u64, b"\n"),
-        Refusal::NoProject => Ok(b"refused S6\n".to_vec(alloc)?),
+        Refusal::Source(error) => source_line(alloc, error),
         Refusal::NotBuilt => Ok(b"refused N0\n".to_vec(alloc)?),
-        Refusal::NoToken(place) => number_line(alloc, b"refused V1 ", *place as u64, b"\n"),
-        Refusal::Syntax(place) => number_line(alloc, b"refused V2 ", *place as u64, b"\n"),
-        Refusal::Rule(error) => rule_line(alloc, error),
-        Refusal::PortShape(name) => name_line(alloc, b"refused V4 ", name),
-        Refusal::TooManyCells(cells) => number_line(alloc, b"refused V5 ", *cells, b"\n"),
-        Refusal::NotJson => Ok(b"refused U1\n".to_vec(alloc)?),
-        Refusal::RunShape(key) => name_line(alloc, b"refused U2 ", key),
-        Refusal::BadLine(file, line) => place_line(alloc, b"refused U3 ", file, *line),
-        Refusal::WordRange(file, line) => place_line(alloc, b"refused U4 ", file, *line),
+        Refusal::Verilog(error) => text_line(alloc, error),
+        Refusal::RunFile(error) => run_file_line(alloc, error),
+        Refusal::Run(stop) => stop_line(alloc, stop),
     }
 }

@@ -3,7 +3,7 @@ ghost use Rattle.std.specs.Prelude.{◌≡◌, ◌⊎◌};
 ghost use Rattle.mx_base.specs.Counts.{Rose};
 ghost use Rattle.maxjc_core.specs.Command.{usage_line, said_more};
 ghost use Rattle.maxjc_core.specs.Lines.{line_of};
-ghost use Rattle.maxjc_core.specs.Refusals.{cause_told};
+ghost use Rattle.maxjc_core.specs.Refusals.{cause_told, IfCause};
 
 use crate::Status;
 use crate::refusal::Refusal;
@@ -30,7 +30,7 @@ pub fn say_usage<S: Say>(say: &mut S) -> Status
 /// Says why the files of a command are refused.
 pub fn refuse<S: Say>(alloc: Global, say: &mut S, refusal: &Refusal<'_>) -> Status
     ensures ends { (result ≡ Status.Refused) ⊎ ((result ≡ Status.WriteFault) ⊎ (result ≡ Status.NoMemory)) }
-    ensures said { result ≡ Status.Refused → S.said say.new ≡ said_more (S.said say.old) (line_of (cause_told refusal.now)) }
+    ensures said { result ≡ Status.Refused → IfCause (cause_told refusal.now) (λ cause. S.said say.new ≡ said_more (S.said say.old) (line_of cause)) }
     ensures quiet { result ≡ Status.Refused → S.say_faults say.new ≡ S.say_faults say.old }
     ensures silent { result ≡ Status.NoMemory → (S.said say.new ≡ S.said say.old) × (S.say_faults say.new ≡ S.say_faults say.old) }
     ensures fault { result ≡ Status.WriteFault → Rose (S.say_faults say.old) (S.say_faults say.new) }

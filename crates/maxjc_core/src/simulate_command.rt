@@ -1,6 +1,7 @@
 // The command `simulate`.
 ghost use Rattle.std.specs.Prelude.{◌≡◌, ◌⊎◌, ℕ, List, Some, IsSome};
 ghost use Rattle.mx_base.specs.Counts.{Rose};
+ghost use Rattle.mx_base.specs.Files.{Lacks};
 ghost use Rattle.rtl_ir.specs.Flat.{Families};
 ghost use Rattle.stall_source.specs.Stalls.{IsDecided, IsFreeAtZero};
 ghost use Rattle.simulation.specs.Ends as ends;
@@ -9,8 +10,9 @@ ghost use Rattle.maxjc_core.specs.Command.{said_more};
 ghost use Rattle.maxjc_core.specs.Lines.{Cause, line_of};
 ghost use Rattle.maxjc_core.specs.Loading.{IsLoaded, setup};
 ghost use Rattle.maxjc_core.specs.RunCauses.{IsSmall, StandsIn, LacksFile, LacksInput};
-ghost use Rattle.maxjc_core.specs.RunEnds.{IsRunDone, IsRunLimited, IsRunRefused, AreFirstWords, ChangesOutputs};
-ghost use Rattle.maxjc_core.specs.RunStops.{end_status, end_line, stop_status, stop_cause};
+ghost use Rattle.maxjc_core.specs.RunEnds.{IsRunDone, IsRunLimited, IsRunRefused, ReadFails, ChangesOutputs};
+ghost use Rattle.maxjc_core.specs.Refusals.{stop_cause, IfCause};
+ghost use Rattle.maxjc_core.specs.RunStops.{end_status, end_line, stop_status};
 ghost use Rattle.simulation.specs.declared.stop.Stop.TheVariants as stops;
 ghost use Rattle.maxjc_core.specs.Named.{run_told};
 ghost use Rattle.maxjc_core.specs.Writing.{WritesAllWords};
@@ -57,18 +59,18 @@ fn report<S: Say>(alloc: Global, say: &mut S, outcome: Outcome) -> Status
 // Ends a run that was stopped.
 fn stopped<S: Say>(alloc: Global, say: &mut S, stop: RunStop) -> Status
     ensures ends { (result ≡ stop_status stop) ⊎ ((stop_status stop ≡ Status.Refused) × ((result ≡ Status.WriteFault) ⊎ (result ≡ Status.NoMemory))) }
-    ensures said { result ≡ Status.Refused → S.said say.new ≡ said_more (S.said say.old) (line_of (stop_cause stop)) }
+    ensures said { result ≡ Status.Refused → IfCause (stop_cause stop) (λ cause. S.said say.new ≡ said_more (S.said say.old) (line_of cause)) }
     ensures quiet { (result ≡ Status.WriteFault → ⊥) → S.say_faults say.new ≡ S.say_faults say.old }
     ensures silent { (result ≡ Status.ReadFault) ⊎ (result ≡ Status.NoMemory) → S.said say.new ≡ S.said say.old }
-    ensures fault { result ≡ Status.WriteFault → (stop ≡ stops.WriteFault × (S.said say.new ≡ S.said say.old) × (S.say_faults say.new ≡ S.say_faults say.old)) ⊎ ((stop_status stop ≡ Status.Refused) × Rose (S.say_faults say.old) (S.say_faults say.new)) }
+    ensures fault { result ≡ Status.WriteFault →
+        (stop ≡ stops.WriteFault × (S.said say.new ≡ S.said say.old) × (S.say_faults say.new ≡ S.say_faults say.old))
+        ⊎ ((stop_status stop ≡ Status.Refused) × Rose (S.say_faults say.old) (S.say_faults say.new)) }
 {
     match stop {
-        RunStop::TooManyCells(cells) => refuse(alloc, say, &Refusal::TooManyCells(cells)),
-        RunStop::BadLine(file, line) => refuse(alloc, say, &Refusal::BadLine(file, line)),
-        RunStop::WordRange(file, line) => refuse(alloc, say, &Refusal::WordRange(file, line)),
         RunStop::ReadFault => Status::ReadFault,
         RunStop::WriteFault => Status::WriteFault,
         RunStop::NoMemory => Status::NoMemory,
+        fault => refuse(alloc, say, &Refusal::Run(fault)),
     }
 }
 
@@ -88,36 +90,60 @@ pub fn run_simulate<F: Files, S: Say, G: Fn(u64, u64, u32) -> bool>(
 
     // `Done` and `EdgeLimit`: the run, the files that it wrote, and what was said. Where the run ends so, there is no other status.
     ensures done { result ≡ Status.Done → IsSome (F.held files.old)
-        → IsRunDone (G.post stalls.now.test) (run_told names.entry) (F.held files.old) (F.held files.new) (S.said say.old) (S.said say.new) }
+        → IsRunDone (G.post stalls.now.test) (run_told names.entry)
+        (F.held files.old) (F.held files.new) (S.said say.old) (S.said say.new) }
     ensures limited { result ≡ Status.EdgeLimit → IsSome (F.held files.old)
-        → IsRunLimited (G.post stalls.now.test) (run_told names.entry) (F.held files.old) (F.held files.new) (S.said say.old) (S.said say.new) }
-    ensures ends_done { (l : IsLoaded (run_told names.entry) (F.held files.old)) → IsSmall l → (restart : Families) (vs : List Families) (edges : ℕ)
+        → IsRunLimited (G.post stalls.now.test) (run_told names.entry)
+        (F.held files.old) (F.held files.new) (S.said say.old) (S.said say.new) }
+    ensures ends_done { (l : IsLoaded (run_told names.entry) (F.held files.old)) → IsSmall l
+        → (restart : Families) (vs : List Families) (edges : ℕ)
         → Ends (G.post stalls.now.test) (setup l) restart vs (ends.Done edges) → (result ≡ Status.Done) ⊎ IsCutOff result }
-    ensures ends_limited { (l : IsLoaded (run_told names.entry) (F.held files.old)) → IsSmall l → (restart : Families) (vs : List Families) (edges : ℕ)
+    ensures ends_limited { (l : IsLoaded (run_told names.entry) (F.held files.old)) → IsSmall l
+        → (restart : Families) (vs : List Families) (edges : ℕ)
         → Ends (G.post stalls.now.test) (setup l) restart vs (ends.Limit edges) → (result ≡ Status.EdgeLimit) ⊎ IsCutOff result }
 
     // Of a text that `compile` wrote the output holds words that agree with what the kernel says of those that were taken.
-    ensures words_done { result ≡ Status.Done → IsSome (F.held files.old) → WritesAllWords (run_told names.entry) (F.held files.old) (F.held files.new) }
-    ensures words_limited { result ≡ Status.EdgeLimit → IsSome (F.held files.old) → WritesAllWords (run_told names.entry) (F.held files.old) (F.held files.new) }
+    ensures words_done { result ≡ Status.Done → IsSome (F.held files.old)
+        → WritesAllWords (run_told names.entry) (F.held files.old) (F.held files.new) }
+    ensures words_limited { result ≡ Status.EdgeLimit → IsSome (F.held files.old)
+        → WritesAllWords (run_told names.entry) (F.held files.old) (F.held files.new) }
 
-    // `Refused` comes exactly where a cause stands, unless a call fails or memory is short.
-    ensures refused { result ≡ Status.Refused → IsRunRefused (G.post stalls.now.test) (run_told names.entry) (F.held files.old) (S.said say.old) (S.said say.new) }
-    ensures stands { (cause : Cause) → StandsIn (G.post stalls.now.test) (run_told names.entry) (F.held files.old) cause → (result ≡ Status.Refused) ⊎ IsCutOff result }
+    // `Refused` comes exactly where a cause stands, unless a call fails or memory is short. Before a run begins no file has
+    // changed; in a run the outputs hold the first of the words that left.
+    ensures refused { result ≡ Status.Refused
+        → IsRunRefused (G.post stalls.now.test) (run_told names.entry)
+        (F.held files.old) (F.held files.new) (S.said say.old) (S.said say.new) }
+    ensures stands { (cause : Cause)
+        → StandsIn (G.post stalls.now.test) (run_told names.entry) (F.held files.old) cause
+        → (result ≡ Status.Refused) ⊎ IsCutOff result }
 
-    // `ReadFault` comes only where the count of read faults rose or a file that is to be read isn't held; and always where the
-    // text or the run file isn't.
-    ensures read_fault { result ≡ Status.ReadFault → Rose (F.read_faults files.old) (F.read_faults files.new) ⊎ LacksInput (G.post stalls.now.test) (run_told names.entry) (F.held files.old) }
-    ensures missing { LacksInput (G.post stalls.now.test) (run_told names.entry) (F.held files.old) → IsCutOff result }
+    // `ReadFault` comes only where the count of read faults rose or a file that is to be read isn't held; and what it leaves.
+    ensures read_fault { result ≡ Status.ReadFault
+        → Rose (F.read_faults files.old) (F.read_faults files.new)
+        ⊎ LacksInput (G.post stalls.now.test) (run_told names.entry) (F.held files.old) }
+    ensures cut_off { result ≡ Status.ReadFault → IsSome (F.held files.old)
+        → ReadFails (G.post stalls.now.test) (run_told names.entry)
+        (F.held files.old) (F.held files.new) (F.read_faults files.old) (F.read_faults files.new) }
 
-    ensures write_fault { result ≡ Status.WriteFault → WriteFailed (F.write_faults files.old) (F.write_faults files.new) (S.say_faults say.old) (S.say_faults say.new) (S.said say.old) (S.said say.new) }
+    // It always comes where the text or the run file isn't held, unless memory is short.
+    ensures missing { LacksFile (run_told names.entry) (F.held files.old) → (result ≡ Status.ReadFault) ⊎ (result ≡ Status.NoMemory) }
+    ensures missing_quiet { Lacks (F.held files.old) names.entry.text.now → F.read_faults files.new ≡ F.read_faults files.old }
+    ensures missing_input { LacksInput (G.post stalls.now.test) (run_told names.entry) (F.held files.old) → IsCutOff result }
+
+    ensures write_fault { result ≡ Status.WriteFault → WriteFailed
+        (F.write_faults files.old) (F.write_faults files.new)
+        (S.say_faults say.old) (S.say_faults say.new) (S.said say.old) (S.said say.new) }
     ensures write_fault_reads { result ≡ Status.WriteFault → F.read_faults files.new ≡ F.read_faults files.old }
-    ensures read_fault_writes { result ≡ Status.ReadFault → (F.write_faults files.new ≡ F.write_faults files.old) × (S.say_faults say.new ≡ S.say_faults say.old) }
-    ensures quiet { IsQuiet result → (F.read_faults files.new ≡ F.read_faults files.old) × (F.write_faults files.new ≡ F.write_faults files.old) × (S.say_faults say.new ≡ S.say_faults say.old) }
+    ensures read_fault_writes { result ≡ Status.ReadFault →
+        (F.write_faults files.new ≡ F.write_faults files.old)
+        × (S.say_faults say.new ≡ S.say_faults say.old) }
+    ensures quiet { IsQuiet result →
+        (F.read_faults files.new ≡ F.read_faults files.old)
+        × (F.write_faults files.new ≡ F.write_faults files.old)
+        × (S.say_faults say.new ≡ S.say_faults say.old) }
     ensures silent { IsSilent result → S.said say.new ≡ S.said say.old }
 
-    // The files: the outputs alone change, and after a refusal and a read fault they hold the first of the words that left.
-    ensures begun { (result ≡ Status.Refused) ⊎ (result ≡ Status.ReadFault) → IsSome (F.held files.old)
-        → AreFirstWords (G.post stalls.now.test) (run_told names.entry) (F.held files.old) (F.held files.new) }
+    // No file changes but where a run begins, and there its outputs alone.
     ensures others { IsSome (F.held files.old) → ChangesOutputs (run_told names.entry) (F.held files.old) (F.held files.new) }
 {
     match load(alloc, files, names) {

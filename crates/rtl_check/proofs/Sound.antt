@@ -136,6 +136,7 @@ in_range d m tables part earlier =
       targets = λ j a at. (f.assigns j a at).target;
       reads = λ j n a at r. (f.assigns j a at).expr.nets n r;
       ports = λ j p at. (f.ports j p at).net;
+      apart = f.apart;
       earlier = earlier;
       nets = λ k j n i at is. (f.instances k i at).nets j n is;
       paths = λ k n i paths x at table is.

@@ -1,5 +1,5 @@
 -- The graph of what feeds each net of a module, and the ways from its inputs to its outputs.
-use Rattle.std.specs.Prelude.{◌≡◌, ◌⊎◌, ℕ, ◌^◌, ◌<◌, min, true, false, List, length, Some, slice_get}
+use Rattle.std.specs.Prelude.{◌≡◌, ◌⊎◌, ℕ, ◌^◌, ◌<◌, min, true, false, List, length, Option, Some, slice_get}
 use Rattle.rtl_ir.specs.declared.design.Design.{Design}
 use Rattle.rtl_ir.specs.declared.design.Module.{Module}
 use Rattle.rtl_ir.specs.declared.design.Assign.{Assign}
@@ -64,11 +64,25 @@ pub record ArePaths (Leads : ℕ → ℕ → Type 0) (m : Module) (Seen : ℕ �
   pub sound : (n : ℕ) (x : PortPath) → slice_get paths n ≡ Some x → IsPath Leads m x
   pub whole : (x : PortPath) → Seen x.input x.output → IsPath Leads m x → (n : ℕ) × (slice_get paths n ≡ Some x)
 
+-- no two ports of a module are one net
+abbrev pub ArePortsApart : Module → Type 0
+ArePortsApart m = (j k : ℕ) (p q : Port) → slice_get m.ports j ≡ Some p → slice_get m.ports k ≡ Some q → p.net ≡ q.net → j ≡ k
+
+-- an input has its place
+abbrev pub IsInput : Module → ℕ → ℕ → Type 0
+IsInput m n i = (p : Port) × (slice_get m.ports i ≡ Some p) × (p.output ≡ false) × (p.net ≡ n)
+
+-- for each net the place of the input that it is, among the first ports
+pub record ArePlaces (m : Module) (ports : ℕ) (places : List (Option ℕ)) : Type 0 where
+  pub sound : (n i : ℕ) → slice_get places n ≡ Some (Some i) → IsInput m n i
+  pub whole : (n i : ℕ) → i < ports → IsInput m n i → slice_get places n ≡ Some (Some i)
+
 -- the nets, the modules and the ports that a module and the paths of its instances' modules name are there
 pub record IsInRange (m : Module) (tables : List (List PortPath)) : Type 0 where
   pub targets : (j : ℕ) (a : Assign) → slice_get m.assigns j ≡ Some a → a.target < length m.nets
   pub reads : (j n : ℕ) (a : Assign) → slice_get m.assigns j ≡ Some a → IsRead a.expr n → n < length m.nets
   pub ports : (j : ℕ) (p : Port) → slice_get m.ports j ≡ Some p → p.net < length m.nets
+  pub apart : ArePortsApart m
   pub earlier : (k : ℕ) (i : Instance) → slice_get m.instances k ≡ Some i → i.module < length tables
   pub nets : (k j n : ℕ) (i : Instance) → slice_get m.instances k ≡ Some i → slice_get i.nets j ≡ Some n → n < length m.nets
   pub paths :

@@ -49,16 +49,6 @@ pub struct Drivers {
     pub mems: Vec<Fed>,
 }
 
-/// Whether a net is a register. A number of no net is none.
-pub fn is_register(module: &Module, net: u32) -> bool
-    ensures { result ≡ is_reg module.now net }
-{
-    match module.nets.get(net as usize) {
-        Some(net) => net.reg,
-        None => false,
-    }
-}
-
 /// The marks of the nets of a module with no source seen.
 fn inputs(alloc: Global, module: &Module) -> Result<Vec<Fed>, NoMemory>
     requires { (j : ℕ) (p : Port) → slice_get module.now.ports j ≡ Some p → p.net < length module.now.nets }
@@ -71,7 +61,7 @@ fn inputs(alloc: Global, module: &Module) -> Result<Vec<Fed>, NoMemory>
         if port.output {
             continue;
         }
-        marks[port.net as usize] = Fed::Input;
+        marks[port.net.index()] = Fed::Input;
     }
     Ok(marks)
 }
@@ -83,9 +73,9 @@ fn feed_assigns(module: &Module, marks: &mut [Fed])
         → AreFed d module.now (IsSeen (length module.now.assigns) 0 0 0) marks.new }
 {
     for assign in module.assigns.as_slice() {
-        let may = !is_register(module, assign.target);
-        let place = assign.target as usize;
-        marks[place] = marks[place].after(may);
+        let may = !module.is_register(assign.target);
+        let number = assign.target.index();
+        marks[number] = marks[number].after(may);
     }
 }
 
@@ -103,8 +93,9 @@ fn feed_ports(inner: &Module, instance: &Instance, module: &Module, marks: &mut 
             continue;
         }
         let net = *instance.nets.at(place);
-        let may = !is_register(module, net);
-        marks[net as usize] = marks[net as usize].after(may);
+        let may = !module.is_register(net);
+        let number = net.index();
+        marks[number] = marks[number].after(may);
     }
 }
 
@@ -117,7 +108,7 @@ fn feed_instances(design: &Design, module: &Module, marks: &mut [Fed])
 {
     for place in 0..module.instances.len() {
         let instance = module.instances.at(place);
-        let inner = design.modules.at(instance.module as usize);
+        let inner = design.modules.at(instance.module.index());
         feed_ports(inner, instance, module, marks);
     }
 }
@@ -138,11 +129,13 @@ fn feed_updates(module: &Module, nets: &mut [Fed], mems: &mut [Fed])
     for place in 0..module.updates.len() {
         match module.updates.at(place).target {
             Target::Reg(net) => {
-                let may = is_register(module, net);
-                nets[net as usize] = nets[net as usize].after(may);
+                let may = module.is_register(net);
+                let number = net.index();
+                nets[number] = nets[number].after(may);
             }
             Target::Cell(mem, _) => {
-                mems[mem as usize] = mems[mem as usize].after(true);
+                let number = mem.index();
+                mems[number] = mems[number].after(true);
             }
         }
     }

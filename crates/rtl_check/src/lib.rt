@@ -29,7 +29,7 @@ use std::alloc::Global;
 /// The error is the first fault of the first module that has one, by kinds in the order
 /// `SameName`, `TwoDrivers`, `NoDriver`, `Width`, `CombLoop`, and within a kind the first name. It
 /// takes time and memory in proportion to the design, beside one search of a module for each of
-/// its inputs where others have instances of it.
+/// its outputs where others have instances of it.
 pub fn check(alloc: Global, design: &Design) -> Result<(), RtlError>
     requires { IsFormed design.now.modules }
     ensures ok { OnOk result (IsAccepted design.now) }

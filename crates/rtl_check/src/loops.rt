@@ -11,7 +11,7 @@ use crate::paths::{PortPath, feeding, port_paths};
 use crate::widths::net_name;
 use digraph::{Found, rank};
 use mx_base::{List as Items, NoMemory, Text};
-use rtl_ir::{Module, RtlError};
+use rtl_ir::{Module, NetId, RtlError};
 use std::alloc::Global;
 
 /// The names of these nets.
@@ -21,7 +21,7 @@ fn net_names(alloc: Global, module: &Module, nets: &[u32]) -> Result<Items<Text>
 {
     let mut names = Items::new(alloc);
     for place in 0..nets.len() {
-        let name = net_name(module, nets[place]).copy(alloc)?;
+        let name = net_name(module, NetId::new(nets[place])).copy(alloc)?;
         names.push(name)?;
     }
     Ok(names)
@@ -48,11 +48,11 @@ pub fn paths_or_loop(
             let names = net_names(alloc, module, walk.as_slice())?;
             Err(RtlError::CombLoop(names))
         }
-        Found::Ranks(order) => {
+        Found::Ranks(_) => {
             if !wanted {
                 return Ok(Items::new(alloc));
             }
-            let paths = port_paths(alloc, module, graph.as_slice(), &order)?;
+            let paths = port_paths(alloc, module, graph.as_slice())?;
             Ok(paths)
         }
     }

@@ -16,7 +16,7 @@ fn mark_parts(module: &Module, marks: &mut [bool])
         → slice_get marks.new i.module ≡ Some true }
 {
     for place in 0..module.instances.len() {
-        marks[module.instances.at(place).module as usize] = true;
+        marks[module.instances.at(place).module.index()] = true;
     }
 }
 

@@ -1,14 +1,16 @@
 // What feeds each net of a module, and the ways from its inputs to its outputs.
-ghost use Rattle.std.specs.Prelude.{◌≡◌, ◌<◌, ◌≤◌, ◌+◌, ◌++◌, ◌⊎◌, ◌^◌, ℕ, false, true, List, min, length, slice_get, Some, vec_len, IfOk, OnOk};
+ghost use Rattle.std.specs.Prelude.{◌≡◌, ◌<◌, ◌≤◌, ◌+◌, ◌++◌, ◌⊎◌, ◌^◌, ℕ, false, true, List, min, length, slice_get, slice_index, Some, vec_len, IfOk, OnOk};
 ghost use Rattle.rtl_ir.specs.declared.design.Assign.{Assign};
 ghost use Rattle.rtl_ir.specs.declared.design.Instance.{Instance};
 ghost use Rattle.rtl_ir.specs.declared.design.Port.{Port};
 ghost use Rattle.rtl_check.specs.declared.paths.PortPath.{PortPath};
 ghost use Rattle.rtl_ir.specs.Operands.{reads};
-ghost use Rattle.rtl_check.specs.Paths.{Adds, IsSmall, IsAssigned, IsPassed, IsParted, IsInRange, HasEdges, ArePaths};
-ghost use Rattle.digraph.specs.Graph.{Reads, IsGraph, IsRanked, IsPlaced, IsReached, Reaches};
+ghost use Rattle.rtl_check.specs.Paths.{Adds, IsSmall, IsAssigned, IsPassed, IsParted, IsInRange, HasEdges, ArePaths, ArePlaces, ArePortsApart};
+ghost use Rattle.digraph.specs.Graph.{Reads, IsGraph, Reaches};
+ghost use Rattle.digraph.specs.FanIn.{IsFanIn};
+ghost use Rattle.rtl_ir.specs.declared.design.Module.{Module as TheModule};
 
-use digraph::{Order, reached};
+use digraph::fan_in;
 use mx_base::{List as Items, NoMemory};
 use rtl_ir::{Expr, Instance, Module};
 use std::alloc::Global;
@@ -21,27 +23,15 @@ pub struct PortPath {
 }
 
 /// Adds the nets that an expression reads.
-fn push_reads(nets: &mut Items<u32>, expr: Expr) -> Result<(), NoMemory>
+fn push_reads(alloc: Global, nets: &mut Items<u32>, expr: Expr) -> Result<(), NoMemory>
     ensures ok { OnOk result (nets.new ≡ nets.old ++ reads expr) }
     ensures small { (i n : ℕ) → slice_get (reads expr) i ≡ Some n → n < 2 ^ 32 }
 {
-    match expr {
-        Expr::Literal(_) => Ok(()),
-        Expr::Net(net)
-        | Expr::Not(net)
-        | Expr::Repeat(_, net)
-        | Expr::Part(net, _, _)
-        | Expr::Cell(_, net) => nets.push(net),
-        Expr::Binary(_, left, right) | Expr::Concat(left, right) => {
-            nets.push(left)?;
-            nets.push(right)
-        }
-        Expr::Choose(test, yes, no) => {
-            nets.push(test)?;
-            nets.push(yes)?;
-            nets.push(no)
-        }
+    let operands = expr.operands(alloc);
+    for net in operands.as_slice() {
+        nets.push(net.index() as u32)?;
     }
+    Ok(())
 }
 
 /// A graph of so many nodes without an edge.
@@ -57,7 +47,7 @@ fn no_edges(alloc: Global, nodes: usize) -> Result<Vec<Items<u32>>, NoMemory>
 }
 
 /// Adds an edge from each net that an assignment reads to its target.
-fn add_assigns(module: &Module, graph: &mut [Items<u32>]) -> Result<(), NoMemory>
+fn add_assigns(alloc: Global, module: &Module, graph: &mut [Items<u32>]) -> Result<(), NoMemory>
     requires { (j : ℕ) (a : Assign) → slice_get module.now.assigns j ≡ Some a → a.target < 2 ^ 32
         → a.target < length graph.old }
     ensures added { OnOk result (Adds (IsAssigned module.now (length module.now.assigns)) graph.old graph.new) }
@@ -65,7 +55,8 @@ fn add_assigns(module: &Module, graph: &mut [Items<u32>]) -> Result<(), NoMemory
 {
     for place in 0..module.assigns.len() {
         let assign = module.assigns.at(place);
-        push_reads(&mut graph[assign.target as usize], assign.expr)?;
+        let number = assign.target.index();
+        push_reads(alloc, &mut graph[number], assign.expr)?;
     }
     Ok(())
 }
@@ -86,7 +77,8 @@ fn add_paths(
         let path = paths[place];
         let from = *instance.nets.at(path.input);
         let to = *instance.nets.at(path.output);
-        graph[to as usize].push(from)?;
+        let number = to.index();
+        graph[number].push(from.index() as u32)?;
     }
     Ok(())
 }
@@ -110,7 +102,8 @@ fn add_instances(
 {
     for place in 0..module.instances.len() {
         let instance = module.instances.at(place);
-        let paths = tables[instance.module as usize].as_slice();
+        let number = instance.module.index();
+        let paths = tables[number].as_slice();
         add_paths(instance, paths, graph)?;
     }
     Ok(())
@@ -118,6 +111,7 @@ fn add_instances(
 
 /// Adds the edges of a module, from each net that has a part in another one to that one.
 fn add_edges(
+    alloc: Global,
     module: &Module,
     tables: &[Items<PortPath>],
     graph: &mut [Items<u32>],
@@ -135,7 +129,7 @@ fn add_edges(
         ⊎ IsParted module.now tables.now (length module.now.instances) a b) graph.old graph.new) }
     ensures small { OnOk result (IsSmall graph.old → IsSmall graph.new) }
 {
-    add_assigns(module, graph)?;
+    add_assigns(alloc, module, graph)?;
     add_instances(module, tables, graph)?;
     Ok(())
 }
@@ -151,57 +145,74 @@ pub fn feeding(
     ensures { IfOk result (λ graph. HasEdges module.now tables.now graph.items) }
 {
     let mut graph = no_edges(alloc, module.nets.len().min(1 << 32))?;
-    add_edges(module, tables, graph.as_mut_slice())?;
+    add_edges(alloc, module, tables, graph.as_mut_slice())?;
     Ok(graph)
 }
 
-/// Adds the paths from an input to the outputs whose nets are marked.
-fn push_outputs(
-    module: &Module,
-    input: usize,
-    marks: &[bool],
-    paths: &mut Items<PortPath>,
-) -> Result<(), NoMemory>
-    requires input { (p : Port) × (slice_get module.now.ports input ≡ Some p) × (p.output ≡ false) }
-    requires nets { (j : ℕ) (p : Port) → slice_get module.now.ports j ≡ Some p → p.net < 2 ^ 32
-        → p.net < length marks.now }
-    ensures { OnOk result ((g : List (List ℕ)) (p : Port) → slice_get module.now.ports input ≡ Some p
-        → IsReached g p.net marks.now
-        → ArePaths (Reaches g) module.now (λ i o. i < input) paths.old
-        → ArePaths (Reaches g) module.now (λ i o. i < input + 1) paths.new) }
+/// The places of the input ports, by net.
+fn input_places(alloc: Global, module: &Module, nets: usize) -> Result<Vec<Option<usize>>, NoMemory>
+    requires nets { (j : ℕ) (p : Port) → slice_get module.now.ports j ≡ Some p → p.net < 2 ^ 32 → p.net < nets }
+    requires apart { ArePortsApart module.now }
+    ensures size { IfOk result (λ places. vec_len places ≡ nets) }
+    ensures places { IfOk result (λ places. ArePlaces module.now (length module.now.ports) places.items) }
 {
-    for output in 0..module.ports.len() {
-        let port = module.ports.at(output);
-        if !port.output || !marks[port.net as usize] {
-            continue;
-        }
-        paths.push(PortPath { input, output })?;
-    }
-    Ok(())
-}
-
-/// The paths of a module, by the graph of what feeds its nets and an order of that.
-pub fn port_paths(
-    alloc: Global,
-    module: &Module,
-    graph: &[Items<u32>],
-    order: &Order,
-) -> Result<Items<PortPath>, NoMemory>
-    requires graph { IsGraph graph.now }
-    requires ranked { IsRanked graph.now order.now.rank.items }
-    requires placed { IsPlaced graph.now order.now.nodes.items order.now.rank.items }
-    requires nets { (j : ℕ) (p : Port) → slice_get module.now.ports j ≡ Some p → p.net < 2 ^ 32
-        → p.net < length graph.now }
-    ensures { IfOk result (ArePaths (Reaches graph.now) module.now (λ i o. Unit {0})) }
-{
-    let mut paths = Items::new(alloc);
+    let mut places = vec![in alloc; None; nets]?;
     for input in 0..module.ports.len() {
         let port = module.ports.at(input);
         if port.output {
             continue;
         }
-        let marks = reached(alloc, graph, order, port.net)?;
-        push_outputs(module, input, marks.as_slice(), &mut paths)?;
+        let net = port.net.index();
+        places[net] = Some(input);
+    }
+    Ok(places)
+}
+
+/// Adds the paths to an output from the inputs among these nets.
+fn push_inputs(
+    places: &[Option<usize>],
+    nodes: &[u32],
+    output: usize,
+    paths: &mut Items<PortPath>,
+) -> Result<(), NoMemory>
+    requires { (j : ℕ) → j < length nodes.now → slice_index nodes.now j < length places.now }
+    ensures { OnOk result ((m : TheModule) (g : List (List ℕ)) (p : Port) → slice_get m.ports output ≡ Some p
+        → p.output ≡ true → ArePlaces m (length m.ports) places.now → IsFanIn g p.net nodes.now
+        → ArePaths (Reaches g) m (λ i o. o < output) paths.old
+        → ArePaths (Reaches g) m (λ i o. o < output + 1) paths.new) }
+{
+    for place in 0..nodes.len() {
+        match places[nodes[place] as usize] {
+            Some(input) => paths.push(PortPath { input, output })?,
+            None => {}
+        }
+    }
+    Ok(())
+}
+
+/// The paths of a module, by the graph of what feeds its nets.
+pub fn port_paths(
+    alloc: Global,
+    module: &Module,
+    graph: &[Items<u32>],
+) -> Result<Items<PortPath>, NoMemory>
+    requires graph { IsGraph graph.now }
+    requires nets { (j : ℕ) (p : Port) → slice_get module.now.ports j ≡ Some p → p.net < 2 ^ 32
+        → p.net < length graph.now }
+    requires apart { ArePortsApart module.now }
+    ensures { IfOk result (ArePaths (Reaches graph.now) module.now (λ i o. Unit {0})) }
+{
+    let places = input_places(alloc, module, graph.len())?;
+    let mut seen = vec![in alloc; 0; graph.len()]?;
+    let mut paths = Items::new(alloc);
+    for output in 0..module.ports.len() {
+        let port = module.ports.at(output);
+        if !port.output {
+            continue;
+        }
+        let end = port.net.index() as u32;
+        let nodes = fan_in(alloc, graph, seen.as_mut_slice(), output + 1, end)?;
+        push_inputs(places.as_slice(), nodes.as_slice(), output, &mut paths)?;
     }
     Ok(paths)
 }

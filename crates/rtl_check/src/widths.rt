@@ -8,44 +8,17 @@ ghost use Rattle.rtl_ir.specs.Typed.{word_width, target_width, IsSignTyped, IsTy
 ghost use Rattle.rtl_ir.specs.Formed.{IsFormedModule, name_of};
 ghost use Rattle.rtl_ir.specs.Rules.{Connection, HasWidths};
 ghost use Rattle.rtl_ir.specs.Faults.{IsFirst};
-ghost use Rattle.rtl_check.specs.FirstFault.{IsBadAssign, IsBadUpdate, IsBadPort, IsBadInstance, IsWidth, name_of_mem, target_name};
+ghost use Rattle.rtl_check.specs.FirstFault.{IsBadAssign, IsBadUpdate, IsBadPort, IsBadInstance, IsWidth, name_of_mem};
+ghost use Rattle.rtl_check.specs.FirstFault as spec;
+ghost use Rattle.rtl_ir.specs.Operands.{target_net, target_mem};
 ghost use Rattle.rtl_check.specs.Checked.{IsNoMemoryOr};
 
 use mx_base::Text;
-use rtl_ir::{Design, Expr, Instance, Module, Net, RtlError, Sign, Target, Update};
+use rtl_ir::{Design, Expr, Instance, MemId, Module, NetId, RtlError, Sign, Target, Update};
 use std::alloc::Global;
 
-/// The width of a net.
-fn net_width(net: &Net) -> u32
-    ensures value { result ≡ net.now.width }
-    ensures small { result < 256 }
-{
-    u32::from(net.width)
-}
-
-/// The width of the net with a number, and 0 for a number of no net.
-fn width(module: &Module, net: u32) -> u32
-    ensures value { result ≡ width_of module.now net }
-    ensures small { result < 256 }
-{
-    match module.nets.get(net as usize) {
-        Some(net) => net_width(net),
-        None => 0,
-    }
-}
-
-/// The width of the words of a memory, and 0 for a number of no memory.
-fn mem_width(module: &Module, mem: u32) -> u32
-    ensures { result ≡ word_width module.now mem }
-{
-    match module.mems.get(mem as usize) {
-        Some(mem) => u32::from(mem.width),
-        None => 0,
-    }
-}
-
 /// Whether an operator may have operands of these widths, for a target of `width` bits.
-fn is_sign_typed(sign: Sign, width: u32, left: u32, right: u32) -> bool
+fn is_sign_typed(sign: Sign, width: u8, left: u8, right: u8) -> bool
     ensures { IsTrue result ↔ IsSignTyped sign width left right }
 {
     match sign {
@@ -55,26 +28,28 @@ fn is_sign_typed(sign: Sign, width: u32, left: u32, right: u32) -> bool
 }
 
 /// Whether an expression may be assigned to a net of `width` bits.
-fn is_typed(module: &Module, target: u32, expr: Expr) -> bool
+fn is_typed(module: &Module, target: u8, expr: Expr) -> bool
     ensures { IsTrue result ↔ IsTyped module.now target expr }
 {
     match expr {
-        Expr::Net(net) | Expr::Not(net) => width(module, net) == target,
-        Expr::Literal(word) => u32::from(word.width()) == target,
+        Expr::Net(net) | Expr::Not(net) => module.width(net) == target,
+        Expr::Literal(word) => word.width() == target,
         Expr::Binary(sign, left, right) => {
-            is_sign_typed(sign, target, width(module, left), width(module, right))
+            is_sign_typed(sign, target, module.width(left), module.width(right))
         }
-        Expr::Concat(high, low) => width(module, high) + width(module, low) == target,
-        Expr::Repeat(times, net) => u32::from(times) * width(module, net) == target,
+        Expr::Concat(high, low) => u32::from(module.width(high)) + u32::from(module.width(low))
+            == u32::from(target),
+        Expr::Repeat(times, net) => u32::from(times) * u32::from(module.width(net))
+            == u32::from(target),
         Expr::Part(net, high, low) => {
             low <= high
-                && u32::from(high) < width(module, net)
-                && u32::from(high) + 1 - u32::from(low) == target
+                && high < module.width(net)
+                && u32::from(high) + 1 - u32::from(low) == u32::from(target)
         }
         Expr::Choose(test, yes, no) => {
-            width(module, test) == 1 && width(module, yes) == target && width(module, no) == target
+            module.width(test) == 1 && module.width(yes) == target && module.width(no) == target
         }
-        Expr::Cell(mem, _) => mem_width(module, mem) == target,
+        Expr::Cell(mem, _) => module.word_width(mem) == target,
     }
 }
 
@@ -83,39 +58,39 @@ fn is_update_typed(module: &Module, update: &Update) -> bool
     ensures { IsTrue result ↔ IsUpdateTyped module.now update.now }
 {
     let target = match update.target {
-        Target::Reg(net) => width(module, net),
-        Target::Cell(mem, _) => mem_width(module, mem),
+        Target::Reg(net) => module.width(net),
+        Target::Cell(mem, _) => module.word_width(mem),
     };
-    width(module, update.enable) == 1 && width(module, update.value) == target
+    module.width(update.enable) == 1 && module.width(update.value) == target
 }
 
-/// The target of the first assignment that breaks a width rule.
-fn bad_assign(module: &Module) -> Option<u32>
-    ensures some { IfSome result (λ net. (j : ℕ) × (a : Assign) × IsFirst (IsBadAssign module.now) j
-        × (slice_get module.now.assigns j ≡ Some a) × (a.target ≡ net)) }
+/// The place of the first assignment that breaks a width rule.
+fn bad_assign(module: &Module) -> Option<usize>
+    ensures some { IfSome result (IsFirst (IsBadAssign module.now)) }
+    ensures within { IfSome result (λ j. j < length module.now.assigns) }
     ensures none { IfNone result ((j : ℕ) (a : Assign) → slice_get module.now.assigns j ≡ Some a
         → IsTyped module.now (width_of module.now a.target) a.expr) }
 {
     for place in 0..module.assigns.len() {
         let assign = module.assigns.at(place);
-        if !is_typed(module, width(module, assign.target), assign.expr) {
-            return Some(assign.target);
+        if !is_typed(module, module.width(assign.target), assign.expr) {
+            return Some(place);
         }
     }
     None
 }
 
-/// The target of the first update that breaks a width rule.
-fn bad_update(module: &Module) -> Option<Target>
-    ensures some { IfSome result (λ target. (j : ℕ) × (u : Update) × IsFirst (IsBadUpdate module.now) j
-        × (slice_get module.now.updates j ≡ Some u) × (u.target ≡ target)) }
+/// The place of the first update that breaks a width rule.
+fn bad_update(module: &Module) -> Option<usize>
+    ensures some { IfSome result (IsFirst (IsBadUpdate module.now)) }
+    ensures within { IfSome result (λ j. j < length module.now.updates) }
     ensures none { IfNone result ((j : ℕ) (u : Update) → slice_get module.now.updates j ≡ Some u
         → IsUpdateTyped module.now u) }
 {
     for place in 0..module.updates.len() {
         let update = module.updates.at(place);
         if !is_update_typed(module, update) {
-            return Some(update.target);
+            return Some(place);
         }
     }
     None
@@ -135,45 +110,58 @@ fn bad_place(inner: &Module, instance: &Instance, module: &Module) -> Option<usi
     for place in 0..inner.ports.len() {
         let port = inner.ports.at(place);
         let net = *instance.nets.at(place);
-        if width(inner, port.net) != width(module, net) {
+        if inner.width(port.net) != module.width(net) {
             return Some(place);
         }
     }
     None
 }
 
-/// The net that is joined to the first port of an instance that breaks a width rule.
-fn bad_port(design: &Design, module: &Module) -> Option<u32>
+/// The name of the net that is joined to the first port of an instance that breaks a width rule.
+fn bad_port<'a>(design: &Design, module: &'a Module) -> Option<&'a Text>
     requires { IsFormedModule design.now.modules module.now }
-    ensures some { IfSome result (λ net. (k : ℕ) × (j : ℕ) × (e : Connection design.now module.now k j)
-        × IsFirst (IsBadInstance design.now module.now) k × IsFirst (IsBadPort design.now module.now k) j × (e.net ≡ net)) }
+    ensures some { IfSome result (λ name. (k : ℕ) × (j : ℕ) × (e : Connection design.now module.now k j)
+        × IsFirst (IsBadInstance design.now module.now) k × IsFirst (IsBadPort design.now module.now k) j
+        × (name.now ≡ name_of module.now e.net)) }
     ensures none { IfNone result ((k j : ℕ) (e : Connection design.now module.now k j)
         → width_of e.inner e.port.net ≡ width_of module.now e.net) }
 {
     for number in 0..module.instances.len() {
         let instance = module.instances.at(number);
-        let inner = design.modules.at(instance.module as usize);
+        let inner = design.modules.at(instance.module.index());
         if let Some(place) = bad_place(inner, instance, module) {
-            return Some(*instance.nets.at(place));
+            return Some(net_name(module, *instance.nets.at(place)));
         }
     }
     None
 }
 
 /// The name of a net.
-pub fn net_name(module: &Module, net: u32) -> &Text
+pub fn net_name(module: &Module, net: NetId) -> &Text
     requires { net < length module.now.nets }
     ensures { result.now ≡ name_of module.now net }
 {
-    &module.nets.at(net as usize).name
+    &module.nets.at(net.index()).name
 }
 
 /// The name of a memory.
-fn mem_name(module: &Module, mem: u32) -> &Text
+fn mem_name(module: &Module, mem: MemId) -> &Text
     requires { mem < length module.now.mems }
     ensures { result.now ≡ name_of_mem module.now mem }
 {
-    &module.mems.at(mem as usize).name
+    &module.mems.at(mem.index()).name
+}
+
+/// The name of what an update writes.
+fn target_name(module: &Module, target: Target) -> &Text
+    requires net { target_net target < length module.now.nets }
+    requires mem { (k : ℕ) → target_mem target ≡ Some k → k < length module.now.mems }
+    ensures { result.now ≡ spec.target_name module.now target }
+{
+    match target {
+        Target::Reg(net) => net_name(module, net),
+        Target::Cell(mem, _) => mem_name(module, mem),
+    }
 }
 
 /// The name of the first target whose width breaks a rule: of assignments, then updates, then ports
@@ -183,16 +171,14 @@ fn bad_width<'a>(design: &Design, module: &'a Module) -> Option<&'a Text>
     ensures some { IfSome result (λ name. IsWidth design.now module.now name.now) }
     ensures none { IfNone result (HasWidths design.now module.now) }
 {
-    if let Some(net) = bad_assign(module) {
-        return Some(net_name(module, net));
+    if let Some(place) = bad_assign(module) {
+        return Some(net_name(module, module.assigns.at(place).target));
     }
-    match bad_update(module) {
-        Some(Target::Reg(net)) => return Some(net_name(module, net)),
-        Some(Target::Cell(mem, _)) => return Some(mem_name(module, mem)),
-        None => {}
+    if let Some(place) = bad_update(module) {
+        return Some(target_name(module, module.updates.at(place).target));
     }
-    if let Some(net) = bad_port(design, module) {
-        return Some(net_name(module, net));
+    if let Some(name) = bad_port(design, module) {
+        return Some(name);
     }
     None
 }

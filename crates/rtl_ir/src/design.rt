@@ -1,5 +1,6 @@
 // The parts of a design.
 
+use crate::{MemId, ModuleId, NetId};
 use mx_base::{List, Text};
 use mx_bits::Word;
 
@@ -28,7 +29,7 @@ pub struct Mem {
 /// (IEEE 1364-2005, 12.3.4).
 #[derive(Clone, Copy, Debug, PartialEq, Eq)]
 pub struct Port {
-    pub net: u32,
+    pub net: NetId,
     pub output: bool,
 }
 
@@ -54,32 +55,32 @@ pub enum Sign {
 #[derive(Clone, Copy, Debug, PartialEq, Eq)]
 pub enum Expr {
     /// The value of a net.
-    Net(u32),
+    Net(NetId),
     /// A number with a width (IEEE 1364-2005, 3.5.1).
     Literal(Word),
     /// Each bit of a net turned (IEEE 1364-2005, 5.1.10).
-    Not(u32),
+    Not(NetId),
     /// An operator with its left and its right net.
-    Binary(Sign, u32, u32),
+    Binary(Sign, NetId, NetId),
     /// The net of the high bits and the net of the low bits (IEEE 1364-2005, 5.1.14).
-    Concat(u32, u32),
+    Concat(NetId, NetId),
     /// A net so many times, at most 128, one after another (IEEE 1364-2005, 5.1.14).
-    Repeat(u8, u32),
+    Repeat(u8, NetId),
     /// The bits of a net from the highest down to the lowest number given, each at most 128
     /// (IEEE 1364-2005, 5.2.1).
-    Part(u32, u8, u8),
+    Part(NetId, u8, u8),
     /// The second net where the first one is 1, and the third one else (IEEE 1364-2005, 5.1.13).
-    Choose(u32, u32, u32),
+    Choose(NetId, NetId, NetId),
     /// The word of a memory at the address that a net has (IEEE 1364-2005, 5.2.2). Past the depth it
     /// is 0, where the standard has `x`.
-    Cell(u32, u32),
+    Cell(MemId, NetId),
 }
 
 /// A continuous assignment: the net `target` has the value of the expression at all times
 /// (IEEE 1364-2005, 6.1).
 #[derive(Clone, Copy, Debug, PartialEq, Eq)]
 pub struct Assign {
-    pub target: u32,
+    pub target: NetId,
     pub expr: Expr,
 }
 
@@ -87,9 +88,9 @@ pub struct Assign {
 #[derive(Clone, Copy, Debug, PartialEq, Eq)]
 pub enum Target {
     /// A register, by the number of its net.
-    Reg(u32),
+    Reg(NetId),
     /// The word of a memory at the address that a net has. Past the depth nothing is written.
-    Cell(u32, u32),
+    Cell(MemId, NetId),
 }
 
 /// A nonblocking assignment at each rising edge of the clock where the net `enable` is 1
@@ -98,9 +99,9 @@ pub enum Target {
 /// The value of the net `value` is written, as it was before the edge.
 #[derive(Clone, Copy, Debug, PartialEq, Eq)]
 pub struct Update {
-    pub enable: u32,
+    pub enable: NetId,
     pub target: Target,
-    pub value: u32,
+    pub value: NetId,
 }
 
 /// A module within a module (IEEE 1364-2005, 12.1.2).
@@ -109,9 +110,9 @@ pub struct Update {
 /// for each port of the inner one, in the order of its ports.
 #[derive(Drop)]
 pub struct Instance {
-    pub module: u32,
+    pub module: ModuleId,
     pub name: Text,
-    pub nets: List<u32>,
+    pub nets: List<NetId>,
 }
 
 /// A module (IEEE 1364-2005, 12.1). Nets, memories and instances are named by their number from 0.

@@ -12,12 +12,17 @@
 
 mod design;
 mod error;
+mod ids;
+mod interface;
 mod laws;
+mod queries;
 #[cfg(test)]
 mod tests;
 
 pub use design::{Assign, Design, Expr, Instance, Mem, Module, Net, Port, Sign, Target, Update};
 pub use error::RtlError;
+pub use ids::{MemId, ModuleId, NetId};
+pub use interface::{Interface, KernelPorts, ScalarPort, StreamPorts};
 pub use laws::{
     flat_by_parts, growth, levelled_free, no_flat_loop, one_family, one_run, words_kept,
 };

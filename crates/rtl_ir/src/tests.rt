@@ -1,4 +1,4 @@
-use crate::{Assign, Design, Expr, Module, Net, Port, RtlError};
+use crate::{Assign, Design, Expr, Module, Net, NetId, Port, RtlError};
 use mx_base::{List, NoMemory, Text};
 use std::alloc::{AllocError, Global};
 use std::test::Fail;
@@ -13,10 +13,13 @@ fn wire(alloc: Global, name: &[u8]) -> Result<Net, AllocError> {
 
 // A module whose output is its reset turned.
 fn turned(alloc: Global) -> Result<Module, AllocError> {
-    let ports = [(0, false), (1, false), (2, true)].map(|(net, output)| Port { net, output });
+    let ports = [(0, false), (1, false), (2, true)].map(|(net, output)| Port {
+        net: NetId::new(net),
+        output,
+    });
     let assign = Assign {
-        target: 2,
-        expr: Expr::Not(1),
+        target: NetId::new(2),
+        expr: Expr::Not(NetId::new(1)),
     };
     let nets = [
         wire(alloc, b"clk")?,

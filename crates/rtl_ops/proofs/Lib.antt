@@ -1,4 +1,4 @@
-pub mod Growing
+pub mod Typed
 pub mod Ranks
 pub mod Options
 pub mod Extensions

@@ -8,8 +8,9 @@ use Rattle.std.proofs.lemmas.Bool.Decides.{nat_tests}
 use Rattle.rtl_ir.specs.declared.design.Module.{Module}
 use Rattle.rtl_ir.specs.Value.{Family, Contents, bit}
 use Rattle.rtl_ir.specs.Grow.{Holds}
-use Rattle.rtl_ops.specs.declared.signal.Signal.{Signal}
-use Rattle.rtl_ops.specs.Signals.{HasSignal, Makes}
+use Rattle.rtl_build.specs.declared.signal.Signal.{Signal}
+use Rattle.rtl_build.specs.Signals.{HasSignal, Makes}
+use Rattle.rtl_build.proofs.Growing.{signal}
 
 -- a signal has the value of the option that the selector numbers, where that is one of the first so many
 abbrev pub Prefers : Module → List ℕ → Signal → ℕ → Signal → Type 0
@@ -76,3 +77,13 @@ pub signal_at : (m : Module) (options : List ℕ) (w i n : ℕ) → All (λ x. H
 signal_at m options w i n all at =
     let lt = found_within options i n at in
     subst (λ x. HasSignal m (record { net = x; width = w })) (get_or_from_slice_get options i n 0 at) (all i 0 lt)
+
+-- an item's number in a list, whatever stands for what lies past it
+pub default_free : (xs : List ℕ) (i d e : ℕ) → i < length xs → get_or xs i d ≡ get_or xs i e
+default_free [] i d e h = absurd (omega arith)
+default_free (x ∷ xs) zero d e h = refl
+default_free (x ∷ xs) (suc i) d e h = default_free xs i d e (omega arith)
+
+-- a signal made of a net of a list
+pub signal_is : (nets : List ℕ) (i n w : ℕ) (s : Signal) → i < length nets → n ≡ get_or nets i n → s ≡ signal n w → s ≡ signal (get_or nets i 0) w
+signal_is nets i n w s h at e = e ∙ ap (λ k. signal k w) (at ∙ default_free nets i n 0 h)

@@ -15,10 +15,10 @@ use Rattle.fix_arith.specs.Table.{applied, row_of, operand, cast_of, product_of,
 use Rattle.rtl_ir.specs.declared.design.Port.{Port}
 use Rattle.rtl_ir.specs.declared.design.Module.{Module}
 use Rattle.rtl_ir.specs.Value.{Family, width_of, net_width}
-use Rattle.rtl_ops.specs.Wires.{is_output, AreInner}
-use Rattle.rtl_ops.specs.Signals.{HasSignal}
+use Rattle.rtl_build.specs.Wires.{is_output, AreInner}
+use Rattle.rtl_build.specs.Signals.{HasSignal}
 use Rattle.rtl_ops.specs.Operands.{takes_two, HasNets}
-use Rattle.rtl_ops.proofs.Options.{rest_of, rest_is, length-rest}
+use Rattle.rtl_ops.proofs.Options.{rest_of, rest_is, length-rest, default_free}
 
 -- ---- operands
 pub first_type : (types : List StreamType) (d : StreamType) → 1 ≤ length types → get_or types 0 d ≡ first types
@@ -57,11 +57,6 @@ signal_of m types args i w n d e all h is wide =
 pub second_signal : (m : Module) (types : List StreamType) (args : List ℕ) (w : ℕ) (d : StreamType) → HasNets m types args → All HasWidth types → AllSame types → 2 ≤ length types → w ≡ type_width (get_or types 0 d) → HasSignal m (record { net = get_or args 1 0; width = w })
 second_signal m types args w d e all same h wide =
     signal_of m types args 1 w (get_or args 1 0) d e all (omega arith) refl (wide ∙ ap type_width (first_type types d (omega arith) ∙ sym (same 1 d (omega arith))))
-
-default_free : (xs : List ℕ) (i d e : ℕ) → i < length xs → get_or xs i d ≡ get_or xs i e
-default_free [] i d e h = absurd (omega arith)
-default_free (x ∷ xs) zero d e h = refl
-default_free (x ∷ xs) (suc i) d e h = default_free xs i d e (omega arith)
 
 rest_signals : (m : Module) (types : List StreamType) (args : List ℕ) (w : ℕ) → HasNets m types args → All HasWidth types → AllSame types → w ≡ type_width (first types) → All (λ n. HasSignal m (record { net = n; width = w })) args
 rest_signals m types args w e all same wide k d h =

@@ -1,5 +1,3 @@
-pub mod Wires
-pub mod Signals
 pub mod Orders
 pub mod Operands
 pub mod Fragments

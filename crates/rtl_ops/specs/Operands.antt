@@ -6,7 +6,7 @@ use Rattle.fix_arith.specs.declared.types.StreamType.{StreamType}
 use Rattle.fix_arith.specs.Types.{width_of as type_width}
 use Rattle.rtl_ir.specs.declared.design.Module.{Module}
 use Rattle.rtl_ir.specs.Value.{width_of}
-use Rattle.rtl_ops.specs.Wires.{AreInner}
+use Rattle.rtl_build.specs.Wires.{AreInner}
 
 -- the operation has two operands of one type
 abbrev pub takes_two : Op → Bool

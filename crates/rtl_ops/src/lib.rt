@@ -4,14 +4,11 @@
 mod casts;
 mod choice;
 mod compare;
+mod literals;
 mod operations;
 mod products;
 mod quotients;
 mod rounding;
-mod signal;
-#[cfg(test)]
-mod tests;
 mod widths;
-mod wires;
 
 pub use operations::fragment;

@@ -5,9 +5,8 @@ ghost use Rattle.fix_arith.specs.Typing.{is_fix, type_of};
 ghost use Rattle.fix_arith.specs.Table.{applied, row_of, GivesType};
 ghost use Rattle.rtl_ir.specs.Value.{width_of as net_width_of};
 ghost use Rattle.rtl_ops.specs.Operands.{takes_two, HasNets};
-ghost use Rattle.rtl_ops.specs.Signals.{HasSignal, MakesWhere};
+ghost use Rattle.rtl_build.specs.Signals.{HasSignal, MakesWhere};
 ghost use Rattle.rtl_ops.specs.Fragments.{IsFragment};
-ghost use Rattle.rtl_ops.specs.Wires.{IsOpen};
 
 use crate::casts::cast;
 use crate::choice::choice;
@@ -15,26 +14,21 @@ use crate::compare::{at_most, equal, less, unequal};
 use crate::products::product;
 use crate::quotients::{opposite, quotient};
 use crate::rounding::shifted_left;
-use crate::signal::Signal;
 use crate::widths::floor;
-use crate::wires::{binary, complement};
 use fix_arith::{RoundMode, StreamType};
 use mx_base::NoMemory;
 use mx_bits::Op;
-use rtl_ir::{Module, Sign};
-use std::alloc::Global;
+use rtl_build::{Netlist, Signal};
+use rtl_ir::{NetId, Sign};
 
 // The product of two signals of one type.
 fn multiplied(
-    alloc: Global,
-    netlist: &mut Module,
+    netlist: &mut Netlist,
     mode: RoundMode,
     t: StreamType,
     a: Signal,
     b: Signal,
 ) -> Result<Signal, NoMemory>
-    requires range { IsOpen netlist.old }
-    requires room { length netlist.old.nets + 30 ≤ 2 ^ 32 }
     requires a { HasSignal netlist.old a }
     requires b { HasSignal netlist.old b }
     requires a_type { a.width ≡ width_of t }
@@ -44,15 +38,14 @@ fn multiplied(
         (λ v. row_of Op.Mul mode t 0 (v a.net) (v b.net))) }
 {
     match t {
-        StreamType::Fix { frac, .. } => product(alloc, netlist, mode, t, a, b, frac),
-        _ => binary(alloc, netlist, Sign::Mul, a.width, a, b),
+        StreamType::Fix { frac, .. } => product(netlist, mode, t, a, b, frac),
+        _ => netlist.binary(Sign::Mul, a, b),
     }
 }
 
 // An operation of two operands of one type.
 fn on_two(
-    alloc: Global,
-    netlist: &mut Module,
+    netlist: &mut Netlist,
     op: Op,
     mode: RoundMode,
     t: StreamType,
@@ -60,8 +53,6 @@ fn on_two(
     b: Signal,
 ) -> Result<Signal, NoMemory>
     requires two { takes_two op ≡ true }
-    requires range { IsOpen netlist.old }
-    requires room { length netlist.old.nets + 30 ≤ 2 ^ 32 }
     requires a { HasSignal netlist.old a }
     requires b { HasSignal netlist.old b }
     requires a_type { a.width ≡ width_of t }
@@ -71,31 +62,30 @@ fn on_two(
         (λ v. row_of op mode t 0 (v a.net) (v b.net))) }
 {
     match op {
-        Op::Add => binary(alloc, netlist, Sign::Add, a.width, a, b),
-        Op::Sub => binary(alloc, netlist, Sign::Sub, a.width, a, b),
-        Op::Mul => multiplied(alloc, netlist, mode, t, a, b),
-        Op::Div => quotient(alloc, netlist, t, a, b),
-        Op::And => binary(alloc, netlist, Sign::And, a.width, a, b),
-        Op::Or => binary(alloc, netlist, Sign::Or, a.width, a, b),
-        Op::Xor => binary(alloc, netlist, Sign::Xor, a.width, a, b),
-        Op::Eq => equal(alloc, netlist, t, a, b),
-        Op::Ne => unequal(alloc, netlist, t, a, b),
-        Op::Lt => less(alloc, netlist, t, a, b),
-        Op::Le => at_most(alloc, netlist, t, a, b),
-        Op::Gt => less(alloc, netlist, t, b, a),
-        Op::Ge => at_most(alloc, netlist, t, b, a),
+        Op::Add => netlist.binary(Sign::Add, a, b),
+        Op::Sub => netlist.binary(Sign::Sub, a, b),
+        Op::Mul => multiplied(netlist, mode, t, a, b),
+        Op::Div => quotient(netlist, t, a, b),
+        Op::And => netlist.binary(Sign::And, a, b),
+        Op::Or => netlist.binary(Sign::Or, a, b),
+        Op::Xor => netlist.binary(Sign::Xor, a, b),
+        Op::Eq => equal(netlist, t, a, b),
+        Op::Ne => unequal(netlist, t, a, b),
+        Op::Lt => less(netlist, t, a, b),
+        Op::Le => at_most(netlist, t, a, b),
+        Op::Gt => less(netlist, t, b, a),
+        Op::Ge => at_most(netlist, t, b, a),
         _ => unreachable!("the operation has other operands"),
     }
 }
 
 // An operation, as the signal of its result.
 fn operation(
-    alloc: Global,
-    netlist: &mut Module,
+    netlist: &mut Netlist,
     op: Op,
     mode: RoundMode,
     types: &[StreamType],
-    args: &[u32],
+    args: &[NetId],
     amount: u8,
     out: StreamType,
 ) -> Result<Signal, NoMemory>
@@ -103,35 +93,27 @@ fn operation(
     requires out { HasWidth out }
     requires gives { GivesType op types.now amount out }
     requires nets { HasNets netlist.old types.now args.now }
-    requires range { IsOpen netlist.old }
-    requires few { length netlist.old.nets ≤ 2 ^ 31 }
     ensures { IfOk result (MakesWhere netlist.old netlist.new (15 * length args.now) (width_of out)
         (λ v. applied op mode types.now (map v args.now) amount out)) }
 {
     let t = types[0];
     let width = t.width();
-    let a = Signal {
-        net: args[0],
-        width,
-    };
+    let a = Signal::new(args[0], width);
     match op {
-        Op::Mux => choice(alloc, netlist, a, &args[1..], out.width()),
-        Op::Cast | Op::Round => cast(alloc, netlist, mode, t, a, out),
-        Op::Neg => opposite(alloc, netlist, a),
-        Op::Not => complement(alloc, netlist, a),
-        Op::Shl => shifted_left(alloc, netlist, t, a, amount, width),
-        Op::Shr => floor(alloc, netlist, t, a, amount, width),
+        Op::Mux => choice(netlist, a, &args[1..], out.width()),
+        Op::Cast | Op::Round => cast(netlist, mode, t, a, out),
+        Op::Neg => opposite(netlist, a),
+        Op::Not => netlist.not(a),
+        Op::Shl => shifted_left(netlist, t, a, amount, width),
+        Op::Shr => floor(netlist, t, a, amount, width),
         _ => {
-            let b = Signal {
-                net: args[1],
-                width,
-            };
-            on_two(alloc, netlist, op, mode, t, a, b)
+            let b = Signal::new(args[1], width);
+            on_two(netlist, op, mode, t, a, b)
         }
     }
 }
 
-/// Adds the wires of an operation to a module, and answers the net of its result.
+/// Adds the wires of an operation to a module, and answers the signal of its result.
 ///
 /// `types` and `args` have one type and one net for each operand, of the type's width, and `out` is the
 /// type of the result: of a `Cast` or `Round` the one that is cast to. `amount` is the number of bits of
@@ -142,25 +124,22 @@ fn operation(
 /// net of an output port. In every family of values of the module the net that is answered has the
 /// word that `fix_arith::apply` gives for the words of the operands, or any word where that is none.
 ///
-/// The only error is `NoMemory`, after which the module isn't to be used.
+/// The only error is `NoMemory`, also where the module has 2^32 nets. After it the module isn't to be
+/// used.
 pub fn fragment(
-    alloc: Global,
-    netlist: &mut Module,
+    netlist: &mut Netlist,
     op: Op,
     mode: RoundMode,
     types: &[StreamType],
-    args: &[u32],
+    args: &[NetId],
     amount: u8,
     out: StreamType,
-) -> Result<u32, NoMemory>
+) -> Result<Signal, NoMemory>
     requires types { All HasWidth types.now }
     requires out { HasWidth out }
     requires gives { GivesType op types.now amount out }
     requires nets { HasNets netlist.old types.now args.now }
-    requires range { IsOpen netlist.old }
-    requires few { length netlist.old.nets ≤ 2 ^ 31 }
     ensures { IfOk result (IsFragment netlist.old netlist.new op mode types.now args.now amount out) }
 {
-    let made = operation(alloc, netlist, op, mode, types, args, amount, out)?;
-    Ok(made.net)
+    operation(netlist, op, mode, types, args, amount, out)
 }

@@ -3,28 +3,22 @@ ghost use Rattle.std.specs.Prelude.{◌≡◌, ◌+◌, ◌*◌, ◌≤◌, ◌<
 ghost use Rattle.fix_arith.specs.Types.{width_of};
 ghost use Rattle.fix_arith.specs.Values.{value_of, reduced};
 ghost use Rattle.fix_arith.specs.Rounding.{rounded};
-ghost use Rattle.rtl_ops.specs.Signals.{HasSignal, Makes};
-ghost use Rattle.rtl_ops.specs.Wires.{IsOpen};
+ghost use Rattle.rtl_build.specs.Signals.{HasSignal, Makes};
 
 use crate::rounding::rounded;
-use crate::signal::Signal;
 use crate::widths::{resized, whole_type};
-use crate::wires::binary;
 use fix_arith::{RoundMode, StreamType};
 use mx_base::NoMemory;
-use rtl_ir::{Module, Sign};
-use std::alloc::Global;
+use rtl_build::{Netlist, Signal};
+use rtl_ir::Sign;
 
 // The product of two numbers of one type, in twice as many bits: all of it.
 fn exact_product(
-    alloc: Global,
-    netlist: &mut Module,
+    netlist: &mut Netlist,
     t: StreamType,
     a: Signal,
     b: Signal,
 ) -> Result<Signal, NoMemory>
-    requires range { IsOpen netlist.old }
-    requires room { length netlist.old.nets + 7 ≤ 2 ^ 32 }
     requires a { HasSignal netlist.old a }
     requires b { HasSignal netlist.old b }
     requires a_type { a.width ≡ width_of t }
@@ -34,24 +28,21 @@ fn exact_product(
         (λ v. reduced (2 * width_of t) (value_of t (v a.net) *ℤ value_of t (v b.net)))) }
 {
     let width = 2 * a.width;
-    let left = resized(alloc, netlist, t, a, width)?;
-    let right = resized(alloc, netlist, t, b, width)?;
-    binary(alloc, netlist, Sign::Mul, width, left, right)
+    let left = resized(netlist, t, a, width)?;
+    let right = resized(netlist, t, b, width)?;
+    netlist.binary(Sign::Mul, left, right)
 }
 
 /// The product of two numbers of one type over two to `bits`, rounded by the mode, as a word of the
 /// type's width.
 pub fn product(
-    alloc: Global,
-    netlist: &mut Module,
+    netlist: &mut Netlist,
     mode: RoundMode,
     t: StreamType,
     a: Signal,
     b: Signal,
     bits: u8,
 ) -> Result<Signal, NoMemory>
-    requires range { IsOpen netlist.old }
-    requires room { length netlist.old.nets + 22 ≤ 2 ^ 32 }
     requires a { HasSignal netlist.old a }
     requires b { HasSignal netlist.old b }
     requires a_type { a.width ≡ width_of t }
@@ -61,7 +52,7 @@ pub fn product(
     ensures { IfOk result (Makes netlist.old netlist.new 22 (width_of t)
         (λ v. reduced (width_of t) (rounded mode (value_of t (v a.net) *ℤ value_of t (v b.net)) (2 ^ bits)))) }
 {
-    let exact = exact_product(alloc, netlist, t, a, b)?;
+    let exact = exact_product(netlist, t, a, b)?;
     let wide = whole_type(t, exact.width);
-    rounded(alloc, netlist, mode, wide, exact, bits, a.width)
+    rounded(netlist, mode, wide, exact, bits, a.width)
 }

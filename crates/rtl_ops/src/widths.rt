@@ -5,16 +5,12 @@ ghost use Rattle.fix_arith.specs.Values.{value_of, reduced};
 ghost use Rattle.fix_arith.specs.Rounding.{floor_of};
 ghost use Rattle.rtl_ir.specs.Value.{bit};
 ghost use Rattle.rtl_ops.specs.Orders.{is_below_zero};
-ghost use Rattle.rtl_ops.specs.Signals.{HasSignal, Makes};
-ghost use Rattle.rtl_ops.specs.Wires.{IsOpen};
+ghost use Rattle.rtl_build.specs.Signals.{HasSignal, Makes};
 
-use crate::signal::Signal;
-use crate::wires::{concat, literal, part, repeat};
 use fix_arith::StreamType;
 use mx_base::NoMemory;
 use mx_bits::Word;
-use rtl_ir::Module;
-use std::alloc::Global;
+use rtl_build::{Netlist, Signal};
 
 /// The type of whole numbers of this width that has negative ones where `t` has them.
 pub fn whole_type(t: StreamType, width: u8) -> StreamType
@@ -29,33 +25,23 @@ pub fn whole_type(t: StreamType, width: u8) -> StreamType
 }
 
 /// One bit: 1 where the number of a signed type is below 0.
-pub fn sign(
-    alloc: Global,
-    netlist: &mut Module,
-    t: StreamType,
-    a: Signal,
-) -> Result<Signal, NoMemory>
-    requires range { IsOpen netlist.old }
-    requires room { length netlist.old.nets + 1 ≤ 2 ^ 32 }
+pub fn sign(netlist: &mut Netlist, t: StreamType, a: Signal) -> Result<Signal, NoMemory>
     requires a { HasSignal netlist.old a }
     requires a_type { a.width ≡ width_of t }
     requires signed { is_signed t ≡ true }
     ensures { IfOk result (Makes netlist.old netlist.new 1 1 (λ v. bit (is_below_zero t (v a.net)))) }
 {
-    part(alloc, netlist, a, a.width - 1, a.width - 1)
+    netlist.part(a, a.width - 1, a.width - 1)
 }
 
 /// The bits that stand before a number, so many as the width says: all of them 1 where the number is
 /// below 0, and 0 else.
 pub fn sign_bits(
-    alloc: Global,
-    netlist: &mut Module,
+    netlist: &mut Netlist,
     t: StreamType,
     a: Signal,
     width: u8,
 ) -> Result<Signal, NoMemory>
-    requires range { IsOpen netlist.old }
-    requires room { length netlist.old.nets + 2 ≤ 2 ^ 32 }
     requires a { HasSignal netlist.old a }
     requires a_type { a.width ≡ width_of t }
     requires some { 1 ≤ width }
@@ -64,22 +50,19 @@ pub fn sign_bits(
         (λ v. reduced width (floor_of (value_of t (v a.net)) (2 ^ width_of t)))) }
 {
     if !t.is_signed() {
-        return literal(alloc, netlist, Word::new(0, width));
+        return netlist.literal(Word::new(0, width));
     }
-    let sign = sign(alloc, netlist, t, a)?;
-    repeat(alloc, netlist, width, sign)
+    let sign = sign(netlist, t, a)?;
+    netlist.repeat(width, sign)
 }
 
 /// A number's word of this width: its low bits, or all of them with the sign before them.
 pub fn resized(
-    alloc: Global,
-    netlist: &mut Module,
+    netlist: &mut Netlist,
     t: StreamType,
     a: Signal,
     width: u8,
 ) -> Result<Signal, NoMemory>
-    requires range { IsOpen netlist.old }
-    requires room { length netlist.old.nets + 3 ≤ 2 ^ 32 }
     requires a { HasSignal netlist.old a }
     requires a_type { a.width ≡ width_of t }
     requires some { 1 ≤ width }
@@ -91,23 +74,20 @@ pub fn resized(
         return Ok(a);
     }
     if width < a.width {
-        return part(alloc, netlist, a, width - 1, 0);
+        return netlist.part(a, width - 1, 0);
     }
-    let high = sign_bits(alloc, netlist, t, a, width - a.width)?;
-    concat(alloc, netlist, high, a)
+    let high = sign_bits(netlist, t, a, width - a.width)?;
+    netlist.concat(high, a)
 }
 
 /// A number over two to `bits`, rounded down, as a word of this width.
 pub fn floor(
-    alloc: Global,
-    netlist: &mut Module,
+    netlist: &mut Netlist,
     t: StreamType,
     a: Signal,
     bits: u8,
     width: u8,
 ) -> Result<Signal, NoMemory>
-    requires range { IsOpen netlist.old }
-    requires room { length netlist.old.nets + 4 ≤ 2 ^ 32 }
     requires a { HasSignal netlist.old a }
     requires a_type { a.width ≡ width_of t }
     requires some { 1 ≤ width }
@@ -116,8 +96,8 @@ pub fn floor(
         (λ v. reduced width (floor_of (value_of t (v a.net)) (2 ^ bits)))) }
 {
     if a.width <= bits {
-        return sign_bits(alloc, netlist, t, a, width);
+        return sign_bits(netlist, t, a, width);
     }
-    let high = part(alloc, netlist, a, a.width - 1, bits)?;
-    resized(alloc, netlist, whole_type(t, a.width - bits), high, width)
+    let high = netlist.part(a, a.width - 1, bits)?;
+    resized(netlist, whole_type(t, a.width - bits), high, width)
 }

@@ -1,1 +1,4 @@
 pub mod Examples
+pub mod Same
+pub mod Sound
+pub mod Accepted

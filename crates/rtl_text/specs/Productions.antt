@@ -1,7 +1,7 @@
 -- The productions of the Verilog subset. A part carries the tree that it is read as.
 use Rattle.std.specs.Prelude.{◌≡◌, ◌≤◌, ◌<◌, ◌-◌, ◌^◌, ℕ, false, List, [], ◌∷◌, codes}
 use Rattle.rtl_ir.specs.declared.design.Sign.{Sign}
-use Rattle.rtl_ir.specs.declared.design.Sign.TheVariants.{Add, Sub, Mul, Div, And, Or, Xor, Eq, Lt}
+use Rattle.rtl_ir.specs.Spelling.{sign_bytes}
 use Rattle.rtl_ir.specs.Names.{is_reserved}
 use Rattle.rtl_text.specs.Tokens.{Token}
 use Rattle.rtl_text.specs.Tree.{Name, PortTree, InputPort, OutputPort, ExprTree, PlainTree, LiteralTree, NotTree, BinaryTree, ConcatTree, RepeatTree, PartTree, ChooseTree, CellTree, UpdateTree, RegisterUpdate, CellUpdate, Connection, ItemTree, WireItem, RegisterItem, MemoryItem, AssignItem, AlwaysItem, InstanceItem, ModuleTree}
@@ -37,17 +37,6 @@ Is (Id name) t = (t ≡ Token.Word name) × (is_reserved name ≡ false)
 Is (Number n) t = t ≡ Token.Number n
 Is (Literal w n) t = t ≡ Token.Literal w n
 Is _ t = ⊥
-
-abbrev pub sign_bytes : Sign → List ℕ
-sign_bytes Add = codes "+"
-sign_bytes Sub = codes "-"
-sign_bytes Mul = codes "*"
-sign_bytes Div = codes "/"
-sign_bytes And = codes "&"
-sign_bytes Or = codes "|"
-sign_bytes Xor = codes "^"
-sign_bytes Eq = codes "=="
-sign_bytes Lt = codes "<"
 
 -- a width, in bits
 abbrev pub IsWidth : ℕ → Type 0

@@ -2,7 +2,7 @@
 use Rattle.std.specs.Prelude.{◌≡◌, ℕ, Bool, false, ◌&&◌, ◌==◌, List, [], ◌∷◌, Option, Some, None, if◌then◌else◌, codes}
 use Rattle.std.specs.List.{list_all, list_any, before_first, after_first}
 use Rattle.std.specs.Str.{bytes_eq}
-use Rattle.grammar.specs.Bytes.{is_digit, is_hex, decimal, hexadecimal}
+use Rattle.grammar.specs.Bytes.{is_digit, is_hex, decimal_value, hexadecimal}
 use Rattle.grammar.specs.Tokens.{IsText, Gaps}
 use Rattle.rtl_ir.specs.Names.{begins_name, continues_name}
 
@@ -47,8 +47,8 @@ is_sign word = list_any (bytes_eq word) signs
 abbrev pub token_of : List ℕ → Option Token
 token_of word =
     if is_word word then Some (Token.Word word)
-    else (if is_number word then Some (Token.Number (decimal word))
-    else (if is_literal word then Some (Token.Literal (decimal (before_first is_quote word)) (hexadecimal (hex_digits (after_first is_quote word))))
+    else (if is_number word then Some (Token.Number (decimal_value word))
+    else (if is_literal word then Some (Token.Literal (decimal_value (before_first is_quote word)) (hexadecimal (hex_digits (after_first is_quote word))))
     else (if is_sign word then Some (Token.Sign word) else None)))
 
 abbrev pub BeginsStar : List ℕ → Type 0

@@ -1,16 +1,19 @@
 -- In the plan of a run file no file is an output's and another stream's.
-use Rattle.std.proofs.Common.{◌≡◌, ◌≢◌, ℕ, zero, suc, Bool, true, false, not, ◌||◌, cond, List, [], ◌∷◌, map, bytes_eq, Option, Some, None, option_map, unwrap_or, refl, sym, ap, ◌∙◌}
+use Rattle.std.proofs.Common.{◌≡◌, ◌≢◌, ℕ, zero, suc, Bool, true, false, not, ◌||◌, cond, List, [], ◌∷◌, map, bytes_eq, Option, Some, None, option_map, unwrap_or, refl, sym, ap, subst, ◌∙◌}
 use Rattle.std.specs.Prelude.{slice_get}
 use Rattle.std.specs.List.{list_any}
 use Rattle.std.specs.Option.{option_or}
 use Rattle.std.proofs.lemmas.Bool.{true≢false}
 use Rattle.std.proofs.lemmas.Option.{slice_get-map}
+use Rattle.std.proofs.lemmas.Simd.{map-map}
 use Rattle.std.proofs.lemmas.Slice.Eq.{bytes_eq-Decides}
 use Rattle.serde_json.specs.Data.{Data}
 use Rattle.mx_base.specs.Files.{Name}
+use Rattle.rtl_ir.specs.declared.interface.Interface.{Interface}
+use Rattle.rtl_ir.specs.declared.interface.StreamPorts.{StreamPorts}
+use Rattle.rtl_ir.specs.Interfaces.{shape_of, stream_shape}
 use Rattle.rtl_ir.specs.Rules.{AllDiffer}
 use Rattle.word_files.specs.declared.run_file.RunFile.{RunFile}
-use Rattle.word_files.specs.declared.run_file.PortList.{PortList}
 use Rattle.word_files.specs.RunFiles.{IsRunFile, inputs_of, outputs_of, is_shared, is_apart, files, tests, first_failed, further_key}
 use Rattle.simulation.specs.declared.plan.Plan.{Plan}
 use Rattle.simulation.specs.Plans.{look_up, IsPlanOf, AreApart}
@@ -95,35 +98,35 @@ one_pair xs i j x y place at_i at_j = let both : Some x ≡ Some y = sym at_i �
 
 -- ---- the plan
 
-module _ (run : RunFile) (ports : PortList) (plan : Plan) (d : Data) (is : IsPlanOf run ports plan) (read : IsRunFile d run) where
+module _ (run : RunFile) (ports : Interface) (plan : Plan) (d : Data) (is : IsPlanOf run ports plan) (read : IsRunFile d run) where
   apart : is_shared (files run.inputs) (files run.outputs) ≡ false
   apart = not_shared d run read
 
-  outputs_apart : AllDiffer (map (λ (y : Name × ℕ). y.0) ports.outputs) → (j k : ℕ) (a b : Name × ℕ) → slice_get plan.outputs j ≡ Some a → slice_get plan.outputs k ≡ Some b → a.0 ≡ b.0 → j ≡ k
+  outputs_apart : AllDiffer (map (λ (y : StreamPorts). y.name) ports.outputs) → (j k : ℕ) (a b : Name × ℕ) → slice_get plan.outputs j ≡ Some a → slice_get plan.outputs k ≡ Some b → a.0 ≡ b.0 → j ≡ k
   outputs_apart differ j k a b at_a at_b same =
-      let y = beside (λ (o : Name × ℕ). Some o.0) (λ (p : Name × ℕ). look_up run.outputs p.0) plan.outputs ports.outputs j a is.output_files at_a in
-      let z = beside (λ (o : Name × ℕ). Some o.0) (λ (p : Name × ℕ). look_up run.outputs p.0) plan.outputs ports.outputs k b is.output_files at_b in
-      let f = found_at run.outputs y.item.0 a.0 y.is in
-      let g = found_at run.outputs z.item.0 b.0 z.is in
+      let y = beside (λ (o : Name × ℕ). Some o.0) (λ (p : StreamPorts). look_up run.outputs p.name) plan.outputs ports.outputs j a is.output_files at_a in
+      let z = beside (λ (o : Name × ℕ). Some o.0) (λ (p : StreamPorts). look_up run.outputs p.name) plan.outputs ports.outputs k b is.output_files at_b in
+      let f = found_at run.outputs y.item.name a.0 y.is in
+      let g = found_at run.outputs z.item.name b.0 z.is in
       let place : f.place ≡ g.place =
       one_place (files run.inputs) (files run.outputs) f.place g.place a.0 apart
-      (file_at run.outputs f.place (y.item.0, a.0) f.at)
-      (file_at run.outputs g.place (z.item.0, b.0) g.at ∙ ap Some (sym same))
+      (file_at run.outputs f.place (y.item.name, a.0) f.at)
+      (file_at run.outputs g.place (z.item.name, b.0) g.at ∙ ap Some (sym same))
       in
-      let names : y.item.0 ≡ z.item.0 = ap (λ (x : Name × Name). x.0) (one_pair run.outputs f.place g.place (y.item.0, a.0) (z.item.0, b.0) place f.at g.at) in
-      differ j k y.item.0
-      (slice_get-map (λ (p : Name × ℕ). p.0) ports.outputs j ∙ ap (option_map (λ (p : Name × ℕ). p.0)) y.at)
-      (slice_get-map (λ (p : Name × ℕ). p.0) ports.outputs k ∙ ap (option_map (λ (p : Name × ℕ). p.0)) z.at ∙ ap Some (sym names))
+      let names : y.item.name ≡ z.item.name = ap (λ (x : Name × Name). x.0) (one_pair run.outputs f.place g.place (y.item.name, a.0) (z.item.name, b.0) place f.at g.at) in
+      differ j k y.item.name
+      (slice_get-map (λ (p : StreamPorts). p.name) ports.outputs j ∙ ap (option_map (λ (p : StreamPorts). p.name)) y.at)
+      (slice_get-map (λ (p : StreamPorts). p.name) ports.outputs k ∙ ap (option_map (λ (p : StreamPorts). p.name)) z.at ∙ ap Some (sym names))
 
   inputs_apart : (j k : ℕ) (a b : Name × ℕ) → slice_get plan.inputs j ≡ Some a → slice_get plan.outputs k ≡ Some b → a.0 ≢ b.0
   inputs_apart j k a b at_a at_b same =
-      let x = beside (λ (i : Name × ℕ). Some i.0) (λ (p : Name × ℕ). look_up run.inputs p.0) plan.inputs ports.inputs j a is.input_files at_a in
-      let y = beside (λ (o : Name × ℕ). Some o.0) (λ (p : Name × ℕ). look_up run.outputs p.0) plan.outputs ports.outputs k b is.output_files at_b in
-      let f = found_at run.inputs x.item.0 a.0 x.is in
-      let g = found_at run.outputs y.item.0 b.0 y.is in
+      let x = beside (λ (i : Name × ℕ). Some i.0) (λ (p : StreamPorts). look_up run.inputs p.name) plan.inputs ports.inputs j a is.input_files at_a in
+      let y = beside (λ (o : Name × ℕ). Some o.0) (λ (p : StreamPorts). look_up run.outputs p.name) plan.outputs ports.outputs k b is.output_files at_b in
+      let f = found_at run.inputs x.item.name a.0 x.is in
+      let g = found_at run.outputs y.item.name b.0 y.is in
       not_taken (files run.inputs) (files run.outputs) g.place f.place a.0 apart
-      (file_at run.outputs g.place (y.item.0, b.0) g.at ∙ ap Some (sym same))
-      (file_at run.inputs f.place (x.item.0, a.0) f.at)
+      (file_at run.outputs g.place (y.item.name, b.0) g.at ∙ ap Some (sym same))
+      (file_at run.inputs f.place (x.item.name, a.0) f.at)
 
-  pub are_apart : AllDiffer (map (λ (y : Name × ℕ). y.0) ports.outputs) → AreApart plan
-  are_apart differ = record { outputs = outputs_apart differ; inputs = inputs_apart }
+  pub are_apart : AllDiffer (map (λ (y : Name × ℕ). y.0) (shape_of ports).outputs) → AreApart plan
+  are_apart differ = record { outputs = outputs_apart (subst AllDiffer (map-map (λ (y : Name × ℕ). y.0) stream_shape ports.outputs) differ); inputs = inputs_apart }

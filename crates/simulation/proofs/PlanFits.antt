@@ -9,11 +9,12 @@ use Rattle.std.proofs.lemmas.Simd.{map-map}
 use Rattle.serde_json.specs.Data.{Data}
 use Rattle.serde_json.specs.Find.{get, as_number, as_u64, as_object}
 use Rattle.mx_base.specs.Files.{Name}
-use Rattle.rtl_ir.specs.Ports.{Shape}
-use Rattle.top_ports.specs.Shapes.{IsPortList}
+use Rattle.rtl_ir.specs.declared.interface.Interface.{Interface}
+use Rattle.rtl_ir.specs.declared.interface.KernelPorts.{KernelPorts}
+use Rattle.rtl_ir.specs.declared.interface.StreamPorts.{StreamPorts}
+use Rattle.rtl_ir.specs.Interfaces.{shape_of, scalar_shape, stream_shape}
 use Rattle.word_files.specs.declared.run_file.RunFile.{RunFile}
-use Rattle.word_files.specs.declared.run_file.PortList.{PortList}
-use Rattle.word_files.specs.RunFiles.{IsRunFile, most_count, up_to, pairs, all_read, object_of, all_below, in_range}
+use Rattle.word_files.specs.RunFiles.{IsRunFile, most_count, up_to, pairs, all_read, object_of, all_below, in_range, scalar_entry, scalar_entries}
 use Rattle.simulation.specs.declared.plan.Plan.{Plan}
 use Rattle.simulation.specs.Plans.{look_up, AreBelow, IsPlanOf, FitsShape}
 use Rattle.simulation.proofs.Places.{beside, same_lengths}
@@ -101,37 +102,41 @@ all_at test (y ∷ xs) (suc k) x all at = all_at test xs k x (both (test y) (lis
 
 -- ---- the plan
 
-module _ (run : RunFile) (ports : PortList) (plan : Plan) (s : Shape) (d : Data) (is : IsPlanOf run ports plan) (of_shape : IsPortList ports s) (read : IsRunFile d run) where
+module _ (run : RunFile) (ports : Interface) (plan : Plan) (d : Data) (is : IsPlanOf run ports plan) (read : IsRunFile d run) where
   tick_below : (k value : ℕ) → slice_get plan.ticks k ≡ Some value → value < 2 ^ 48
   tick_below k value at =
-      let name = beside (λ t. Some t) (look_up run.ticks) plan.ticks ports.kernels k value is.ticks at in
-      let most : value ≤ 2 ^ 40 = tick_within d run name.item value read name.is in
+      let kernel = beside (λ t. Some t) (λ (x : KernelPorts). look_up run.ticks x.name) plan.ticks ports.kernels k value is.ticks at in
+      let most : value ≤ 2 ^ 40 = tick_within d run kernel.item.name value read kernel.is in
       omega (arith, most)
 
-  widths_are : map (λ (a : Name × ℕ). a.1) ports.scalars ≡ map (λ (a : Name × Name × ℕ). a.2) s.scalars
-  widths_are = ap (map (λ (a : Name × ℕ). a.1)) of_shape.scalars ∙ map-map (λ (a : Name × ℕ). a.1) (λ (a : Name × Name × ℕ). (a.0 ++ codes "." ++ a.1, a.2)) s.scalars
+  widths_are : map (λ (a : Name × ℕ). a.1) (scalar_entries ports) ≡ map (λ (a : Name × Name × ℕ). a.2) (shape_of ports).scalars
+  widths_are =
+      map-map (λ (a : Name × ℕ). a.1) scalar_entry ports.scalars
+      ∙ sym (map-map (λ (a : Name × Name × ℕ). a.2) scalar_shape ports.scalars)
 
-  scalars_below : in_range run.scalars ports.scalars ≡ true → AreBelow plan.scalars (map (λ (a : Name × Name × ℕ). a.2) s.scalars)
+  scalars_below : in_range run.scalars (scalar_entries ports) ≡ true → AreBelow plan.scalars (map (λ (a : Name × Name × ℕ). a.2) (shape_of ports).scalars)
   scalars_below all k value width at at_width =
-      let port = beside (λ x. Some x) (λ (a : Name × ℕ). look_up run.scalars a.0) plan.scalars ports.scalars k value is.scalars at in
+      let port = beside (λ x. Some x) (λ (a : Name × ℕ). look_up run.scalars a.0) plan.scalars (scalar_entries ports) k value is.scalars at in
       let its : Some port.item.1 ≡ Some width =
-      sym (slice_get-map (λ (a : Name × ℕ). a.1) ports.scalars k ∙ ap (option_map (λ (a : Name × ℕ). a.1)) port.at)
+      sym (slice_get-map (λ (a : Name × ℕ). a.1) (scalar_entries ports) k ∙ ap (option_map (λ (a : Name × ℕ). a.1)) port.at)
       ∙ ap (λ ws. slice_get ws k) widths_are
       ∙ at_width
       in
       let same : port.item.1 ≡ width = cc in
       subst (λ w. value < 2 ^ w) same
-      (word_below run.scalars port.item.0 port.item.1 value (all_at (λ (p : Name × ℕ). all_below run.scalars p.0 p.1) ports.scalars k port.item all port.at) port.is)
+      (word_below run.scalars port.item.0 port.item.1 value (all_at (λ (p : Name × ℕ). all_below run.scalars p.0 p.1) (scalar_entries ports) k port.item all port.at) port.is)
 
-  pub fits : in_range run.scalars ports.scalars ≡ true → FitsShape plan s
+  pub fits : in_range run.scalars (scalar_entries ports) ≡ true → FitsShape plan (shape_of ports)
   fits all = record {
-    kernels = same_lengths (λ t. Some t) (look_up run.ticks) plan.ticks ports.kernels is.ticks ∙ ap length of_shape.kernels;
+    kernels =
+        same_lengths (λ t. Some t) (λ (x : KernelPorts). look_up run.ticks x.name) plan.ticks ports.kernels is.ticks
+        ∙ sym (length-map ports.kernels (λ (k : KernelPorts). k.name));
     ticks = tick_below;
     scalars =
-        same_lengths (λ x. Some x) (λ (a : Name × ℕ). look_up run.scalars a.0) plan.scalars ports.scalars is.scalars
-        ∙ ap length of_shape.scalars
-        ∙ length-map s.scalars (λ (a : Name × Name × ℕ). (a.0 ++ codes "." ++ a.1, a.2));
+        same_lengths (λ x. Some x) (λ (a : Name × ℕ). look_up run.scalars a.0) plan.scalars (scalar_entries ports) is.scalars
+        ∙ length-map ports.scalars scalar_entry
+        ∙ sym (length-map ports.scalars scalar_shape);
     values = scalars_below all;
-    inputs = is.input_widths ∙ ap (map (λ (x : Name × ℕ). x.1)) of_shape.inputs;
-    outputs = is.output_widths ∙ ap (map (λ (y : Name × ℕ). y.1)) of_shape.outputs;
+    inputs = is.input_widths ∙ sym (map-map (λ (x : Name × ℕ). x.1) stream_shape ports.inputs);
+    outputs = is.output_widths ∙ sym (map-map (λ (y : Name × ℕ). y.1) stream_shape ports.outputs);
   }

@@ -12,8 +12,8 @@ use Rattle.word_files.specs.WordFiles.{Follows, IsUnread, IsOfLine, Keeps}
 use Rattle.word_files.specs.declared.refusal.Refusal.{Refusal}
 use Rattle.word_files.specs.declared.refusal.Refusal.TheVariants as kept
 use Rattle.word_files.specs.declared.reader.WordReader.{WordReader}
-use Rattle.word_files.specs.declared.error.RunError.{RunError}
-use Rattle.word_files.specs.declared.error.RunError.TheVariants as errors
+use Rattle.word_files.specs.declared.error.WordError.{WordError}
+use Rattle.word_files.specs.declared.error.WordError.TheVariants as errors
 use Rattle.word_files.proofs.LineLemmas.{left_none, left_some}
 use Rattle.word_files.proofs.JudgeLemmas.{no_item}
 use Rattle.simulation.specs.Inputs.{InputFile, LineFault, word_in, before_words, words_in, words_of, fault_of_line, fault_in, fault_behind}
@@ -173,7 +173,7 @@ missing held f left old l =
     record { none_left = l.none_left; behind = ap (fault_in f.name (length (words_of f))) l.lines }
 
 pub read_stopped :
-    (held : Held) (counted : Type 0) (f : InputFile) (left : List ℕ) (old : Input) (e : RunError)
+    (held : Held) (counted : Type 0) (f : InputFile) (left : List ℕ) (old : Input) (e : WordError)
     → old.waiting ≡ None
     → (e ≡ errors.ReadFault → counted ⊎ Lacks held old.reader.name)
     → (Lacks held old.reader.name → IsUnread old.reader → e ≡ errors.ReadFault)
@@ -181,8 +181,6 @@ pub read_stopped :
     → (e ≡ errors.WriteFault → ⊥)
     → IsAt held f left old
     → Stops held counted f left (stop_of e)
-read_stopped held counted f left old errors.NotJson none fault lacking line wrote at = tt
-read_stopped held counted f left old (errors.Shape key) none fault lacking line wrote at = tt
 read_stopped held counted f left old (errors.BadLine name number) none fault lacking line wrote at = λ told. by (found_or_lacking held f.name told)
   where
     by : ((file : List ℕ) × Holds held f.name file) ⊎ Lacks held f.name → IsFaulty f left (lines.BadLine name number)
@@ -210,7 +208,7 @@ read_stopped held counted f left old errors.WriteFault none fault lacking line w
 read_stopped held counted f left old errors.NoMemory none fault lacking line wrote at = tt
 
 -- a reader writes nothing
-pub no_write : (name : Name) (refusal : Option Refusal) (e : RunError) → Keeps name refusal (Err e) → e ≡ errors.WriteFault → ⊥
+pub no_write : (name : Name) (refusal : Option Refusal) (e : WordError) → Keeps name refusal (Err e) → e ≡ errors.WriteFault → ⊥
 no_write name None e (inl h) q = absurd (cc)
 no_write name (Some (kept.BadLine n)) e (inl h) q = absurd (cc)
 no_write name (Some (kept.WordRange n)) e (inl h) q = absurd (cc)
@@ -254,9 +252,7 @@ nothing_waits None e = refl
 nothing_waits (Some w) e = absurd (false≢true (sym e))
 
 -- so it stops a run as reading does
-pub read_kind : (name : Name) (refusal : Option Refusal) (e : RunError) → Keeps name refusal (Err e) → IsReadStop (stop_of e)
-read_kind name refusal errors.NotJson k = tt
-read_kind name refusal (errors.Shape key) k = tt
+pub read_kind : (name : Name) (refusal : Option Refusal) (e : WordError) → Keeps name refusal (Err e) → IsReadStop (stop_of e)
 read_kind name refusal (errors.BadLine file line) k = tt
 read_kind name refusal (errors.WordRange file line) k = tt
 read_kind name refusal errors.ReadFault k = tt

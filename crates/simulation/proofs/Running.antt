@@ -204,7 +204,13 @@ module _ (stalls : Answers) (s : Setup) (held : Held) (sim : State) (is : List I
         begun = begun_of held s.outer.outputs (own_of (g.restart ∷ g.vs)) os g.put;
       }
   tells_stop counted stalled stops.ReadFault told lt not_done ports asked f =
-      record { restart = g.restart; vs = g.vs; run = g.run; begun = begun_of held s.outer.outputs (own_of (g.restart ∷ g.vs)) os g.put }
+      record {
+        restart = g.restart;
+        vs = g.vs;
+        run = g.run;
+        within = (let c = g.count in omega arith);
+        begun = begun_of held s.outer.outputs (own_of (g.restart ∷ g.vs)) os g.put;
+      }
   tells_stop counted stalled stops.WriteFault told lt not_done ports asked f = tt
   tells_stop counted stalled stops.NoMemory told lt not_done ports asked f = tt
 

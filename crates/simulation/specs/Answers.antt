@@ -1,5 +1,5 @@
 -- What the answer of a simulation says of its run.
-use Rattle.std.specs.Prelude.{◌≡◌, ℕ, List, ◌∷◌, if◌then◌else◌, Result, Ok, Err}
+use Rattle.std.specs.Prelude.{◌≡◌, ◌<◌, ℕ, List, ◌∷◌, length, if◌then◌else◌, Result, Ok, Err}
 use Rattle.mx_base.specs.Files.{Name, Held}
 use Rattle.rtl_ir.specs.Flat.{Families}
 use Rattle.rtl_ir.specs.Parts.{own_of}
@@ -30,11 +30,13 @@ pub record Breaks (stalls : Answers) (s : Setup) (outputs : List (Name × ℕ)) 
   pub ends : Ends stalls s restart vs end
   pub begun : AreBegun now (own_of (restart ∷ vs)) s.outer.outputs outputs
 
--- the run up to the edge before which a read failed, of whose words the output files hold the first
-pub record IsCutOff (stalls : Answers) (s : Setup) (outputs : List (Name × ℕ)) (now : Held) : Type 0 where
+-- the run up to the edge before which a read failed, of whose words the output files hold the first. It has made fewer than
+-- the most edges
+pub record IsInterrupted (stalls : Answers) (s : Setup) (outputs : List (Name × ℕ)) (now : Held) : Type 0 where
   pub restart : Families
   pub vs : List Families
   pub run : IsRun stalls s restart vs
+  pub within : length vs < s.edges
   pub begun : AreBegun now (own_of (restart ∷ vs)) s.outer.outputs outputs
 
 -- what an answer says of the run
@@ -43,7 +45,7 @@ Tells stalls s outputs now (Ok o) = Finishes stalls s outputs now (end_of o)
 Tells stalls s outputs now (Err (TooManyCells n)) = Unit {0}
 Tells stalls s outputs now (Err (BadLine file line)) = Breaks stalls s outputs now (Stopped (lines.BadLine file line))
 Tells stalls s outputs now (Err (WordRange file line)) = Breaks stalls s outputs now (Stopped (lines.WordRange file line))
-Tells stalls s outputs now (Err ReadFault) = IsCutOff stalls s outputs now
+Tells stalls s outputs now (Err ReadFault) = IsInterrupted stalls s outputs now
 Tells stalls s outputs now (Err WriteFault) = Unit {0}
 Tells stalls s outputs now (Err NoMemory) = Unit {0}
 

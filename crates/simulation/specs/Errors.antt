@@ -1,15 +1,13 @@
 -- What the errors of the parts of a run are to it.
 use Rattle.verilog_sim.specs.declared.error.SimError.{SimError}
 use Rattle.verilog_sim.specs.declared.error.SimError.TheVariants as refusals
-use Rattle.word_files.specs.declared.error.RunError.{RunError}
-use Rattle.word_files.specs.declared.error.RunError.TheVariants as errors
+use Rattle.word_files.specs.declared.error.WordError.{WordError}
+use Rattle.word_files.specs.declared.error.WordError.TheVariants as errors
 use Rattle.simulation.specs.declared.stop.Stop.{Stop}
 use Rattle.simulation.specs.declared.stop.Stop.TheVariants.{TooManyCells, BadLine, WordRange, ReadFault, WriteFault, NoMemory}
 
--- the errors of a run file don't come in a run
-abbrev pub stop_of : RunError → Stop
-stop_of errors.NotJson = NoMemory
-stop_of (errors.Shape key) = NoMemory
+-- what a reader or a writer of words answers
+abbrev pub stop_of : WordError → Stop
 stop_of (errors.BadLine file line) = BadLine file line
 stop_of (errors.WordRange file line) = WordRange file line
 stop_of errors.ReadFault = ReadFault

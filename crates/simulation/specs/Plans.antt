@@ -3,10 +3,13 @@ use Rattle.std.specs.Prelude.{◌≡◌, ◌≢◌, ℕ, ◌<◌, ◌^◌, List,
 use Rattle.mx_base.specs.Files.{Name, Held}
 use Rattle.rtl_ir.specs.declared.design.Design.{Design}
 use Rattle.rtl_ir.specs.declared.design.Module.{Module}
+use Rattle.rtl_ir.specs.declared.interface.Interface.{Interface}
+use Rattle.rtl_ir.specs.declared.interface.KernelPorts.{KernelPorts}
+use Rattle.rtl_ir.specs.declared.interface.StreamPorts.{StreamPorts}
 use Rattle.rtl_ir.specs.Ports.{Shape, outer_of}
 use Rattle.verilog_sim.specs.Start.{filled}
 use Rattle.word_files.specs.declared.run_file.RunFile.{RunFile}
-use Rattle.word_files.specs.declared.run_file.PortList.{PortList}
+use Rattle.word_files.specs.RunFiles.{scalar_entries}
 use Rattle.simulation.specs.Inputs.{input_files}
 use Rattle.simulation.specs.Runs.{Setup}
 use Rattle.simulation.specs.declared.plan.Plan.{Plan}
@@ -48,13 +51,13 @@ look_up [] name = None
 look_up (x ∷ xs) name = if bytes_eq x.0 name then Some x.1 else look_up xs name
 
 -- the plan of a run file, for the ports of a design, in the order of the ports
-pub record IsPlanOf (run : RunFile) (ports : PortList) (p : Plan) : Type 0 where
-  pub ticks : map (λ t. Some t) p.ticks ≡ map (look_up run.ticks) ports.kernels
-  pub scalars : map (λ x. Some x) p.scalars ≡ map (λ (a : Name × ℕ). look_up run.scalars a.0) ports.scalars
-  pub input_files : map (λ (i : Name × ℕ). Some i.0) p.inputs ≡ map (λ (a : Name × ℕ). look_up run.inputs a.0) ports.inputs
-  pub input_widths : map (λ (i : Name × ℕ). i.1) p.inputs ≡ map (λ (a : Name × ℕ). a.1) ports.inputs
-  pub output_files : map (λ (o : Name × ℕ). Some o.0) p.outputs ≡ map (λ (a : Name × ℕ). look_up run.outputs a.0) ports.outputs
-  pub output_widths : map (λ (o : Name × ℕ). o.1) p.outputs ≡ map (λ (a : Name × ℕ). a.1) ports.outputs
+pub record IsPlanOf (run : RunFile) (ports : Interface) (p : Plan) : Type 0 where
+  pub ticks : map (λ t. Some t) p.ticks ≡ map (λ (k : KernelPorts). look_up run.ticks k.name) ports.kernels
+  pub scalars : map (λ x. Some x) p.scalars ≡ map (λ (a : Name × ℕ). look_up run.scalars a.0) (scalar_entries ports)
+  pub input_files : map (λ (i : Name × ℕ). Some i.0) p.inputs ≡ map (λ (x : StreamPorts). look_up run.inputs x.name) ports.inputs
+  pub input_widths : map (λ (i : Name × ℕ). i.1) p.inputs ≡ map (λ (x : StreamPorts). x.width) ports.inputs
+  pub output_files : map (λ (o : Name × ℕ). Some o.0) p.outputs ≡ map (λ (y : StreamPorts). look_up run.outputs y.name) ports.outputs
+  pub output_widths : map (λ (o : Name × ℕ). o.1) p.outputs ≡ map (λ (y : StreamPorts). y.width) ports.outputs
   pub edges : p.edges ≡ run.edges
   pub pick : p.pick ≡ run.pick
   pub fill : p.fill ≡ run.fill

@@ -11,29 +11,33 @@ ghost use Rattle.rtl_ir.specs.declared.design.Module.{Module};
 ghost use Rattle.rtl_ir.specs.Flat.{top_of};
 ghost use Rattle.rtl_ir.specs.Ports.{Shape};
 ghost use Rattle.rtl_ir.specs.Rules.{AllDiffer, IsAccepted};
-ghost use Rattle.top_ports.specs.Shapes.{IsTop, IsPortList};
+ghost use Rattle.rtl_ir.specs.declared.interface.StreamPorts.{StreamPorts};
+ghost use Rattle.rtl_ir.specs.Interfaces.{shape_of};
+ghost use Rattle.top_ports.specs.Shapes.{IsTop};
 ghost use Rattle.word_files.specs.RunFiles.{names, SameNames, IsRunFile, TicksFit, ScalarsFit, InputsFit, OutputsFit};
 ghost use Rattle.simulation.specs.Plans.{look_up, IsPlanOf, FitsShape, AreApart};
 
 use crate::plan::Plan;
 use mx_base::{List, NoMemory, Text};
+use rtl_ir::{Interface, KernelPorts, StreamPorts};
 use std::alloc::Global;
 use std::collections::BTreeMap;
-use word_files::{PortList, RunFile};
+use word_files::{RunFile, scalar_names};
 
 /// What a run file that fits the ports of a design hands to a run of it, in the order of the ports.
-pub fn plan_of(alloc: Global, run: &RunFile, ports: &PortList) -> Result<Plan, NoMemory>
+pub fn plan_of(alloc: Global, run: &RunFile, ports: &Interface) -> Result<Plan, NoMemory>
     requires ticks { TicksFit run.now ports.now }
     requires scalars { ScalarsFit run.now ports.now }
     requires inputs { InputsFit run.now ports.now }
     requires outputs { OutputsFit run.now ports.now }
     ensures plan { IfOk result (λ plan. IsPlanOf run.now ports.now plan) }
-    ensures fits { (s : Shape) → IsPortList ports.now s → (d : Data) → IsRunFile d run.now → IfOk result (λ plan. FitsShape plan s) }
-    ensures apart { (d : Data) → IsRunFile d run.now → AllDiffer (map (λ (y : Name × ℕ). y.0) ports.now.outputs) → IfOk result (λ plan. AreApart plan) }
+    ensures fits { (d : Data) → IsRunFile d run.now → IfOk result (λ plan. FitsShape plan (shape_of ports.now)) }
+    ensures apart { (d : Data) → IsRunFile d run.now → AllDiffer (map (λ (y : Name × ℕ). y.0) (shape_of ports.now).outputs) → IfOk result (λ plan. AreApart plan) }
 {
+    let scalars = scalar_names(alloc, ports)?;
     Ok(Plan {
         ticks: values(alloc, &run.ticks, &ports.kernels)?,
-        scalars: values(alloc, &run.scalars, &ports.scalars)?,
+        scalars: values(alloc, &run.scalars, &scalars)?,
         inputs: files(alloc, &run.inputs, &ports.inputs)?,
         outputs: files(alloc, &run.outputs, &ports.outputs)?,
         edges: run.edges,
@@ -55,11 +59,11 @@ trait Named: Sized {
         ensures { result.now ≡ name_of self.now };
 }
 
-impl Named for Text {
-    ghost name_of = { λ t. t };
+impl Named for KernelPorts {
+    ghost name_of = { λ k. k.name };
 
     fn name(&self) -> &[u8] {
-        self.as_bytes()
+        self.name.as_bytes()
     }
 }
 
@@ -92,16 +96,16 @@ fn values<T: Copy, P: Named>(
 fn files(
     alloc: Global,
     list: &List<(Text, Text)>,
-    streams: &List<(Text, u8)>,
+    streams: &List<StreamPorts>,
 ) -> Result<List<(Text, u8)>, NoMemory>
-    requires { SameNames (names list.now) (names streams.now) }
-    ensures names { IfOk result (λ files. map (λ (f : Name × ℕ). Some f.0) files ≡ map (λ (s : Name × ℕ). look_up list.now s.0) streams.now) }
-    ensures widths { IfOk result (λ files. map (λ (f : Name × ℕ). f.1) files ≡ map (λ (s : Name × ℕ). s.1) streams.now) }
+    requires { SameNames (names list.now) (map (λ (s : StreamPorts). s.name) streams.now) }
+    ensures names { IfOk result (λ files. map (λ (f : Name × ℕ). Some f.0) files ≡ map (λ (s : StreamPorts). look_up list.now s.name) streams.now) }
+    ensures widths { IfOk result (λ files. map (λ (f : Name × ℕ). f.1) files ≡ map (λ (s : StreamPorts). s.width) streams.now) }
 {
     let named = by_name(alloc, list)?;
     let mut files = List::new(alloc);
-    for (name, width) in streams.as_slice() {
-        files.push((named[name.as_bytes()].copy(alloc)?, *width))?;
+    for stream in streams.as_slice() {
+        files.push((named[stream.name.as_bytes()].copy(alloc)?, stream.width))?;
     }
     Ok(files)
 }

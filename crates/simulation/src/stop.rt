@@ -5,7 +5,7 @@ ghost use Rattle.simulation.specs.Errors.{stop_of, refused_by};
 use mx_base::{NoMemory, Text};
 use std::alloc::{AllocError, AllocFailed};
 use verilog_sim::SimError;
-use word_files::RunError;
+use word_files::WordError;
 
 /// How a run ended: whether the port done was 1, and after how many edges.
 #[derive(Clone, Copy, Debug, PartialEq, Eq)]
@@ -53,19 +53,19 @@ impl From<AllocError> for Stop {
     }
 }
 
-/// What a reader or a writer answers. A run reads no run file, and the errors of one don't come here.
-impl From<RunError> for Stop {
+/// What a reader or a writer of words answers.
+impl From<WordError> for Stop {
     ghost from_gives = { λ error e. e ≡ stop_of error };
 
     ghost use Rattle.simulation.specs.Errors.{stop_of};
 
-    fn from(error: RunError) -> Self {
+    fn from(error: WordError) -> Self {
         match error {
-            RunError::BadLine(file, line) => Stop::BadLine(file, line),
-            RunError::WordRange(file, line) => Stop::WordRange(file, line),
-            RunError::ReadFault => Stop::ReadFault,
-            RunError::WriteFault => Stop::WriteFault,
-            RunError::NotJson | RunError::Shape(_) | RunError::NoMemory => Stop::NoMemory,
+            WordError::BadLine(file, line) => Stop::BadLine(file, line),
+            WordError::WordRange(file, line) => Stop::WordRange(file, line),
+            WordError::ReadFault => Stop::ReadFault,
+            WordError::WriteFault => Stop::WriteFault,
+            WordError::NoMemory => Stop::NoMemory,
         }
     }
 }

@@ -6,7 +6,7 @@ use stall_source::{Pattern, program_stalls};
 use std::alloc::{AllocError, Global};
 use std::test::Fail;
 use verilog_sim::{Event, Offer, SimError};
-use word_files::RunError;
+use word_files::WordError;
 
 fn text(alloc: Global, bytes: &[u8]) -> Result<Text, AllocError> {
     Ok(Text::from_vec(bytes.to_vec(alloc)?))
@@ -59,12 +59,12 @@ fn words_are_offered_until_they_are_taken(rt: HostRuntime) -> Result<(), Fail> {
 #[test]
 fn errors_stop_a_run(rt: HostRuntime) -> Result<(), Fail> {
     let alloc = rt.alloc();
-    let bad = Stop::from(RunError::BadLine(text(alloc, b"x")?, 3));
+    let bad = Stop::from(WordError::BadLine(text(alloc, b"x")?, 3));
     assert_eq!(rt; bad, Stop::BadLine(text(alloc, b"x")?, 3));
-    let range = Stop::from(RunError::WordRange(text(alloc, b"x")?, 3));
+    let range = Stop::from(WordError::WordRange(text(alloc, b"x")?, 3));
     assert_eq!(rt; range, Stop::WordRange(text(alloc, b"x")?, 3));
-    assert_eq!(rt; Stop::from(RunError::ReadFault), Stop::ReadFault);
-    assert_eq!(rt; Stop::from(RunError::WriteFault), Stop::WriteFault);
+    assert_eq!(rt; Stop::from(WordError::ReadFault), Stop::ReadFault);
+    assert_eq!(rt; Stop::from(WordError::WriteFault), Stop::WriteFault);
     assert_eq!(rt;
         Stop::from(SimError::TooManyCells(7)),
         Stop::TooManyCells(7)

@@ -2,7 +2,8 @@ pub mod ByKernel
 pub mod CutLemmas
 pub mod FirstWrong
 pub mod KernelPorts
-pub mod Listing
+pub mod Listed
+pub mod Interfaces
 pub mod PlaceLemmas
 pub mod RoleLemmas
 pub mod RunShapes

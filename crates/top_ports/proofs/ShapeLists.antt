@@ -8,7 +8,7 @@ use Rattle.rtl_ir.specs.declared.design.Module.{Module}
 use Rattle.rtl_ir.specs.Ports.{Shape, PortView, kernel_ports, scalar_ports, host_input_ports, host_output_ports, shape_ports, is_plain_name}
 use Rattle.top_ports.specs.Shapes.{Name, IsTopShape, IsTop}
 use Rattle.top_ports.specs.Roles.{RoleView, clock, reset, hold, ticks, scalar, stream, done, is_plain_role, is_width, port_role}
-use Rattle.top_ports.specs.Listed.{kernel_in, scalar_in, input_in, output_in, gathered}
+use Rattle.top_ports.proofs.Listed.{kernel_in, scalar_in, input_in, output_in, gathered}
 use Rattle.top_ports.specs.declared.role.Side.{Side}
 use Rattle.top_ports.specs.declared.role.Side.TheVariants.{Input, Output}
 use Rattle.top_ports.specs.declared.role.Part.TheVariants.{Data, Valid, Ready}

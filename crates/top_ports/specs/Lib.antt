@@ -1,4 +1,4 @@
-pub mod Listed
+pub mod Reading
 pub mod Roles
 pub mod Shapes
 pub mod Stages

@@ -1,8 +1,7 @@
 -- The ports of a top module that can be run, and the first port with which a list of ports is that of none.
-use Rattle.std.specs.Prelude.{◌≡◌, ℕ, ◌+◌, List, [], ◌∷◌, ◌++◌, take, map, Some, slice_get, codes}
+use Rattle.std.specs.Prelude.{◌≡◌, ℕ, ◌+◌, List, [], ◌∷◌, ◌++◌, take, Some, slice_get, codes}
 use Rattle.rtl_ir.specs.declared.design.Module.{Module}
 use Rattle.rtl_ir.specs.Ports.{Shape, PortView, shape_ports, HasShape, IsShape}
-use Rattle.word_files.specs.declared.run_file.PortList.{PortList}
 
 abbrev pub Name : Type 0
 Name = List ℕ
@@ -34,10 +33,3 @@ pub record BeginsTop (ports : List PortView) : Type 0 where
 pub data IsFirstWrong (ports : List PortView) : Name → Type 0 where
   at_port : (k : ℕ) (p : PortView) → slice_get ports k ≡ Some p → BeginsTop (take k ports) → (BeginsTop (take (k + 1) ports) → ⊥) → IsFirstWrong ports p.name
   too_few : BeginsTop ports → ((s : Shape) → IsTopShape s → shape_ports s ≡ ports → ⊥) → IsFirstWrong ports (codes "done")
-
--- the list names the kernels and ports of the shape; a scalar is named by its kernel, a point and its own name
-pub record IsPortList (p : PortList) (s : Shape) : Type 0 where
-  pub kernels : p.kernels ≡ s.kernels
-  pub scalars : p.scalars ≡ map (λ (a : Name × Name × ℕ). (a.0 ++ codes "." ++ a.1, a.2)) s.scalars
-  pub inputs : p.inputs ≡ s.inputs
-  pub outputs : p.outputs ≡ s.outputs

@@ -1,14 +1,13 @@
-//! The ports of a top module that can be run: their test, and their names and widths.
+//! The ports of a top module that can be run: their test, and what they are for.
 #![tactic(auto)]
 
 mod cut;
-mod list;
+mod laws;
+mod reading;
 mod role;
 mod stage;
 mod wrong;
 
-pub use list::{one_shape, ports};
+pub use laws::one_shape;
+pub use reading::interface;
 pub use wrong::first_wrong;
-
-#[cfg(test)]
-mod tests;

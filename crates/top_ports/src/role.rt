@@ -197,7 +197,7 @@ fn fits(role: Role<'_>, width: u8, output: bool) -> bool
 pub fn port_name<'a>(top: &'a Module, port: &Port) -> &'a [u8]
     ensures { result.now ≡ name_of top.now port.now.net }
 {
-    match top.nets.get(port.net as usize) {
+    match top.net(port.net) {
         Some(net) => net.name.as_bytes(),
         None => b"",
     }
@@ -207,7 +207,7 @@ pub fn port_name<'a>(top: &'a Module, port: &Port) -> &'a [u8]
 pub fn port_role<'a>(top: &'a Module, port: &Port) -> Option<Role<'a>>
     ensures { option_map role_view result ≡ port_role (port_view top.now port.now) }
 {
-    let net = top.nets.get(port.net as usize)?;
+    let net = top.net(port.net)?;
     let role = name_role(net.name.as_bytes())?;
     if fits(role, net.width, port.output) {
         Some(role)

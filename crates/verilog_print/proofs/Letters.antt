@@ -5,7 +5,7 @@ use Rattle.std.proofs.lemmas.List.{append-nil}
 use Rattle.std.proofs.lemmas.Slice.Eq.{bytes_eq-Decides}
 use Rattle.std.specs.List.{list_all, list_any, before_first, after_first, prefix_len}
 use Rattle.std.specs.Str.{bytes_eq}
-use Rattle.grammar.specs.Bytes.{is_digit, is_hex, hex_value, decimal, hexadecimal}
+use Rattle.grammar.specs.Bytes.{is_digit, is_hex, hex_value, decimal_value, hexadecimal}
 use Rattle.grammar.specs.Tokens.{is_blank}
 use Rattle.rtl_text.specs.Tokens.{Token, is_quote, is_sign, is_word, is_number, is_literal, is_hex_part, signs, token_of}
 use Rattle.rtl_ir.specs.Names.{begins_name, continues_name}
@@ -143,7 +143,7 @@ number_stops d ds b h k q more =
     let e3 : is_literal (d ∷ ds ++ b ∷ more) ≡ false = rw (before_digits (d ∷ ds) (b ∷ more) h, before_one b more q, all_stop is_digit (d ∷ ds) b (before_first is_quote more) k) refl in
     no_token (d ∷ ds ++ b ∷ more) e1 e2 e3 (no_sign is_digit d (ds ++ b ∷ more) refl digit)
 
-pub number_is : (d : ℕ) (ds : List ℕ) → list_all is_digit (d ∷ ds) ≡ true → token_of (d ∷ ds) ≡ Some (Token.Number (decimal (d ∷ ds)))
+pub number_is : (d : ℕ) (ds : List ℕ) → list_all is_digit (d ∷ ds) ≡ true → token_of (d ∷ ds) ≡ Some (Token.Number (decimal_value (d ∷ ds)))
 number_is d ds h =
     let digit : is_digit d ≡ true = and_left (is_digit d) (list_all is_digit ds) h in
     let e1 : is_word (d ∷ ds) ≡ false = rw (digit_no_name d digit) refl in
@@ -162,7 +162,7 @@ literal_stops d ds e es b h k more =
     let e3 : is_literal (d ∷ ds ++ 39 ∷ tail) ≡ false = rw e5 (and_false (is_number (before_first is_quote (d ∷ ds ++ 39 ∷ tail)))) in
     no_token (d ∷ ds ++ 39 ∷ tail) e1 e2 e3 (no_sign is_digit d (ds ++ 39 ∷ tail) refl digit)
 
-pub literal_is : (d : ℕ) (ds : List ℕ) (e : ℕ) (es : List ℕ) → list_all is_digit (d ∷ ds) ≡ true → list_all is_hex (e ∷ es) ≡ true → token_of (d ∷ ds ++ 39 ∷ 104 ∷ e ∷ es) ≡ Some (Token.Literal (decimal (d ∷ ds)) (hexadecimal (e ∷ es)))
+pub literal_is : (d : ℕ) (ds : List ℕ) (e : ℕ) (es : List ℕ) → list_all is_digit (d ∷ ds) ≡ true → list_all is_hex (e ∷ es) ≡ true → token_of (d ∷ ds ++ 39 ∷ 104 ∷ e ∷ es) ≡ Some (Token.Literal (decimal_value (d ∷ ds)) (hexadecimal (e ∷ es)))
 literal_is d ds e es h k =
     let digit : is_digit d ≡ true = and_left (is_digit d) (list_all is_digit ds) h in
     let tail : List ℕ = 104 ∷ e ∷ es in

@@ -13,3 +13,9 @@ pub mod Spelling
 pub mod Steps
 pub mod Trees
 pub mod Whole
+pub mod Order
+pub mod Renumber
+pub mod Moves
+pub mod Lines
+pub mod Plain
+pub mod Examples

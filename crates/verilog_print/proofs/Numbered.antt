@@ -25,7 +25,7 @@ here_or : (p : Port) (n : ℕ) (others b : Bool) → (p.net == n) ≡ b → ((p.
 here_or p n others true t f = rw t refl
 here_or p n others false t f = rw (f (λ same. let yes : (p.net == n) ≡ true = (Decides-eqb p.net n).1 same in cc)) (or_true (p.net == n))
 
-is_port_within : (ports : List Port) (k n : ℕ) → map (λ (p : Port). p.net) ports ≡ numbers_from k ports → k ≤ n → n < k + length ports → is_port ports n ≡ true
+pub is_port_within : (ports : List Port) (k n : ℕ) → map (λ (p : Port). p.net) ports ≡ numbers_from k ports → k ≤ n → n < k + length ports → is_port ports n ≡ true
 is_port_within [] k n e h l = absurd (omega arith)
 is_port_within (p ∷ ports) k n e h l =
     let first : p.net ≡ k = cc in
@@ -39,7 +39,7 @@ neither p n others apart e = go (p.net == n) refl
     go true t = absurd (apart ((Decides-eqb p.net n).0 t))
     go false t = e
 
-is_port_past : (ports : List Port) (k n : ℕ) → map (λ (p : Port). p.net) ports ≡ numbers_from k ports → k + length ports ≤ n → is_port ports n ≡ false
+pub is_port_past : (ports : List Port) (k n : ℕ) → map (λ (p : Port). p.net) ports ≡ numbers_from k ports → k + length ports ≤ n → is_port ports n ≡ false
 is_port_past [] k n e h = refl
 is_port_past (p ∷ ports) k n e h =
     let first : p.net ≡ k = cc in
@@ -80,7 +80,7 @@ always_none m (u ∷ us) = refl
 net_of : (n : Net) (reg : Bool) → n.reg ≡ reg → (record { name = n.name; width = n.width; reg = reg }) ≡ n
 net_of n reg e = ap (λ r. record { name = n.name; width = n.width; reg = r }) (sym e)
 
-own_net : (n : Net) (reg : Bool) (is : List ItemTree) → n.reg ≡ reg → item_nets (net_item reg false n ++ is) ≡ n ∷ item_nets is
+pub own_net : (n : Net) (reg : Bool) (is : List ItemTree) → n.reg ≡ reg → item_nets (net_item reg false n ++ is) ≡ n ∷ item_nets is
 unfolding net_item
 own_net n true is e = ap (λ x. x ∷ item_nets is) (net_of n true e)
 own_net n false is e = ap (λ x. x ∷ item_nets is) (net_of n false e)
@@ -99,11 +99,11 @@ unfolding port_of
 port_net_of true n e = net_of n false e
 port_net_of false n e = net_of n false e
 
-port_net_is : (nets : List Net) (p : Port) (n : Net) → slice_get nets p.net ≡ Some n → n.reg ≡ false → port_net (port_tree nets p) ≡ n
+pub port_net_is : (nets : List Net) (p : Port) (n : Net) → slice_get nets p.net ≡ Some n → n.reg ≡ false → port_net (port_tree nets p) ≡ n
 unfolding port_tree
 port_net_is nets p n e r = rw e (port_net_of p.output n r)
 
-no_item : (n : Net) (reg : Bool) (is : List ItemTree) → reg ≡ false → net_item reg true n ++ is ≡ is
+pub no_item : (n : Net) (reg : Bool) (is : List ItemTree) → reg ≡ false → net_item reg true n ++ is ≡ is
 unfolding net_item
 no_item n true is e = cc
 no_item n false is e = refl
@@ -135,22 +135,26 @@ nets_in_order all m (p ∷ ports) (n ∷ nets) k e at f g formed =
     let behind : nets ≡ map port_net (map (port_tree m.nets) ports) ++ item_nets (net_item n.reg (is_port all k) n ++ net_items all (k + 1) nets) = left ∙ ap (λ l. map port_net (map (port_tree m.nets) ports) ++ item_nets l) (sym skipped) in
     ap (λ x. x ∷ nets) (sym (port_net_is m.nets p n own wire)) ∙ ap (λ l. port_net (port_tree m.nets p) ∷ l) behind
 
-numbers_same : {A B : Type 0} (f : A → B) (k : ℕ) (xs : List A) → numbers_from k (map f xs) ≡ numbers_from k xs
+pub numbers_same : {A B : Type 0} (f : A → B) (k : ℕ) (xs : List A) → numbers_from k (map f xs) ≡ numbers_from k xs
 numbers_same f k [] = refl
 numbers_same f k (x ∷ xs) = ap (λ l. k ∷ l) (numbers_same f (k + 1) xs)
 
-module_numbered : (modules earlier : List Module) (m : Module) → IsFormedModule earlier m → IsPortsFirst m → IsNumbered (module_tree modules m) m
-unfolding module_tree items_of
-module_numbered modules earlier m f first =
-    let zero_at : (j : ℕ) → slice_get m.nets (0 + j) ≡ slice_get m.nets j = λ j. let same : 0 + j ≡ j = omega arith in ap (slice_get m.nets) same in
+-- the items of a module declare what its nets do
+pub items_declare : (modules : List Module) (m : Module) → item_nets (items_of modules m) ≡ item_nets (net_items m.ports 0 m.nets)
+unfolding items_of
+items_declare modules m =
     let us : List ItemTree = always_items m m.updates ++ [] in
     let is : List ItemTree = map (instance_item modules m) m.instances ++ us in
     let bs : List ItemTree = map (assign_item m) m.assigns ++ is in
     let none : item_nets (map memory_item m.mems ++ bs) ≡ [] = memories_none m.mems bs ∙ assigns_none m m.assigns is ∙ instances_none modules m m.instances us ∙ always_none m m.updates in
-    let items : item_nets (net_items m.ports 0 m.nets ++ (map memory_item m.mems ++ bs)) ≡ item_nets (net_items m.ports 0 m.nets) =
-    item_nets_both (net_items m.ports 0 m.nets) (map memory_item m.mems ++ bs) ∙ ap (λ l. item_nets (net_items m.ports 0 m.nets) ++ l) none ∙ append-nil (item_nets (net_items m.ports 0 m.nets)) in
+    item_nets_both (net_items m.ports 0 m.nets) (map memory_item m.mems ++ bs) ∙ ap (λ l. item_nets (net_items m.ports 0 m.nets) ++ l) none ∙ append-nil (item_nets (net_items m.ports 0 m.nets))
+
+module_numbered : (modules earlier : List Module) (m : Module) → IsFormedModule earlier m → IsPortsFirst m → IsNumbered (module_tree modules m) m
+unfolding module_tree
+module_numbered modules earlier m f first =
+    let zero_at : (j : ℕ) → slice_get m.nets (0 + j) ≡ slice_get m.nets j = λ j. let same : 0 + j ≡ j = omega arith in ap (slice_get m.nets) same in
     record {
-      nets = nets_in_order m.ports m m.ports m.nets 0 first zero_at (λ n h l. is_port_within m.ports 0 n first h l) (λ n h. is_port_past m.ports 0 n first h) f.ports ∙ ap (λ l. map port_net (map (port_tree m.nets) m.ports) ++ l) (sym items);
+      nets = nets_in_order m.ports m m.ports m.nets 0 first zero_at (λ n h l. is_port_within m.ports 0 n first h l) (λ n h. is_port_past m.ports 0 n first h) f.ports ∙ ap (λ l. map port_net (map (port_tree m.nets) m.ports) ++ l) (sym (items_declare modules m));
       ports = first ∙ sym (numbers_same (port_tree m.nets) 0 m.ports);
     }
 

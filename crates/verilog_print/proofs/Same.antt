@@ -199,7 +199,7 @@ instances_are : (d : Design) (m : Module) (instances : List Instance) (earlier :
 instances_are d m [] earlier o f = tt
 instances_are d m (i ∷ instances) earlier o f = (instance_is d m i earlier (o 0 i refl) (f 0 i refl), instances_are d m instances earlier (λ k x e. o (suc k) x e) (λ k x e. f (suc k) x e))
 
-module_is : (d : Design) (m : Module) → IsPart d.modules m → ModuleIs d (module_tree d.modules m) m
+pub module_is : (d : Design) (m : Module) → IsPart d.modules m → ModuleIs d (module_tree d.modules m) m
 unfolding module_tree items_of
 module_is d m part =
     let f : IsFormedModule part.earlier m = part.formed in

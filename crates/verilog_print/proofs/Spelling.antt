@@ -2,7 +2,7 @@
 use Rattle.std.proofs.Common.{◌≡◌, ◌∙◌, ℕ, Bool, true, false, ◌&&◌, ◌==◌, not, List, [], ◌∷◌, ◌++◌, refl, sym, ap, subst, Some, None, append_assoc}
 use Rattle.std.specs.Prelude.{IsSome, codes}
 use Rattle.std.specs.List.{list_all}
-use Rattle.grammar.specs.Bytes.{is_digit, is_hex, decimal, hexadecimal}
+use Rattle.grammar.specs.Bytes.{is_digit, is_hex, decimal_value, hexadecimal}
 use Rattle.grammar.specs.Tokens.{Reads, Gaps, is_blank}
 use Rattle.grammar.specs.Stack.{Runs}
 use Rattle.rtl_text.specs.Tokens.{Token, token_of, Apart, IsTokens, is_word, is_quote, is_sign}
@@ -137,7 +137,7 @@ id {w = n ∷ ns} {b = b} h k r =
     let w : List ℕ = n ∷ ns in
     word w b (refl, not_true (is_reserved w) (and_right (is_word w) (not (is_reserved w)) h)) (and_left (is_word w) (not (is_reserved w)) h) k r
 
-pub number_then : {ps : List Part} {rest : List ℕ} (d : ℕ) (ds : List ℕ) (n b : ℕ) → list_all is_digit (d ∷ ds) ≡ true → decimal (d ∷ ds) ≡ n → is_digit b ≡ false → is_quote b ≡ false
+pub number_then : {ps : List Part} {rest : List ℕ} (d : ℕ) (ds : List ℕ) (n b : ℕ) → list_all is_digit (d ∷ ds) ≡ true → decimal_value (d ∷ ds) ≡ n → is_digit b ≡ false → is_quote b ≡ false
     → Spells ps (b ∷ rest) → Spells (Part.Number n ∷ ps) (d ∷ ds ++ b ∷ rest)
 number_then {rest = rest} d ds n b h e k q r =
     let digit : is_digit d ≡ true = and_left (is_digit d) (list_all is_digit ds) h in
@@ -148,7 +148,7 @@ number {n = n} {b = b} {rest = rest} h k r =
     let a : AreDigits 10 is_digit n (digits 10 n) = decimal_digits n in
     rw a.some (number_then a.first a.rest n b (rw a.some at a.pass) (rw a.some at a.say) h k r)
 
-literal_then : {ps : List Part} {rest : List ℕ} (d : ℕ) (ds : List ℕ) (e : ℕ) (es : List ℕ) (w n b : ℕ) → list_all is_digit (d ∷ ds) ≡ true → decimal (d ∷ ds) ≡ w → list_all is_hex (e ∷ es) ≡ true → hexadecimal (e ∷ es) ≡ n → is_hex b ≡ false
+literal_then : {ps : List Part} {rest : List ℕ} (d : ℕ) (ds : List ℕ) (e : ℕ) (es : List ℕ) (w n b : ℕ) → list_all is_digit (d ∷ ds) ≡ true → decimal_value (d ∷ ds) ≡ w → list_all is_hex (e ∷ es) ≡ true → hexadecimal (e ∷ es) ≡ n → is_hex b ≡ false
     → Spells ps (b ∷ rest) → Spells (Part.Literal w n ∷ ps) (d ∷ ds ++ 39 ∷ 104 ∷ (e ∷ es ++ b ∷ rest))
 literal_then {ps = ps} {rest = rest} d ds e es w n b h wide k value stop r =
     let digit : is_digit d ≡ true = and_left (is_digit d) (list_all is_digit ds) h in

@@ -19,7 +19,8 @@ use Rattle.rtl_ir.specs.Names.{is_name, continues_name}
 use Rattle.rtl_ir.specs.Value.{net_width}
 use Rattle.rtl_ir.specs.Formed.{IsFormedNet, IsFormedPort, IsFormedExpr, IsFormedAssign, IsFormedMem, IsFormedUpdate, IsFormedModule, net_name}
 use Rattle.rtl_text.specs.Tree.{Name, PortTree, InputPort, OutputPort, ExprTree, PlainTree, LiteralTree, NotTree, BinaryTree, ConcatTree, RepeatTree, PartTree, ChooseTree, CellTree, ItemTree, WireItem, RegisterItem, MemoryItem, AssignItem, AlwaysItem, UpdateTree, RegisterUpdate, CellUpdate}
-use Rattle.rtl_text.specs.Productions.{Part, Choice, sign_bytes}
+use Rattle.rtl_text.specs.Productions.{Part, Choice}
+use Rattle.rtl_ir.specs.Spelling.{sign_bytes}
 use Rattle.rtl_text.specs.Text.{is_port}
 use Rattle.verilog_print.specs.Printed.{digits, net_text, declared, mem_name, name_of, direction_text, port_text, ports_text, declaration_text, nets_text, expr_text, assign_text, memory_text, update_text, updates_text, target_text, cell_text}
 use Rattle.verilog_print.proofs.Spelling.{Spells, pick, blank, lone, sign, word, id, number, number_then, literal, slash, equal, at_most}

@@ -13,7 +13,7 @@ use Rattle.rtl_ir.specs.declared.design.Update.{Update}
 use Rattle.rtl_ir.specs.declared.design.Instance.{Instance}
 use Rattle.rtl_ir.specs.declared.design.Module.{Module}
 use Rattle.rtl_ir.specs.Formed.{net_name}
-use Rattle.rtl_text.specs.Productions.{sign_bytes}
+use Rattle.rtl_ir.specs.Spelling.{sign_bytes}
 use Rattle.rtl_text.specs.Text.{Declared, is_port}
 
 -- a text, and what stands before it

@@ -1,31 +1,31 @@
 // The right sides of assignments.
 ghost use Rattle.std.specs.Prelude.{◌≡◌, ◌++◌, OnOk, codes, slice_get};
 ghost use Rattle.verilog_print.specs.Printed.{digits, name_of, mem_name, expr_text};
-ghost use Rattle.rtl_text.specs.Productions.{sign_bytes};
+ghost use Rattle.rtl_ir.specs.Spelling.{sign_bytes};
 
 use crate::printer::Printer;
 use mx_base::NoMemory;
 use mx_bits::Word;
-use rtl_ir::{Expr, Mem, Module, Net, Sign};
+use rtl_ir::{Expr, Mem, MemId, Module, Net, NetId, Sign};
 
 impl Printer {
     /// The name of a net; nothing for a number of no net.
-    pub fn name(&mut self, nets: &[Net], number: u32) -> Result<(), NoMemory>
+    pub fn name(&mut self, nets: &[Net], number: NetId) -> Result<(), NoMemory>
         ensures ok { OnOk result (self.new.text ≡ self.old.text ++ name_of nets.now number) }
         ensures kept { self.new.before ≡ self.old.before }
     {
-        match nets.get(number as usize) {
+        match nets.get(number.index()) {
             Some(net) => self.bytes(net.name.as_bytes()),
             None => Ok(()),
         }
     }
 
     /// The name of a memory; nothing for a number of no memory.
-    pub fn memory(&mut self, mems: &[Mem], number: u32) -> Result<(), NoMemory>
+    pub fn memory(&mut self, mems: &[Mem], number: MemId) -> Result<(), NoMemory>
         ensures ok { OnOk result (self.new.text ≡ self.old.text ++ mem_name (slice_get mems.now number)) }
         ensures kept { self.new.before ≡ self.old.before }
     {
-        match mems.get(number as usize) {
+        match mems.get(number.index()) {
             Some(mem) => self.bytes(mem.name.as_bytes()),
             None => Ok(()),
         }
@@ -63,18 +63,24 @@ impl Printer {
     }
 
     // A blank on both sides of the sign, so that no comment begins.
-    fn binary(&mut self, nets: &[Net], sign: Sign, left: u32, right: u32) -> Result<(), NoMemory>
+    fn binary(
+        &mut self,
+        nets: &[Net],
+        sign: Sign,
+        left: NetId,
+        right: NetId,
+    ) -> Result<(), NoMemory>
         ensures ok { OnOk result (self.new.text ≡ self.old.text ++ (name_of nets.now left ++ codes " " ++ sign_bytes sign ++ codes " " ++ name_of nets.now right)) }
         ensures kept { self.new.before ≡ self.old.before }
     {
         self.name(nets, left)?;
         self.bytes(b" ")?;
-        self.bytes(spelling(sign))?;
+        self.bytes(sign.spelling())?;
         self.bytes(b" ")?;
         self.name(nets, right)
     }
 
-    fn concat(&mut self, nets: &[Net], high: u32, low: u32) -> Result<(), NoMemory>
+    fn concat(&mut self, nets: &[Net], high: NetId, low: NetId) -> Result<(), NoMemory>
         ensures ok { OnOk result (self.new.text ≡ self.old.text ++ (codes "{" ++ name_of nets.now high ++ codes ", " ++ name_of nets.now low ++ codes "}")) }
         ensures kept { self.new.before ≡ self.old.before }
     {
@@ -85,7 +91,7 @@ impl Printer {
         self.bytes(b"}")
     }
 
-    fn repeat(&mut self, nets: &[Net], count: u8, net: u32) -> Result<(), NoMemory>
+    fn repeat(&mut self, nets: &[Net], count: u8, net: NetId) -> Result<(), NoMemory>
         ensures ok { OnOk result (self.new.text ≡ self.old.text ++ (codes "{" ++ digits 10 count ++ codes "{" ++ name_of nets.now net ++ codes "}}")) }
         ensures kept { self.new.before ≡ self.old.before }
     {
@@ -96,7 +102,7 @@ impl Printer {
         self.bytes(b"}}")
     }
 
-    fn part(&mut self, nets: &[Net], net: u32, high: u8, low: u8) -> Result<(), NoMemory>
+    fn part(&mut self, nets: &[Net], net: NetId, high: u8, low: u8) -> Result<(), NoMemory>
         ensures ok { OnOk result (self.new.text ≡ self.old.text ++ (name_of nets.now net ++ codes "[" ++ digits 10 high ++ codes ":" ++ digits 10 low ++ codes "]")) }
         ensures kept { self.new.before ≡ self.old.before }
     {
@@ -108,7 +114,7 @@ impl Printer {
         self.bytes(b"]")
     }
 
-    fn choose(&mut self, nets: &[Net], test: u32, one: u32, zero: u32) -> Result<(), NoMemory>
+    fn choose(&mut self, nets: &[Net], test: NetId, one: NetId, zero: NetId) -> Result<(), NoMemory>
         ensures ok { OnOk result (self.new.text ≡ self.old.text ++ (name_of nets.now test ++ codes " ? " ++ name_of nets.now one ++ codes " : " ++ name_of nets.now zero)) }
         ensures kept { self.new.before ≡ self.old.before }
     {
@@ -120,7 +126,7 @@ impl Printer {
     }
 
     /// A word of a memory.
-    pub fn cell(&mut self, module: &Module, memory: u32, address: u32) -> Result<(), NoMemory>
+    pub fn cell(&mut self, module: &Module, memory: MemId, address: NetId) -> Result<(), NoMemory>
         ensures ok { OnOk result (self.new.text ≡ self.old.text ++ (mem_name (slice_get «module».now.mems memory) ++ codes "[" ++ name_of «module».now.nets address ++ codes "]")) }
         ensures kept { self.new.before ≡ self.old.before }
     {
@@ -128,22 +134,5 @@ impl Printer {
         self.bytes(b"[")?;
         self.name(module.nets.as_slice(), address)?;
         self.bytes(b"]")
-    }
-}
-
-// How a sign is written.
-fn spelling(sign: Sign) -> &'static [u8]
-    ensures { result.now ≡ sign_bytes sign }
-{
-    match sign {
-        Sign::Add => b"+",
-        Sign::Sub => b"-",
-        Sign::Mul => b"*",
-        Sign::Div => b"/",
-        Sign::And => b"&",
-        Sign::Or => b"|",
-        Sign::Xor => b"^",
-        Sign::Eq => b"==",
-        Sign::Lt => b"<",
     }
 }

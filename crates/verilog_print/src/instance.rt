@@ -5,7 +5,7 @@ ghost use Rattle.verilog_print.specs.Printed.{instance_text, instance_line, conn
 
 use crate::printer::Printer;
 use mx_base::NoMemory;
-use rtl_ir::{Instance, Module, Net, Port};
+use rtl_ir::{Instance, Module, Net, NetId, Port};
 
 impl Printer {
     /// The instances (IEEE 1364-2005, 12.1.2), each of one of these modules.
@@ -30,7 +30,7 @@ impl Printer {
         ensures ok { OnOk result (self.new.text ≡ self.old.text ++ instance_text modules.now outer.now instance.now) }
         ensures kept { self.new.before ≡ self.old.before }
     {
-        match modules.get(instance.module as usize) {
+        match modules.get(instance.module.index()) {
             Some(inner) => self.instance_of(outer.nets.as_slice(), inner, instance),
             None => Ok(()),
         }
@@ -55,7 +55,12 @@ impl Printer {
     }
 
     // The ports of the inner module, each with the net of the outer one that it is joined to.
-    fn connections(&mut self, outer: &[Net], inner: &Module, joined: &[u32]) -> Result<(), NoMemory>
+    fn connections(
+        &mut self,
+        outer: &[Net],
+        inner: &Module,
+        joined: &[NetId],
+    ) -> Result<(), NoMemory>
         ensures ok { OnOk result (self.new.text ≡ self.old.text ++ connections_text outer.now inner.now.nets (zip inner.now.ports joined.now)) }
         ensures kept { self.new.before ≡ self.old.before }
     {
@@ -73,7 +78,7 @@ impl Printer {
         outer: &[Net],
         inner: &[Net],
         port: Port,
-        net: u32,
+        net: NetId,
     ) -> Result<(), NoMemory>
         ensures ok { OnOk result (self.new.text ≡ self.old.text ++ connection_text outer.now inner.now (port, net)) }
         ensures kept { self.new.before ≡ self.old.before }

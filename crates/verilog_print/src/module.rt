@@ -64,7 +64,7 @@ impl Printer {
         } else {
             b"input wire "
         })?;
-        match nets.get(port.net as usize) {
+        match nets.get(port.net.index()) {
             Some(net) => self.declared(net),
             None => Ok(()),
         }
@@ -142,7 +142,7 @@ fn port_nets(alloc: Global, ports: &[Port], count: usize) -> Result<Vec<bool>, N
         joined.push(false)?;
     }
     for port in ports {
-        let number = port.net as usize;
+        let number = port.net.index();
         if number < joined.len() {
             joined[number] = true;
         }

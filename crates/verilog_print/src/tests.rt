@@ -4,7 +4,9 @@ ghost use Rattle.std.specs.Prelude.{◌<◌, length};
 use crate::printer::Printer;
 use mx_base::{List, NoMemory, Text};
 use mx_bits::Word;
-use rtl_ir::{Assign, Expr, Instance, Mem, Module, Net, Port, Sign, Target, Update};
+use rtl_ir::{
+    Assign, Expr, Instance, Mem, MemId, Module, ModuleId, Net, NetId, Port, Sign, Target, Update,
+};
 use std::alloc::Global;
 
 fn text(alloc: Global, name: &str) -> Result<Text, NoMemory> {
@@ -38,7 +40,7 @@ fn module(
     let mut ports = Vec::new(alloc);
     for (net, output) in outputs.iter().enumerate() {
         ports.push(Port {
-            net: net as u32,
+            net: NetId::new(net as u32),
             output: *output,
         })?;
     }
@@ -53,8 +55,15 @@ fn module(
     })
 }
 
+fn net(number: u32) -> NetId {
+    NetId::new(number)
+}
+
 fn assign(target: u32, expr: Expr) -> Assign {
-    Assign { target, expr }
+    Assign {
+        target: net(target),
+        expr,
+    }
 }
 
 fn printed<const N: usize>(alloc: Global, modules: [Module; N]) -> Result<Vec<u8>, NoMemory> {
@@ -87,10 +96,10 @@ fn double(alloc: Global) -> Result<Module, NoMemory> {
         false, false, false, false, false, false, true, true, true, false, true,
     ];
     let assigns = [
-        assign(11, Expr::Not(2)),
-        assign(7, Expr::Binary(Sign::Add, 4, 4)),
-        assign(8, Expr::Binary(Sign::And, 5, 11)),
-        assign(6, Expr::Binary(Sign::And, 9, 11)),
+        assign(11, Expr::Not(net(2))),
+        assign(7, Expr::Binary(Sign::Add, net(4), net(4))),
+        assign(8, Expr::Binary(Sign::And, net(5), net(11))),
+        assign(6, Expr::Binary(Sign::And, net(9), net(11))),
         assign(10, Expr::Literal(Word::new(0, 1))),
     ];
     module(alloc, "top$project", nets, &outputs, &assigns)
@@ -122,20 +131,20 @@ endmodule
 fn forms(alloc: Global) -> Result<Module, NoMemory> {
     let nets = nets(alloc, &[("clk", 1), ("reset", 1), ("a", 4), ("b", 8)])?;
     let assigns = [
-        assign(2, Expr::Net(2)),
+        assign(2, Expr::Net(net(2))),
         assign(3, Expr::Literal(Word::new(0xabc0_1234_5678_9def, 128))),
-        assign(3, Expr::Not(3)),
-        assign(2, Expr::Binary(Sign::Sub, 2, 3)),
-        assign(2, Expr::Binary(Sign::Mul, 2, 3)),
-        assign(2, Expr::Binary(Sign::Div, 2, 3)),
-        assign(2, Expr::Binary(Sign::Or, 2, 3)),
-        assign(2, Expr::Binary(Sign::Xor, 2, 3)),
-        assign(2, Expr::Binary(Sign::Eq, 2, 3)),
-        assign(2, Expr::Binary(Sign::Lt, 2, 3)),
-        assign(3, Expr::Concat(2, 3)),
-        assign(3, Expr::Repeat(12, 0)),
-        assign(3, Expr::Part(3, 107, 9)),
-        assign(3, Expr::Choose(0, 2, 3)),
+        assign(3, Expr::Not(net(3))),
+        assign(2, Expr::Binary(Sign::Sub, net(2), net(3))),
+        assign(2, Expr::Binary(Sign::Mul, net(2), net(3))),
+        assign(2, Expr::Binary(Sign::Div, net(2), net(3))),
+        assign(2, Expr::Binary(Sign::Or, net(2), net(3))),
+        assign(2, Expr::Binary(Sign::Xor, net(2), net(3))),
+        assign(2, Expr::Binary(Sign::Eq, net(2), net(3))),
+        assign(2, Expr::Binary(Sign::Lt, net(2), net(3))),
+        assign(3, Expr::Concat(net(2), net(3))),
+        assign(3, Expr::Repeat(12, net(0))),
+        assign(3, Expr::Part(net(3), 107, 9)),
+        assign(3, Expr::Choose(net(0), net(2), net(3))),
     ];
     module(alloc, "m", nets, &[false, false], &assigns)
 }
@@ -170,7 +179,7 @@ fn store(alloc: Global) -> Result<Module, NoMemory> {
         "store",
         nets(alloc, &[("clk", 1), ("reset", 1), ("go", 1), ("next", 4)])?,
         &[false, false, false],
-        &[assign(3, Expr::Cell(0, 4))],
+        &[assign(3, Expr::Cell(MemId::new(0), net(4)))],
     )?;
     let mut nets = counter.nets.into_vec();
     nets.push(Net {
@@ -186,14 +195,14 @@ fn store(alloc: Global) -> Result<Module, NoMemory> {
     })?;
     let updates = [
         Update {
-            enable: 2,
-            target: Target::Reg(4),
-            value: 3,
+            enable: net(2),
+            target: Target::Reg(net(4)),
+            value: net(3),
         },
         Update {
-            enable: 2,
-            target: Target::Cell(0, 4),
-            value: 3,
+            enable: net(2),
+            target: Target::Cell(MemId::new(0), net(4)),
+            value: net(3),
         },
     ];
     counter.nets = List::from_vec(nets);
@@ -222,7 +231,13 @@ endmodule
 fn turn(alloc: Global) -> Result<Module, NoMemory> {
     let nets = nets(alloc, &[("clk", 1), ("reset", 1), ("a", 8), ("b", 8)])?;
     let outputs = [false, false, false, true];
-    module(alloc, "turn", nets, &outputs, &[assign(3, Expr::Not(2))])
+    module(
+        alloc,
+        "turn",
+        nets,
+        &outputs,
+        &[assign(3, Expr::Not(net(2)))],
+    )
 }
 
 fn twice(alloc: Global) -> Result<Module, NoMemory> {
@@ -242,10 +257,14 @@ fn twice(alloc: Global) -> Result<Module, NoMemory> {
 
 // An instance of the first module.
 fn instance(alloc: Global, name: &str, nets: &[u32]) -> Result<Instance, NoMemory> {
+    let mut joined = Vec::new(alloc);
+    for number in nets {
+        joined.push(net(*number))?;
+    }
     Ok(Instance {
-        module: 0,
+        module: ModuleId::new(0),
         name: text(alloc, name)?,
-        nets: List::from_vec(Vec::from_slice(alloc, nets)?),
+        nets: List::from_vec(joined),
     })
 }
 

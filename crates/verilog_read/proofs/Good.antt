@@ -4,7 +4,7 @@ use Rattle.std.specs.Prelude.{slice_get}
 use Rattle.std.specs.List.{list_all}
 use Rattle.grammar.specs.Grammar.{Derives}
 use Rattle.grammar.specs.Tokens.{Reads, Gaps}
-use Rattle.grammar.specs.Bytes.{decimal, hexadecimal}
+use Rattle.grammar.specs.Bytes.{decimal_value, hexadecimal}
 use Rattle.std.specs.List.{before_first, after_first}
 use Rattle.rtl_ir.specs.Names.{is_name, is_reserved, begins_name, continues_name}
 use Rattle.rtl_text.specs.Tokens.{Token, token_of, is_word, is_number, is_literal, is_sign, is_quote, hex_digits, Apart}
@@ -157,7 +157,7 @@ word_good word t e = by_word (is_word word) refl (is_number word) (is_literal wo
     some_is e = cc
 
     by_word : (a : Bool) → is_word word ≡ a → (b c d : Bool)
-        → cond a (Some (Token.Word word)) (cond b (Some (Token.Number (decimal word))) (cond c (Some (Token.Literal (decimal (before_first is_quote word)) (hexadecimal (hex_digits (after_first is_quote word))))) (cond d (Some (Token.Sign word)) None))) ≡ Some t → GoodToken t
+        → cond a (Some (Token.Word word)) (cond b (Some (Token.Number (decimal_value word))) (cond c (Some (Token.Literal (decimal_value (before_first is_quote word)) (hexadecimal (hex_digits (after_first is_quote word))))) (cond d (Some (Token.Sign word)) None))) ≡ Some t → GoodToken t
     by_word true h b c d e = subst GoodToken (some_is e) h
     by_word false h true c d e = subst GoodToken (some_is e) tt
     by_word false h false true d e = subst GoodToken (some_is e) tt

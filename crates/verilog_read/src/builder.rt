@@ -8,7 +8,7 @@ ghost use Rattle.verilog_read.specs.Walk.{IsBuilt, HasTables};
 
 use crate::declared::Declared;
 use mx_base::{List, NoMemory, Text};
-use rtl_ir::{Mem, Module, Net};
+use rtl_ir::{Mem, Module, Net, NetId};
 use std::alloc::Global;
 
 /// A module, and the numbers of what it declares.
@@ -62,7 +62,7 @@ impl<'a> Builder<'a> {
         name: &'a [u8],
         width: u8,
         reg: bool,
-    ) -> Result<u32, NoMemory>
+    ) -> Result<NetId, NoMemory>
         ensures number { IfOk result (λ n. n ≡ length self.old.module.nets) }
         ensures module { IfOk result (λ n. self.new.module ≡ record self.old.module {
           nets = self.old.module.nets ++ record { name = name.now; width = width; reg = reg } ∷ [];
@@ -77,7 +77,7 @@ impl<'a> Builder<'a> {
             reg,
         };
         self.module.nets.push(net)?;
-        Ok(number)
+        Ok(NetId::new(number))
     }
 
     /// Declares a memory.

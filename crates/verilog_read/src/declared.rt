@@ -11,6 +11,7 @@ ghost use Rattle.verilog_read.specs.Walk.{Gives, HasTables};
 use crate::fault::Fault;
 use crate::table::Table;
 use mx_base::NoMemory;
+use rtl_ir::{MemId, NetId};
 use std::alloc::Global;
 
 /// The numbers of a module's nets, of those that are registers, and of its memories, by name.
@@ -54,34 +55,34 @@ impl<'a> Declared<'a> {
     }
 
     /// The net of this name.
-    pub(crate) fn net(&self, name: &'a [u8]) -> Result<u32, Fault<'a>>
+    pub(crate) fn net(&self, name: &'a [u8]) -> Result<NetId, Fault<'a>>
         ensures { (sc : Scope) (m : Module) → HasNets sc m → HasTables m self.now
             → Gives result (net sc name.now ∷ []) (IsNet m name.now) }
     {
         match self.nets.number(name) {
-            Some(net) => Ok(net),
+            Some(net) => Ok(NetId::new(net)),
             None => Err(Fault::Unknown(name)),
         }
     }
 
     /// The register of this name.
-    pub(crate) fn register(&self, name: &'a [u8]) -> Result<u32, Fault<'a>>
+    pub(crate) fn register(&self, name: &'a [u8]) -> Result<NetId, Fault<'a>>
         ensures { (sc : Scope) (m : Module) → HasNets sc m → HasTables m self.now
             → Gives result (register sc name.now ∷ []) (IsNet m name.now) }
     {
         match self.registers.number(name) {
-            Some(register) => Ok(register),
+            Some(register) => Ok(NetId::new(register)),
             None => Err(Fault::Unknown(name)),
         }
     }
 
     /// The memory of this name.
-    pub(crate) fn memory(&self, name: &'a [u8]) -> Result<u32, Fault<'a>>
+    pub(crate) fn memory(&self, name: &'a [u8]) -> Result<MemId, Fault<'a>>
         ensures { (sc : Scope) (m : Module) → HasNets sc m → HasTables m self.now
             → Gives result (memory sc name.now ∷ []) (IsMem m name.now) }
     {
         match self.memories.number(name) {
-            Some(memory) => Ok(memory),
+            Some(memory) => Ok(MemId::new(memory)),
             None => Err(Fault::Unknown(name)),
         }
     }

@@ -14,7 +14,7 @@ use crate::declared::Declared;
 use crate::fault::Fault;
 use crate::table::Table;
 use mx_base::{List, NoMemory};
-use rtl_ir::Instance;
+use rtl_ir::{Instance, ModuleId, NetId};
 use std::alloc::Global;
 use verilog_syntax::{Connection, ModuleTree, PortTree};
 
@@ -48,7 +48,7 @@ fn port_numbers<'a>(alloc: Global, ports: &[PortTree<'a>]) -> Result<Table<'a>, 
 /// The place of a port that no connection has joined yet.
 fn free_place<'a>(
     numbers: &Table<'a>,
-    nets: &[Option<u32>],
+    nets: &[Option<NetId>],
     port: &'a [u8],
 ) -> Result<usize, Fault<'a>>
     ensures within { IfOk result (λ k. k < length nets.now) }
@@ -70,8 +70,8 @@ fn free_place<'a>(
 fn all_joined<'a>(
     alloc: Global,
     ports: &[PortTree<'a>],
-    nets: &[Option<u32>],
-) -> Result<List<u32>, Fault<'a>>
+    nets: &[Option<NetId>],
+) -> Result<List<NetId>, Fault<'a>>
     requires { length nets.now ≡ length ports.now }
     ensures { MatchResult result (λ all. nets.now ≡ map (λ n. Some n) all)
         (IsMissing (map port_name (map port_view ports.now)) nets.now) }
@@ -93,7 +93,7 @@ impl<'a> Declared<'a> {
         alloc: Global,
         ports: &[PortTree<'a>],
         connections: &[Connection<'a>],
-    ) -> Result<Vec<Option<u32>>, Fault<'a>>
+    ) -> Result<Vec<Option<NetId>>, Fault<'a>>
         ensures size { IfOk result (λ nets. length nets.items ≡ length ports.now) }
         ensures joined { (sc : Scope) (m : Module) → HasNets sc m → HasTables m self.now
             → Gives result (connection_uses sc (map port_name (map port_view ports.now)) [] (map connection_view connections.now))
@@ -113,7 +113,7 @@ impl<'a> Declared<'a> {
     fn instance_of(
         &self,
         alloc: Global,
-        number: u32,
+        number: ModuleId,
         tree: &ModuleTree<'a>,
         name: &'a [u8],
         connections: &[Connection<'a>],
@@ -148,7 +148,10 @@ impl<'a> Declared<'a> {
     {
         match earlier.numbers.number(of) {
             Some(number) => match earlier.trees.get(number as usize) {
-                Some(tree) => self.instance_of(alloc, number, tree, name, connections),
+                Some(tree) => {
+                    let inner = ModuleId::new(number);
+                    self.instance_of(alloc, inner, tree, name, connections)
+                }
                 None => Err(Fault::Unknown(of)),
             },
             None => Err(Fault::Unknown(of)),

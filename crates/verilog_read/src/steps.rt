@@ -93,7 +93,7 @@ pub(crate) fn can_run(alloc: Global, design: &Design) -> Result<(), VerilogError
     ensures ok { OnOk result (CanRun design.now) }
     ensures err { IfErr result (λ e. HasWrongPort design.now e) }
 {
-    let top = design.modules.at(design.modules.len() - 1);
+    let top = design.top();
     match first_wrong(top) {
         None => Ok(()),
         Some(name) => {

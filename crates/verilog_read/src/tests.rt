@@ -2,7 +2,7 @@ use crate::fault::Fault;
 use crate::resolve::resolve;
 use crate::{VerilogError, read};
 use mx_base::{List, Text};
-use rtl_ir::{Assign, Design, Expr, RtlError, Target, Update};
+use rtl_ir::{Assign, Design, Expr, MemId, NetId, RtlError, Target, Update};
 use std::alloc::{AllocError, Global};
 use verilog_syntax::{parse, scan};
 
@@ -295,16 +295,26 @@ fn forms_of_a_module(rt: HostRuntime) {
             Some(cell) => {
                 assert_eq!(rt; cell.nets.len(), 7);
                 assert_eq!(rt; cell.mems.len(), 1);
-                for (place, net, expr) in [(1, 6, Expr::Cell(0, 2)), (2, 3, Expr::Net(4))] {
+                for (place, net, expr) in [
+                    (1, 6, Expr::Cell(MemId::new(0), NetId::new(2))),
+                    (2, 3, Expr::Net(NetId::new(4))),
+                ] {
                     assert!(rt;
-                        cell.assigns.as_slice().get(place) == Some(&Assign { target: net, expr })
+                        cell.assigns.as_slice().get(place)
+                            == Some(&Assign {
+                                target: NetId::new(net),
+                                expr
+                            })
                     );
                 }
-                for (place, target, value) in [(0, Target::Reg(4), 6), (1, Target::Cell(0, 2), 4)] {
+                for (place, target, value) in [
+                    (0, Target::Reg(NetId::new(4)), 6),
+                    (1, Target::Cell(MemId::new(0), NetId::new(2)), 4),
+                ] {
                     let update = Update {
-                        enable: 5,
+                        enable: NetId::new(5),
                         target,
-                        value,
+                        value: NetId::new(value),
                     };
                     assert!(rt; cell.updates.as_slice().get(place) == Some(&update));
                 }
@@ -322,9 +332,13 @@ fn ports_of_an_instance_in_any_order(rt: HostRuntime) {
         Ok(design) => match design.modules.get(1) {
             Some(outer) => match outer.instances.get(0) {
                 Some(instance) => {
-                    assert_eq!(rt; instance.module, 0);
+                    assert_eq!(rt; instance.module.index(), 0);
                     assert!(rt; instance.name.is(b"c"));
-                    assert!(rt; instance.nets.as_slice() == [0, 1, 2, 3].as_slice());
+                    for place in 0..4 {
+                        assert!(rt;
+                            instance.nets.as_slice().get(place) == Some(&NetId::new(place as u32))
+                        );
+                    }
                 }
                 None => assert!(rt; false),
             },

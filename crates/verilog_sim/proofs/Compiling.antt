@@ -1,5 +1,5 @@
 -- Lines of assignments are safe to evaluate, and one more line keeps those before it.
-use Rattle.std.proofs.Common.{◌≡◌, ℕ, zero, suc, ◌+◌, ◌-◌, ◌*◌, ◌<◌, ◌≤◌, List, [], ◌∷◌, ◌++◌, length, get_or, Some, refl, sym, ap, ◌∙◌, subst, arith}
+use Rattle.std.proofs.Common.{true, ◌≡◌, ℕ, zero, suc, ◌+◌, ◌-◌, ◌*◌, ◌<◌, ◌≤◌, List, [], ◌∷◌, ◌++◌, length, get_or, Some, refl, sym, ap, ◌∙◌, subst, arith}
 use Rattle.std.specs.Prelude.{slice_get}
 use Rattle.std.specs.List.{All}
 use Rattle.std.proofs.Math.Nat.{suc-mul}
@@ -18,8 +18,8 @@ use Rattle.verilog_sim.specs.declared.line.Step.{Step}
 use Rattle.verilog_sim.specs.declared.line.Step.TheVariants.{Copy, Literal as DoLiteral, Not as DoNot, Add as DoAdd, Sub as DoSub, Mul as DoMul, Div as DoDiv, And as DoAnd, Or as DoOr, Xor as DoXor, Eq as DoEq, Lt as DoLt, Concat as DoConcat, Repeat as DoRepeat, Part as DoPart, Choose as DoChoose, Cell as DoCell}
 use Rattle.verilog_sim.specs.declared.line.Line.{Line}
 use Rattle.verilog_sim.specs.Lines.{IsSafe, IsStepSafe}
-use Rattle.verilog_sim.specs.Compiled.{IsStepOf, IsLineOf, HasStep, AreLines, AreLinesOf}
-use Rattle.verilog_sim.specs.Runnable.{IsSizedNet, IsRunnable, IsOrderOf}
+use Rattle.verilog_sim.specs.Compiled.{IsStepOf, IsNarrow, IsLineOf, HasStep, IsAddedLiteral, AreLines, AreLinesOf}
+use Rattle.verilog_sim.specs.Runnable.{IsSizedNet, IsRunnable, IsPartOf}
 use Rattle.mx_bits.specs.declared.word.Word.{Word}
 use Rattle.verilog_sim.proofs.Gathering.{PushedAt, pushed_at, get_left, get_last}
 use Rattle.verilog_sim.proofs.Gathering.PushedAt.{before, last}
@@ -80,7 +80,7 @@ step_safe m ls w (Cell k n) (DoCell i a) r f t some le h =
     (omega (arith, h.0, u), omega (arith, h.1, q))
 step_safe m ls w e s r f t some le h = absurd h
 
-pub lines_safe : (m : Module) (ls : List ℕ) (order : List Assign) (lines : List Line) → IsRunnable m → IsOrderOf m order → AreLinesOf m ls order lines → All (IsSafe (length m.nets) (length m.mems) (length ls)) lines
+pub lines_safe : (m : Module) (ls : List ℕ) (order : List Assign) (lines : List Line) → IsRunnable m → IsPartOf m order → AreLinesOf m ls order lines → All (IsSafe (length m.nets) (length m.mems) (length ls)) lines
 lines_safe m ls order lines r o are i d lt = safe (get_or lines i d) (slice_get-get_or lines i d lt)
   where
     safe : (l : Line) → slice_get lines i ≡ Some l → IsSafe (length m.nets) (length m.mems) (length ls) l
@@ -99,6 +99,7 @@ lines_safe m ls order lines r o are i d lt = safe (get_or lines i d) (slice_get-
               target = omega (arith, is.target, formed.target);
               some = omega (arith, is.width, w.0);
               at_most = omega (arith, is.width, w.1);
+              half = λ h. (let n = (is.narrow h).target in omega (arith, is.width, n));
               step = step_safe m ls (width_of m a.target) a.expr l.step r formed.expr typed w.0 w.1 is.step;
             }
 
@@ -115,30 +116,42 @@ step_grows m old new (Choose n o p) (DoChoose a b c) g h = h
 step_grows m old new (Cell k n) (DoCell i a) g h = h
 step_grows m old new e s g h = absurd h
 
-pub none_compiled : (m : Module) (assigns : List Assign) → AreLines m [] assigns [] 0
-none_compiled m assigns = record { size = refl; each = λ i a l at e. absurd (cc) }
+pub none_compiled_at : (m : Module) (ls : List ℕ) (assigns : List Assign) → AreLines m ls assigns [] 0
+none_compiled_at m ls assigns = record { size = refl; each = λ i a l at e. absurd (cc) }
 
 pub one_compiled :
     (m : Module) (old new : List ℕ) (assigns : List Assign) (lines : List Line) (i : ℕ) (a : Assign) (l : Line)
-    → slice_get assigns i ≡ Some a → l.target ≡ a.target → l.width ≡ width_of m a.target → HasStep m a.expr l.step old new
+    → slice_get assigns i ≡ Some a → l.target ≡ a.target → l.width ≡ width_of m a.target → (l.narrow ≡ true → IsNarrow m a) → HasStep m a.expr l.step old new
     → AreLines m old assigns lines i → AreLines m new assigns (lines ++ l ∷ []) (i + 1)
-one_compiled m old new assigns lines i a l at target width s are =
+one_compiled m old new assigns lines i a l at target width narrow s are =
     record { size = length_push lines l ∙ ap (λ n. n + 1) are.size; each = λ j b k bt e. each j b k bt (pushed_at lines l j k e) }
   where
     each : (j : ℕ) (b : Assign) (k : Line) → slice_get assigns j ≡ Some b → PushedAt lines l j k → IsLineOf m new b k
     each j b k bt (before lt e) =
         let o = are.each j b k bt e in
-        record { target = o.target; width = o.width; step = step_grows m old new b.expr k.step s.more o.step }
+        record { target = o.target; width = o.width; narrow = o.narrow; step = step_grows m old new b.expr k.step s.more o.step }
     each j b k bt (last q e) =
         let bt' : slice_get assigns i ≡ Some b = subst (λ (x : ℕ). slice_get assigns x ≡ Some b) (q ∙ are.size) bt in
         let r : a ≡ b = cc in
-        subst (IsLineOf m new b) e (subst (λ (x : Assign). IsLineOf m new x l) r (record { target = target; width = width; step = s.step }))
+        subst (IsLineOf m new b) e (subst (λ (x : Assign). IsLineOf m new x l) r (record { target = target; width = width; narrow = narrow; step = s.step }))
 
-pub literal_step : (m : Module) (word : Word) (bits : ℕ) (old new : List ℕ) (n : ℕ) → bits ≡ word.bits → new ≡ old ++ bits ∷ [] → n ≡ length new → HasStep m (Literal word) (DoLiteral (n - 1)) old new
-literal_step m word bits old new n same is size =
-    let place : length old ≡ n - 1 = omega (arith, ap length is, length_push old bits, size) in
-    let here : slice_get (old ++ bits ∷ []) (n - 1) ≡ Some word.bits = subst (λ (i : ℕ). slice_get (old ++ bits ∷ []) i ≡ Some word.bits) place (get_last old bits ∙ ap (λ x. Some x) same) in
+pub literal_step : (m : Module) (word : Word) (bits : ℕ) (s : Step) (old new : List ℕ) → bits ≡ word.bits → IsAddedLiteral bits s old new → HasStep m (Literal word) s old new
+literal_step m word bits s old new same a =
+    let here : slice_get (old ++ bits ∷ []) (length old) ≡ Some word.bits = get_last old bits ∙ ap (λ x. Some x) same in
     record {
-      step = subst (λ (l : List ℕ). slice_get l (n - 1) ≡ Some word.bits) (sym is) here;
-      more = λ i x e. subst (λ (l : List ℕ). slice_get l i ≡ Some x) (sym is) (get_left old bits i (slice_get_within old i x e) ∙ e);
+      step = subst (IsStepOf m new (Literal word)) (sym a.step) (subst (λ (l : List ℕ). slice_get l (length old) ≡ Some word.bits) (sym a.more) here);
+      more = λ i x e. subst (λ (l : List ℕ). slice_get l i ≡ Some x) (sym a.more) (get_left old bits i (slice_get_within old i x e) ∙ e);
     }
+
+-- lines of assignments are so too in a table that keeps the literals
+pub lines_grow : (m : Module) (old new : List ℕ) (assigns : List Assign) (lines : List Line) → ((i x : ℕ) → slice_get old i ≡ Some x → slice_get new i ≡ Some x) → AreLinesOf m old assigns lines → AreLinesOf m new assigns lines
+lines_grow m old new assigns lines g are = record { size = are.size; each = each }
+  where
+    each : (j : ℕ) (b : Assign) (k : Line) → slice_get assigns j ≡ Some b → slice_get lines j ≡ Some k → IsLineOf m new b k
+    each j b k bt e =
+        let o = are.each j b k bt e in
+        record { target = o.target; width = o.width; narrow = o.narrow; step = step_grows m old new b.expr k.step g o.step }
+
+-- lines in other lists that are the same
+pub lines_at : (m : Module) (assigns : List Assign) (ls ls' : List ℕ) (lines lines' : List Line) → ls' ≡ ls → lines' ≡ lines → AreLinesOf m ls assigns lines → AreLinesOf m ls' assigns lines'
+lines_at m assigns ls ls' lines lines' e f are = subst (λ (l : List ℕ). AreLinesOf m l assigns lines') (sym e) (subst (λ (l : List Line). AreLinesOf m ls assigns l) (sym f) are)

@@ -18,7 +18,7 @@ use Rattle.rtl_ir.specs.Ports.{Shape, first_input, first_output, done_port, port
 use Rattle.verilog_sim.specs.declared.offer.Offer.{Offer}
 use Rattle.verilog_sim.specs.declared.offer.Event.{Event}
 use Rattle.verilog_sim.specs.declared.given.Counts.{Counts}
-use Rattle.verilog_sim.specs.declared.line.Line.{Line}
+use Rattle.verilog_sim.specs.declared.compile.Program.{Program}
 use Rattle.verilog_sim.specs.declared.place.Place.{Place}
 use Rattle.verilog_sim.specs.Contents.{family_of, contents_of}
 use Rattle.verilog_sim.specs.Parts.{families_of, contents_by_path}
@@ -115,26 +115,26 @@ kept_back m c steady steady' held held' values values' memories memories' k a b 
 pub none_offered : (m : Module) (o : Outer) → AreOffered m o []
 none_offered m o = λ k c at. pow_pos (width_of m c.word)
 
-module _ {d : Design} {c : Counts} {ls : List ℕ} {lines : List Line} {us : List Update} {ps : List Place} {steady held values : List ℕ} {memories : List (List ℕ)} (s : Simulates d c ls lines us ps steady held values memories) where
+module _ {d : Design} {c : Counts} {pr : Program} {us : List Update} {ps : List Place} {steady held values : List ℕ} {memories : List (List ℕ)} (s : Simulates d c pr us ps steady held values memories) where
   abbrev top : Module
   top = s.is_flat.top
 
   pub top_is : (m : Module) → top_of d ≡ Some m → s.is_flat.top ≡ m
   top_is m e = let f = s.is_flat.is_top in cc
 
-  is_outer : outer_of s.program.shape s.is_flat.top ≡ outer_top d c
-  is_outer = top_outer d s.is_flat.top c s.program.shape s.is_flat.is_top s.program.counts
+  is_outer : outer_of s.simulable.shape s.is_flat.top ≡ outer_top d c
+  is_outer = top_outer d s.is_flat.top c s.simulable.shape s.is_flat.is_top s.simulable.counts
 
   pub ready_at :
       (ports' : List Port) (us' : List Update) (steady' held' values' : List ℕ) (memories' : List (List ℕ)) (offers : List Offer) (m : Module)
       → top_of d ≡ Some m → ports' ≡ m.ports → us' ≡ us → steady' ≡ steady → held' ≡ held → values' ≡ values → memories' ≡ memories → AreOffered m (outer_top d c) offers
-      → IsReady s.flat ports' us' c ls lines steady' offers held' values' memories'
+      → IsReady s.flat ports' us' c steady' offers held' values' memories'
   ready_at ports' us' steady' held' values' memories' offers m e pe ue se he ve me o =
       let q = top_is m e in
       let o' : AreOffered s.is_flat.top (outer_of (unnamed c) s.is_flat.top) offers =
       subst (λ (u : Outer). AreOffered s.is_flat.top u offers) (ap (λ t. outer_at t c) s.is_flat.is_top) (subst (λ (x : Module). AreOffered x (outer_top d c) offers) (sym q) o) in
       record {
-        program = s.program;
+        simulable = s.simulable;
         ports_are = pe ∙ ap (λ (x : Module). x.ports) (sym q) ∙ sym (ports_flat d s.accepted s.is_flat);
         updates_are = ue ∙ s.updates_are;
         kept = kept_back s.flat c steady steady' held held' values values' memories memories' s.kept (sym se) (sym he) (sym ve) (sym me);
@@ -142,12 +142,12 @@ module _ {d : Design} {c : Counts} {ls : List ℕ} {lines : List Line} {us : Lis
       }
 
   -- the same simulator with other words
-  pub kept_on : (steady' held' values' : List ℕ) (memories' : List (List ℕ)) → AreKept s.flat c steady' held' values' memories' → Simulates d c ls lines us ps steady' held' values' memories'
+  pub kept_on : (steady' held' values' : List ℕ) (memories' : List (List ℕ)) → AreKept s.flat c steady' held' values' memories' → Simulates d c pr us ps steady' held' values' memories'
   kept_on steady' held' values' memories' k =
-      record { accepted = s.accepted; flat = s.flat; is_flat = s.is_flat; program = s.program; updates_are = s.updates_are; has = s.has; kept = k }
+      record { accepted = s.accepted; flat = s.flat; is_flat = s.is_flat; simulable = s.simulable; program = s.program; updates_are = s.updates_are; has = s.has; kept = k }
 
   -- words may be set at a port that keeps one value
-  pub set_kept : (k x : ℕ) → k < length steady → ((m : Module) → top_of d ≡ Some m → x < 2 ^ width_of m (get_or (outer_top d c).steady k 0)) → Simulates d c ls lines us ps (set steady k x) held values memories
+  pub set_kept : (k x : ℕ) → k < length steady → ((m : Module) → top_of d ≡ Some m → x < 2 ^ width_of m (get_or (outer_top d c).steady k 0)) → Simulates d c pr us ps (set steady k x) held values memories
   set_kept k x lt fits =
       kept_on (set steady k x) held values memories
       (record {
@@ -186,7 +186,7 @@ module _ {d : Design} {c : Counts} {ls : List ℕ} {lines : List Line} {us : Lis
       record {
         fits = subst (λ (u : AllContents). FitsFlat d s.is_flat.top u (families_of s.is_flat.top ps (family_of new))) (sym (held_is held memories)) (whole_fits d s.accepted s.is_flat (contents_of held memories) (family_of new) done.fits);
         given = subst (λ (o : Outer). Given o reset steady offers' accepts' holds' (families_of s.is_flat.top ps (family_of new) [])) is_outer
-            (given_of s.is_flat.top c s.program.shape reset steady offers offers' accepts accepts' holds holds' (families_of s.is_flat.top ps (family_of new) []) s.has s.program.counts s.kept.steady_ports
+            (given_of s.is_flat.top c s.simulable.shape reset steady offers offers' accepts accepts' holds holds' (families_of s.is_flat.top ps (family_of new) []) s.has s.simulable.counts s.kept.steady_ports
             (lo ∙ ap (λ (o : Outer). length o.inputs) (sym is_outer)) (la ∙ ap (λ (o : Outer). length o.outputs) (sym is_outer)) (lh ∙ ap (λ (o : Outer). length o.holds) (sym is_outer)) same given);
       }
     where
@@ -227,7 +227,7 @@ module _ {d : Design} {c : Counts} {ls : List ℕ} {lines : List Line} {us : Lis
         settled = settled_is false offers offers accepts accepts holds holds new lo la lh (same_said offers accepts holds) step.evaluated;
         after = after_state held' new memories' step.after;
         events_are = subst (λ (o : Outer). events ≡ map (event_of (families_of s.is_flat.top ps (family_of new) [])) (o.inputs ++ o.outputs)) is_outer
-            (events_are s.is_flat.top c s.program.shape (families_of s.is_flat.top ps (family_of new) []) events s.program.counts (subst (λ (o : Outer). length events ≡ length o.inputs + length o.outputs) (sym is_outer) size)
+            (events_are s.is_flat.top c s.simulable.shape (families_of s.is_flat.top ps (family_of new) []) events s.simulable.counts (subst (λ (o : Outer). length events ≡ length o.inputs + length o.outputs) (sym is_outer) size)
             (λ k e at. told k e at ∙ event_same (family_of new) (first_channel c + 3 * k)));
       }
 
@@ -256,7 +256,7 @@ module _ {d : Design} {c : Counts} {ls : List ℕ} {lines : List Line} {us : Lis
 
   -- the ports of the top module, as many as were counted
   pub ports_counted : (m : Module) → top_of d ≡ Some m → port_count c ≡ length m.ports
-  ports_counted m e = s.program.counted ∙ ap length (ports_flat d s.accepted s.is_flat) ∙ ap (λ (x : Module). length x.ports) (top_is m e)
+  ports_counted m e = s.simulable.counted ∙ ap length (ports_flat d s.accepted s.is_flat) ∙ ap (λ (x : Module). length x.ports) (top_is m e)
 
   done_at : (new : List ℕ) (answer : Bool) → IsEvaluated s.flat c false steady [] [] [] held memories new → answer ≡ eqb (get_or new (port_net (slice_get s.is_flat.top.ports (length s.is_flat.top.ports - 1))) 0) 1 → IsDone s.is_flat.top (state d c ps steady held memories) answer
   done_at new answer done is =
@@ -266,8 +266,8 @@ module _ {d : Design} {c : Counts} {ls : List ℕ} {lines : List Line} {us : Lis
         answer_is = is ∙ ap (λ n. eqb n 1) (own_at (family_of new) (length s.is_flat.top.ports - 1)) ∙ ap (λ n. eqb (families_of s.is_flat.top ps (family_of new) [] n) 1) last;
       }
     where
-      place : length s.is_flat.top.ports - 1 ≡ done_port s.program.shape
-      place = (let n = s.program.counts in omega (arith, ports_counted s.is_flat.top s.is_flat.is_top, n.kernels, n.scalars, n.inputs, n.outputs))
+      place : length s.is_flat.top.ports - 1 ≡ done_port s.simulable.shape
+      place = (let n = s.simulable.counts in omega (arith, ports_counted s.is_flat.top s.is_flat.is_top, n.kernels, n.scalars, n.inputs, n.outputs))
 
       last : net_at s.is_flat.top (length s.is_flat.top.ports - 1) ≡ (outer_top d c).done
       last = ap (net_at s.is_flat.top) place ∙ ap (λ (o : Outer). o.done) is_outer
@@ -282,12 +282,12 @@ module _ {d : Design} {c : Counts} {ls : List ℕ} {lines : List Line} {us : Lis
   pub nets_within : (m : Module) (ports : List Port) (values' : List ℕ) → top_of d ≡ Some m → ports ≡ m.ports → length values' ≡ length s.flat.nets → (i : ℕ) (q : Port) → slice_get ports i ≡ Some q → q.net < length values'
   nets_within m ports values' e same len i q at =
       let at' : slice_get s.flat.ports i ≡ Some q = ap (λ (l : List Port). slice_get l i) (ports_flat d s.accepted s.is_flat ∙ ap (λ (x : Module). x.ports) (top_is m e) ∙ sym same) ∙ at in
-      omega (arith, (s.program.formed i q at').net, len)
+      omega (arith, (s.simulable.formed i q at').net, len)
 
   -- as many streams as were counted
   pub streams_counted : length (outer_top d c).inputs + length (outer_top d c).outputs ≡ c.inputs + c.outputs
   streams_counted =
-      let n = s.program.counts in
-      let sh = s.program.shape in
+      let n = s.simulable.counts in
+      let sh = s.simulable.shape in
       subst (λ (o : Outer). length o.inputs + length o.outputs ≡ c.inputs + c.outputs) is_outer
       (omega (arith, length_channels s.is_flat.top (first_input sh) sh.inputs, length_channels s.is_flat.top (first_output sh) sh.outputs, n.inputs, n.outputs))

@@ -18,7 +18,7 @@ use Rattle.verilog_sim.specs.Updates.{IsLoaded}
 use Rattle.verilog_sim.specs.Runnable.{IsRunnable, IsOrderOf}
 use Rattle.verilog_sim.specs.Settled.{AreWords, Settles}
 use Rattle.verilog_sim.specs.Sources.{AreDriven, IsGiven}
-use Rattle.verilog_sim.specs.Simulates.{AreKept, IsEvaluated}
+use Rattle.verilog_sim.specs.Simulates.{AreKept, IsEvaluated, IsEvaluatedBy}
 
 -- an expression reads the memories alone, and no register's content
 value_cells : (m : Module) (held : List ℕ) (memories : List (List ℕ)) (v : Family) (w : ℕ) (e : Expr) → value m (contents_of [] memories) v w e ≡ value m (contents_of held memories) v w e
@@ -89,25 +89,34 @@ driven_words m c reset steady offers accepts holds old new memories fit w d =
     by_kind n false e =
         subst (λ (y : ℕ). y < 2 ^ width_of m n) (sym (d.others n (λ i p at f same. false≢true (sym e ∙ ap (is_input m.ports) (sym same) ∙ input_of m.ports i p at f)))) (w.words n)
 
-pub evaluated :
-    (m : Module) (c : Counts) (reset : Bool) (steady : List ℕ) (offers : List Offer) (accepts holds : List Bool) (held old loaded driven new : List ℕ) (memories : List (List ℕ)) (order : List Assign)
-    → IsRunnable m → IsOrderOf m order → ((i : ℕ) (p : Port) → slice_get m.ports i ≡ Some p → is_reg m p.net ≡ false)
+-- what some assignments give, from the registers and inputs on
+pub by_lines :
+    (m : Module) (assigns : List Assign) (c : Counts) (reset : Bool) (steady : List ℕ) (offers : List Offer) (accepts holds : List Bool) (held old loaded driven new : List ℕ) (memories : List (List ℕ))
+    → IsRunnable m → ((i : ℕ) (p : Port) → slice_get m.ports i ≡ Some p → is_reg m p.net ≡ false)
     → IsLoaded m.updates held old loaded → AreDriven m.ports c reset steady offers accepts holds loaded driven (length m.ports)
-    → AreWords m driven memories → Settles m order memories driven new → IsEvaluated m c reset steady offers accepts holds held memories new
-evaluated m c reset steady offers accepts holds held old loaded driven new memories order r o wires l d w s =
+    → AreWords m driven memories → Settles m assigns memories driven new → IsEvaluatedBy m assigns c reset steady offers accepts holds held memories new
+by_lines m assigns c reset steady offers accepts holds held old loaded driven new memories r wires l d w s =
+    record { driven = driven; words = w; kept = kept; given = λ i p at input. d.given i p (slice_get_within m.ports i p at) at input; settles = s }
+  where
+    kept : (n : ℕ) → is_reg m n ≡ true → get_or driven n 0 ≡ get_or held n 0
+    kept n e =
+        let u = r.updated n e in
+        d.others n (λ i p at input same. false≢true (sym (wires i p at) ∙ ap (is_reg m) same ∙ e))
+        ∙ l.regs u.0 n u.1 u.2 u.3
+
+-- what all assignments give
+pub evaluated :
+    (m : Module) (c : Counts) (reset : Bool) (steady : List ℕ) (offers : List Offer) (accepts holds : List Bool) (held new : List ℕ) (memories : List (List ℕ)) (order : List Assign)
+    → IsRunnable m → IsOrderOf m order → ((i : ℕ) (p : Port) → slice_get m.ports i ≡ Some p → is_reg m p.net ≡ false)
+    → IsEvaluatedBy m order c reset steady offers accepts holds held memories new → IsEvaluated m c reset steady offers accepts holds held memories new
+evaluated m c reset steady offers accepts holds held new memories order r o wires b =
+    let s = b.settles in
     record {
-      words = record { nets = s.nets; words = s.words; depths = w.depths; cells = w.cells };
+      words = record { nets = s.nets; words = s.words; depths = b.words.depths; cells = b.words.cells };
       fits = record {
         words = s.words;
         assigned = assigned_of m (contents_of held memories) (family_of new) m.assigns (λ j a at. (let q = o.all j a at in s.assigned q.0 a q.1 ∙ value_cells m held memories (family_of new) (width_of m a.target) a.expr));
-        kept = kept;
+        kept = λ n e. s.others n (no_target m order n r o (given_reg m n e)) ∙ b.kept n e;
       };
-      given = λ i p at input. subst (IsGiven c reset steady offers accepts holds i) (sym (s.others p.net (no_target m order p.net r o (given_input m p.net (input_of m.ports i p at input))))) (d.given i p (slice_get_within m.ports i p at) at input);
+      given = λ i p at input. subst (IsGiven c reset steady offers accepts holds i) (sym (s.others p.net (no_target m order p.net r o (given_input m p.net (input_of m.ports i p at input))))) (b.given i p at input);
     }
-  where
-    kept : (n : ℕ) → is_reg m n ≡ true → get_or new n 0 ≡ get_or held n 0
-    kept n e =
-        let u = r.updated n e in
-        s.others n (no_target m order n r o (given_reg m n e))
-        ∙ d.others n (λ i p at input same. false≢true (sym (wires i p at) ∙ ap (is_reg m) same ∙ e))
-        ∙ l.regs u.0 n u.1 u.2 u.3

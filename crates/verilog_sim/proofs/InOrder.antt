@@ -1,9 +1,11 @@
 -- One line after another, the assignments come to hold.
-use Rattle.std.proofs.Common.{◌≡◌, ◌≢◌, ℕ, ◌+◌, ◌^◌, ◌<◌, ◌≤◌, ◌⊎◌, inl, inr, List, [], length, get_or, set, Some, refl, sym, ap, ◌∙◌, subst, ⊎_elim, arith, get_or-set_other, get_or-set_same}
+use Rattle.std.proofs.Common.{◌≡◌, ◌≢◌, Bool, true, false, ℕ, ◌+◌, ◌^◌, ◌<◌, ◌≤◌, ◌⊎◌, inl, inr, List, [], length, get_or, set, Some, refl, sym, ap, ◌∙◌, subst, ⊎_elim, arith, get_or-set_other, get_or-set_same}
 use Rattle.std.specs.Prelude.{slice_get}
 use Rattle.std.proofs.lemmas.Bool.{cases_eq, cases_lt}
 use Rattle.std.proofs.lemmas.Option.{slice_get_within, slice_get-get_or}
 use Rattle.std.proofs.lemmas.List.{length-set}
+use Rattle.std.proofs.Math.Pow.{pow_mono}
+use Rattle.std.proofs.Math.Nat.{mod-eq_of_lt, mod-le}
 use Rattle.rtl_ir.specs.declared.design.Module.{Module}
 use Rattle.rtl_ir.specs.declared.design.Assign.{Assign}
 use Rattle.rtl_ir.specs.Value.{width_of, value}
@@ -11,7 +13,7 @@ use Rattle.rtl_ir.specs.Operands.{IsRead}
 use Rattle.rtl_ir.proofs.Ports.{value_agrees}
 use Rattle.rtl_ir.proofs.Words.{value_fits}
 use Rattle.verilog_sim.specs.declared.line.Line.{Line}
-use Rattle.verilog_sim.specs.Lines.{step_value}
+use Rattle.verilog_sim.specs.Lines.{read_by, step_value}
 use Rattle.verilog_sim.specs.Contents.{family_of, contents_of}
 use Rattle.verilog_sim.specs.Compiled.{IsLineOf, AreLinesOf}
 use Rattle.verilog_sim.specs.Settled.{IsInOrder, AreWords, Settles}
@@ -44,7 +46,7 @@ set_fits m values t x lt fx words n = ⊎_elim here other (cases_eq n t)
     other : n ≢ t → get_or (set values t x) n 0 < 2 ^ width_of m n
     other ne = subst (λ (y : ℕ). y < 2 ^ width_of m n) (sym (get_or-set_other values t n x 0 ne)) (words n)
 
-one_more :
+pub one_more :
     (m : Module) (assigns : List Assign) (memories : List (List ℕ)) (old new : List ℕ) (i : ℕ) (a : Assign) (x : ℕ)
     → IsInOrder m assigns → AreWords m old memories → slice_get assigns i ≡ Some a → a.target < length new
     → x ≡ value m (contents_of [] memories) (family_of new) (width_of m a.target) a.expr
@@ -78,11 +80,24 @@ one_more m assigns memories old new i a x o h at lt is p =
         subst (λ (y : Assign). get_or (set new a.target x) y.target 0 ≡ value m (contents_of [] memories) (family_of (set new a.target x)) (width_of m y.target) y.expr) r
         (get_or-set_same new a.target x 0 lt ∙ is ∙ same i a (omega arith) at)
 
+-- the low 64 bits of words fit, and are the words of narrow nets
+read_fits : (m : Module) (values : List ℕ) → ((n : ℕ) → get_or values n 0 < 2 ^ width_of m n) → (narrow : Bool) (n : ℕ) → read_by narrow values n < 2 ^ width_of m n
+read_fits m values words true n = let lt = words n in let le = mod-le (get_or values n 0) 18446744073709551616 in omega (arith, lt, le)
+read_fits m values words false n = words n
+
+read_same : (m : Module) (values : List ℕ) → ((n : ℕ) → get_or values n 0 < 2 ^ width_of m n) → (narrow : Bool) (n : ℕ) → (narrow ≡ true → width_of m n ≤ 64) → read_by narrow values n ≡ get_or values n 0
+read_same m values words true n small =
+    let lt = words n in
+    let most : 2 ^ width_of m n ≤ 2 ^ 64 = pow_mono (small refl) in
+    let less : get_or values n 0 < 18446744073709551616 = omega (arith, lt, most) in
+    mod-eq_of_lt less
+read_same m values words false n small = refl
+
 pub one_line :
     (m : Module) (ls : List ℕ) (assigns : List Assign) (memories : List (List ℕ)) (lines : List Line) (old new : List ℕ) (i : ℕ) (l : Line) (x : ℕ)
     → AreLinesOf m ls assigns lines → IsInOrder m assigns → AreWords m old memories → slice_get lines i ≡ Some l
     → l.target < length new → 1 ≤ l.width → l.width ≤ 128
-    → x ≡ step_value ls memories (λ n. get_or new n 0) l.width l.step
+    → x ≡ step_value ls memories (read_by l.narrow new) l.width l.step
     → Progress m assigns memories old new i → Progress m assigns memories old (set new l.target x) (i + 1)
 one_line m ls assigns memories lines old new i l x are o h at lt some most is p =
     let within : i < length assigns = omega (arith, slice_get_within lines i l at, are.size) in
@@ -90,7 +105,11 @@ one_line m ls assigns memories lines old new i l x are o h at lt some most is p 
     let a = get_or assigns i none in
     let at' : slice_get assigns i ≡ Some a = slice_get-get_or assigns i none within in
     let r : IsLineOf m ls a l = are.each i a l at' at in
-    let e : x ≡ value m (contents_of [] memories) (family_of new) (width_of m a.target) a.expr = is ∙ ap (λ k. step_value ls memories (λ n. get_or new n 0) k l.step) r.width ∙ step_is m ls memories (λ n. get_or new n 0) (width_of m a.target) a.expr l.step (o.typed i a at') r.step (omega (arith, r.width)) (omega (arith, r.width)) p.words h.depths in
+    let e : x ≡ value m (contents_of [] memories) (family_of new) (width_of m a.target) a.expr =
+    is
+    ∙ ap (λ k. step_value ls memories (read_by l.narrow new) k l.step) r.width
+    ∙ step_is m ls memories (read_by l.narrow new) (width_of m a.target) a.expr l.step (o.typed i a at') r.step (omega (arith, r.width)) (omega (arith, r.width)) (read_fits m new p.words l.narrow) h.depths
+    ∙ value_agrees m (contents_of [] memories) (read_by l.narrow new) (family_of new) (width_of m a.target) a.expr (λ n read. read_same m new p.words l.narrow n (λ narrow. (r.narrow narrow).reads n read)) in
     let lt' : a.target < length new = omega (arith, r.target) in
     subst (λ (t : ℕ). Progress m assigns memories old (set new t x) (i + 1)) (sym r.target) (one_more m assigns memories old new i a x o h at' lt' e p)
 

@@ -9,6 +9,8 @@ pub mod Compiling
 pub mod Driven
 pub mod Shapes
 pub mod Evaluated
+pub mod Marking
+pub mod Answering
 pub mod Accepting
 pub mod Updating
 pub mod Alone
@@ -32,3 +34,4 @@ pub mod Movable
 pub mod CellTotals
 pub mod Flattening
 pub mod Fronts
+pub mod Halves

@@ -1,5 +1,5 @@
 -- The lines of assignments.
-use Rattle.std.specs.Prelude.{◌≡◌, ℕ, List, length, Some, slice_get}
+use Rattle.std.specs.Prelude.{◌≡◌, ◌≤◌, ℕ, true, List, [], ◌∷◌, ◌++◌, length, Some, slice_get}
 use Rattle.rtl_ir.specs.declared.design.Module.{Module}
 use Rattle.rtl_ir.specs.declared.design.Assign.{Assign}
 use Rattle.rtl_ir.specs.declared.design.Sign.{Sign}
@@ -7,6 +7,7 @@ use Rattle.rtl_ir.specs.declared.design.Sign.TheVariants.{Add, Sub, Mul, Div, An
 use Rattle.rtl_ir.specs.declared.design.Expr.{Expr}
 use Rattle.rtl_ir.specs.declared.design.Expr.TheVariants.{Net as Plain, Literal, Not, Binary, Concat, Repeat, Part, Choose, Cell}
 use Rattle.rtl_ir.specs.Value.{width_of}
+use Rattle.rtl_ir.specs.Operands.{IsRead}
 use Rattle.verilog_sim.specs.declared.line.Step.{Step}
 use Rattle.verilog_sim.specs.declared.line.Step.TheVariants.{Copy, Literal as DoLiteral, Not as DoNot, Add as DoAdd, Sub as DoSub, Mul as DoMul, Div as DoDiv, And as DoAnd, Or as DoOr, Xor as DoXor, Eq as DoEq, Lt as DoLt, Concat as DoConcat, Repeat as DoRepeat, Part as DoPart, Choose as DoChoose, Cell as DoCell}
 use Rattle.verilog_sim.specs.declared.line.Line.{Line}
@@ -37,15 +38,26 @@ IsStepOf m ls (Choose n o p) (DoChoose a b c) = (a ≡ n) × (b ≡ o) × (c ≡
 IsStepOf m ls (Cell k n) (DoCell i a) = (i ≡ k) × (a ≡ n)
 IsStepOf m ls e s = ⊥
 
+-- an assignment to a net of at most 64 bits that reads such nets alone
+pub record IsNarrow (m : Module) (a : Assign) : Type 0 where
+  pub target : width_of m a.target ≤ 64
+  pub reads : (n : ℕ) → IsRead a.expr n → width_of m n ≤ 64
+
 pub record IsLineOf (m : Module) (ls : List ℕ) (a : Assign) (line : Line) : Type 0 where
   pub target : line.target ≡ a.target
   pub width : line.width ≡ width_of m a.target
   pub step : IsStepOf m ls a.expr line.step
+  pub narrow : line.narrow ≡ true → IsNarrow m a
 
 -- the step of an expression, in a table of literals that keeps those that it had
 pub record HasStep (m : Module) (e : Expr) (s : Step) (old new : List ℕ) : Type 0 where
   pub step : IsStepOf m new e s
   pub more : (i x : ℕ) → slice_get old i ≡ Some x → slice_get new i ≡ Some x
+
+-- the step of a word that was added to the table of literals
+pub record IsAddedLiteral (word : ℕ) (s : Step) (old new : List ℕ) : Type 0 where
+  pub step : s ≡ DoLiteral (length old)
+  pub more : new ≡ old ++ word ∷ []
 
 -- the lines of the first so many assignments, in their order
 pub record AreLines (m : Module) (ls : List ℕ) (assigns : List Assign) (lines : List Line) (count : ℕ) : Type 0 where
@@ -55,3 +67,8 @@ pub record AreLines (m : Module) (ls : List ℕ) (assigns : List Assign) (lines 
 -- the lines of these assignments
 abbrev pub AreLinesOf : Module → List ℕ → List Assign → List Line → Type 0
 AreLinesOf m ls assigns lines = AreLines m ls assigns lines (length assigns)
+
+-- the same in a table of literals that keeps those that it had
+pub record HasLines (m : Module) (assigns : List Assign) (lines : List Line) (old new : List ℕ) : Type 0 where
+  pub lines_are : AreLinesOf m new assigns lines
+  pub more : (i x : ℕ) → slice_get old i ≡ Some x → slice_get new i ≡ Some x

@@ -5,6 +5,7 @@ pub mod Updates
 pub mod Settled
 pub mod Runnable
 pub mod Drivers
+pub mod Feeding
 pub mod State
 pub mod Calls
 pub mod Sources

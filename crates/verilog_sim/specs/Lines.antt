@@ -1,5 +1,5 @@
 -- What a line of the list computes, and when it is safe.
-use Rattle.std.specs.Prelude.{ℕ, zero, suc, ◌+◌, ◌-◌, ◌*◌, ◌/◌, ◌%◌, ◌^◌, ◌<◌, ◌≤◌, List, [], if◌then◌else◌, nat_eq, nat_lt, slice_index, slice_index_or, bit_and, bit_or, bit_xor}
+use Rattle.std.specs.Prelude.{◌≡◌, Bool, true, false, ℕ, zero, suc, ◌+◌, ◌-◌, ◌*◌, ◌/◌, ◌%◌, ◌^◌, ◌<◌, ◌≤◌, List, [], if◌then◌else◌, nat_eq, nat_lt, slice_index, slice_index_or, bit_and, bit_or, bit_xor}
 use Rattle.rtl_ir.specs.Value.{quotient}
 use Rattle.verilog_sim.specs.declared.line.Step.{Step}
 use Rattle.verilog_sim.specs.declared.line.Step.TheVariants.{Copy, Literal, Not, Add, Sub, Mul, Div, And, Or, Xor, Eq, Lt, Concat, Repeat, Part, Choose, Cell}
@@ -29,7 +29,13 @@ pub record IsSafe (n k l : ℕ) (line : Line) : Type 0 where
   pub target : line.target < n
   pub some : 1 ≤ line.width
   pub at_most : line.width ≤ 128
+  pub half : line.narrow ≡ true → line.width ≤ 64
   pub step : IsStepSafe n k l line.step
+
+-- the values of nets, or their low 64 bits
+abbrev pub read_by : Bool → List ℕ → ℕ → ℕ
+read_by true values n = slice_index values n % 2 ^ 64
+read_by false values n = slice_index values n
 
 -- a word once more behind what stands there
 abbrev pub joined : ℕ → ℕ → ℕ → ℕ

@@ -46,6 +46,11 @@ pub record IsRunnable (m : Module) : Type 0 where
   pub regs : (k n : ℕ) (u : Update) → slice_get m.updates k ≡ Some u → u.target ≡ Reg n → is_reg m n ≡ true
   pub updated : (n : ℕ) → is_reg m n ≡ true → (k : ℕ) × (u : Update) × (slice_get m.updates k ≡ Some u) × (u.target ≡ Reg n)
 
+-- assignments of the module, in an order in which they can be evaluated
+pub record IsPartOf (m : Module) (assigns : List Assign) : Type 0 where
+  pub in_order : IsInOrder m assigns
+  pub from : (i : ℕ) (a : Assign) → slice_get assigns i ≡ Some a → (k : ℕ) × (slice_get m.assigns k ≡ Some a)
+
 -- the assignments of the module, in an order in which they can be evaluated
 pub record IsOrderOf (m : Module) (order : List Assign) : Type 0 where
   pub in_order : IsInOrder m order

@@ -1,5 +1,5 @@
 -- When a simulator can go on: what its parts have to do with the design.
-use Rattle.std.specs.Prelude.{◌≡◌, ℕ, ◌+◌, ◌^◌, ◌<◌, true, false, Bool, List, [], length, replicate, Option, Some, None, slice_get, slice_index, slice_index_or}
+use Rattle.std.specs.Prelude.{◌≡◌, ℕ, ◌+◌, ◌-◌, ◌^◌, ◌<◌, true, false, Bool, nat_eq, List, [], length, replicate, Option, Some, None, slice_get, slice_index, slice_index_or}
 use Rattle.rtl_ir.specs.declared.design.Design.{Design}
 use Rattle.rtl_ir.specs.declared.design.Module.{Module}
 use Rattle.rtl_ir.specs.declared.design.Assign.{Assign}
@@ -7,17 +7,18 @@ use Rattle.rtl_ir.specs.declared.design.Port.{Port}
 use Rattle.rtl_ir.specs.declared.design.Update.{Update}
 use Rattle.rtl_ir.specs.Value.{width_of, is_reg}
 use Rattle.rtl_ir.specs.Edge.{Fits, after_edge}
-use Rattle.rtl_ir.specs.Ports.{Shape, HasShape, outer_of}
+use Rattle.rtl_ir.specs.Ports.{Shape, HasShape, outer_of, port_net}
 use Rattle.rtl_ir.specs.Rules.{IsAccepted}
 use Rattle.rtl_ir.specs.Formed.{IsFormedPort}
 use Rattle.rtl_ir.specs.Run.{Outer, Channel}
 use Rattle.verilog_sim.specs.declared.offer.Offer.{Offer}
 use Rattle.verilog_sim.specs.declared.given.Counts.{Counts}
-use Rattle.verilog_sim.specs.declared.line.Line.{Line}
+use Rattle.verilog_sim.specs.declared.compile.Program.{Program}
 use Rattle.verilog_sim.specs.Contents.{family_of, contents_of}
 use Rattle.verilog_sim.specs.Compiled.{AreLinesOf}
 use Rattle.verilog_sim.specs.Runnable.{IsRunnable, IsOrderOf}
-use Rattle.verilog_sim.specs.Settled.{AreWords}
+use Rattle.verilog_sim.specs.Feeding.{IsFeeding}
+use Rattle.verilog_sim.specs.Settled.{AreWords, Settles}
 use Rattle.verilog_sim.specs.Sources.{IsGiven, AreApart, port_count}
 use Rattle.verilog_sim.specs.Flattened.{IsFlat}
 use Rattle.verilog_sim.specs.declared.place.Place.{Place}
@@ -43,18 +44,27 @@ pub record AreCounts (c : Counts) (s : Shape) : Type 0 where
   pub inputs : c.inputs ≡ length s.inputs
   pub outputs : c.outputs ≡ length s.outputs
 
--- a module without instances that can be simulated with ports of a shape, and the lines of its assignments in an order in
--- which they can be evaluated. Its nets need no names
-pub record IsProgramOf (m : Module) (c : Counts) (literals : List ℕ) (lines : List Line) : Type 0 where
+-- a module without instances that can be simulated with ports of a shape. Its nets need no names
+pub record IsSimulable (m : Module) (c : Counts) : Type 0 where
   pub runnable : IsRunnable m
-  pub order : List Assign
-  pub ordered : IsOrderOf m order
-  pub lines_are : AreLinesOf m literals order lines
   pub shape : Shape
   pub counts : AreCounts c shape
   pub counted : port_count c ≡ length m.ports
   pub apart : AreApart m.ports
   pub formed : (i : ℕ) (p : Port) → slice_get m.ports i ≡ Some p → IsFormedPort m p
+
+-- the lines of the assignments of a module in an order in which they can be evaluated, and of those that feed a net
+pub record IsProgramOf (m : Module) (net : ℕ) (p : Program) : Type 0 where
+  pub order : List Assign
+  pub ordered : IsOrderOf m order
+  pub lines_are : AreLinesOf m p.literals.items order p.lines.items
+  pub feeding : List Assign
+  pub feeds : IsFeeding order feeding net
+  pub feeding_are : AreLinesOf m p.literals.items feeding p.feeding.items
+
+-- the net of the last port
+abbrev pub last_net : List Port → ℕ
+last_net ports = port_net (slice_get ports (length ports - 1))
 
 -- words of their widths stand in all registers, memories and nets, and at the ports that keep one value
 pub record AreKept (m : Module) (c : Counts) (steady held values : List ℕ) (memories : List (List ℕ)) : Type 0 where
@@ -78,15 +88,39 @@ pub record IsEvaluated
       → p.output ≡ false
       → IsGiven c reset steady offers accepts holds i (slice_index new p.net)
 
+-- the same as far as these assignments give values: the nets had others before, at registers those that they hold and at
+-- inputs those that are given
+pub record IsEvaluatedBy
+    (m : Module) (assigns : List Assign) (c : Counts) (reset : Bool) (steady : List ℕ) (offers : List Offer)
+    (accepts holds : List Bool) (held : List ℕ) (memories : List (List ℕ)) (new : List ℕ) : Type 0 where
+  pub driven : List ℕ
+  pub words : AreWords m driven memories
+  pub kept : (n : ℕ) → is_reg m n ≡ true → slice_index driven n ≡ slice_index held n
+  pub given :
+      (i : ℕ) (p : Port)
+      → slice_get m.ports i ≡ Some p
+      → p.output ≡ false
+      → IsGiven c reset steady offers accepts holds i (slice_index driven p.net)
+  pub settles : Settles m assigns memories driven new
+
+-- whether a net is 1 where all nets have their values, of which only some are new
+pub record IsAnswered
+    (m : Module) (net : ℕ) (c : Counts) (reset : Bool) (steady : List ℕ) (offers : List Offer) (accepts holds : List Bool)
+    (held : List ℕ) (memories : List (List ℕ)) (new : List ℕ) (answer : Bool) : Type 0 where
+  pub words : AreWords m new memories
+  pub values : List ℕ
+  pub evaluated : IsEvaluated m c reset steady offers accepts holds held memories values
+  pub answer_is : answer ≡ nat_eq (slice_index values net) 1
+
 -- the words that are offered have the widths of their ports
 abbrev pub AreOffered : Module → Outer → List Offer → Type 0
 AreOffered m o offers = (k : ℕ) (c : Channel) → slice_get o.inputs k ≡ Some c → (slice_index_or offers k nothing).word < 2 ^ width_of m c.word
 
 -- all is there for an edge of a module with these ports and updates
 pub record IsReady
-    (m : Module) (ports : List Port) (updates : List Update) (c : Counts) (literals : List ℕ) (lines : List Line) (steady : List ℕ)
-    (offers : List Offer) (held values : List ℕ) (memories : List (List ℕ)) : Type 0 where
-  pub program : IsProgramOf m c literals lines
+    (m : Module) (ports : List Port) (updates : List Update) (c : Counts) (steady : List ℕ) (offers : List Offer)
+    (held values : List ℕ) (memories : List (List ℕ)) : Type 0 where
+  pub simulable : IsSimulable m c
   pub ports_are : ports ≡ m.ports
   pub updates_are : updates ≡ m.updates
   pub kept : AreKept m c steady held values memories
@@ -94,14 +128,15 @@ pub record IsReady
 
 -- a simulator between two calls: it has the lines and the updates of the flat module of an accepted design
 pub record Simulates
-    (d : Design) (c : Counts) (literals : List ℕ) (lines : List Line) (updates : List Update) (places : List Place)
+    (d : Design) (c : Counts) (p : Program) (updates : List Update) (places : List Place)
     (steady held values : List ℕ) (memories : List (List ℕ)) : Type 0 where
   pub accepted : IsAccepted d
   pub flat : Module
   pub is_flat : IsFlat d places flat
-  pub program : IsProgramOf flat c literals lines
+  pub simulable : IsSimulable flat c
+  pub program : IsProgramOf flat (last_net flat.ports) p
   pub updates_are : updates ≡ flat.updates
-  pub has : HasShape is_flat.top program.shape
+  pub has : HasShape is_flat.top simulable.shape
   pub kept : AreKept flat c steady held values memories
 
 -- one edge: the values of all nets in it, and what registers and memories hold after it

@@ -39,7 +39,7 @@ fn with_instances(module: &Module, cells: &[u64]) -> u64
 {
     let mut count = own_cells(module);
     for instance in module.instances.as_slice() {
-        count = count.saturating_add(cells[instance.module as usize]);
+        count = count.saturating_add(cells[instance.module.index()]);
     }
     count
 }

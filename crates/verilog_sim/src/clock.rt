@@ -18,7 +18,7 @@ pub(crate) fn load(updates: &[Update], held: &[u128], values: &mut [u128])
 {
     for update in updates {
         if let Target::Reg(net) = update.target {
-            values[net as usize] = held[net as usize];
+            values[net.index()] = held[net.index()];
         }
     }
 }
@@ -46,12 +46,12 @@ fn write(update: &Update, values: &[u128], held: &mut [u128], memories: &mut [Me
         × (contents_of held.new memories.new
         ≡ updated m (family_of values.now) update.now (contents_of held.old memories.old)) }
 {
-    if values[update.enable as usize] == 1 {
-        let word = values[update.value as usize];
+    if values[update.enable.index()] == 1 {
+        let word = values[update.value.index()];
         match update.target {
-            Target::Reg(net) => held[net as usize] = word,
+            Target::Reg(net) => held[net.index()] = word,
             Target::Cell(k, address) => {
-                memories[k as usize].write(values[address as usize], word);
+                memories[k.index()].write(values[address.index()], word);
             }
         }
     }

@@ -1,66 +1,112 @@
 // Lines from assignments.
-ghost use Rattle.std.specs.Prelude.{◌≡◌, ◌<◌, ◌≤◌, length, All, IfOk};
+ghost use Rattle.std.specs.Prelude.{◌≡◌, true, ◌<◌, ◌≤◌, length, All, IfOk};
 ghost use Rattle.rtl_ir.specs.Typed.{IsTyped};
 ghost use Rattle.rtl_ir.specs.Formed.{IsFormedExpr};
 ghost use Rattle.rtl_ir.specs.Value.{width_of};
 ghost use Rattle.verilog_sim.specs.Lines.{IsSafe};
-ghost use Rattle.verilog_sim.specs.Compiled.{IsBinary, AreLinesOf, HasStep};
-ghost use Rattle.verilog_sim.specs.Runnable.{IsRunnable, IsOrderOf};
+ghost use Rattle.verilog_sim.specs.Compiled.{IsBinary, AreLinesOf, HasStep, HasLines, IsAddedLiteral, IsNarrow};
+ghost use Rattle.verilog_sim.specs.Runnable.{IsRunnable, IsPartOf};
 
 use crate::line::{Line, Step};
+use crate::order::Orders;
 use mx_base::NoMemory;
-use rtl_ir::{Assign, Expr, Module, Sign};
+use rtl_ir::{Assign, Expr, Module, NetId, Sign};
 use std::alloc::Global;
 
-/// The lines of a module in the order in which they are evaluated, and their literals.
+/// The lines of a module in the order in which they are evaluated, those of them that feed a net, and
+/// the literals of both.
 #[derive(Drop)]
 pub(crate) struct Program {
     pub(crate) lines: Vec<Line>,
+    pub(crate) feeding: Vec<Line>,
     pub(crate) literals: Vec<u128>,
 }
 
-/// The lines of these assignments.
-pub(crate) fn compile(alloc: Global, module: &Module, order: &[Assign]) -> Result<Program, NoMemory>
+/// The lines of both orders of a module.
+pub(crate) fn compile(alloc: Global, module: &Module, orders: &Orders) -> Result<Program, NoMemory>
+    requires all { IsPartOf module.now orders.now.all.items }
+    requires feeding { IsPartOf module.now orders.now.feeding.items }
     requires runnable { IsRunnable module.now }
-    requires order { IsOrderOf module.now order.now }
-    ensures { IfOk result (λ p. AreLinesOf module.now p.literals.items order.now p.lines.items) }
+    ensures all { IfOk result (λ p. AreLinesOf module.now p.literals.items orders.now.all.items p.lines.items) }
+    ensures feeding { IfOk result (λ p. AreLinesOf module.now p.literals.items orders.now.feeding.items p.feeding.items) }
+{
+    let mut literals = Vec::new(alloc);
+    let lines = lines_of(alloc, module, orders.all.as_slice(), &mut literals)?;
+    let feeding = lines_of(alloc, module, orders.feeding.as_slice(), &mut literals)?;
+    Ok(Program {
+        lines,
+        feeding,
+        literals,
+    })
+}
+
+/// The lines of these assignments. Their literals are added to the table.
+fn lines_of(
+    alloc: Global,
+    module: &Module,
+    order: &[Assign],
+    literals: &mut Vec<u128>,
+) -> Result<Vec<Line>, NoMemory>
+    requires runnable { IsRunnable module.now }
+    requires order { IsPartOf module.now order.now }
+    ensures { IfOk result (λ lines. HasLines module.now order.now lines.items literals.old.items literals.new.items) }
 {
     let mut lines = Vec::new(alloc);
-    let mut literals = Vec::new(alloc);
     for assign in order {
-        let width = width_at(module, assign.target);
-        let step = step_of(module, &assign.expr, &mut literals)?;
+        let width = module.width(assign.target);
+        let step = step_of(module, &assign.expr, literals)?;
         lines.push(Line {
             target: assign.target,
             width,
+            narrow: is_narrow(alloc, module, assign),
             step,
         })?;
     }
-    Ok(Program { lines, literals })
+    Ok(lines)
+}
+
+/// Whether an assignment gives a net of at most 64 bits its value, and reads such nets alone.
+fn is_narrow(alloc: Global, module: &Module, assign: &Assign) -> bool
+    ensures { result ≡ true → IsNarrow module.now assign.now }
+{
+    let nets = assign.expr.operands(alloc);
+    for net in nets.as_slice() {
+        if module.width(*net) > 64 {
+            return false;
+        }
+    }
+    module.width(assign.target) <= 64
 }
 
 /// The step of an expression. The word of a literal is added to the table.
+#[tactic(auto, using(crate::proofs::Compiling::literal_step))]
 fn step_of(module: &Module, expr: &Expr, literals: &mut Vec<u128>) -> Result<Step, NoMemory>
     requires formed { IsFormedExpr module.now expr.now }
     ensures { IfOk result (λ step. HasStep module.now expr.now step literals.old.items literals.new.items) }
 {
     Ok(match *expr {
         Expr::Net(a) => Step::Copy(a),
-        Expr::Literal(word) => {
-            literals.push(word.bits())?;
-            Step::Literal(literals.len() - 1)
-        }
+        Expr::Literal(word) => literal(word.bits(), literals)?,
         Expr::Not(a) => Step::Not(a),
         Expr::Binary(sign, a, b) => binary(sign, a, b),
-        Expr::Concat(a, b) => Step::Concat(a, b, width_at(module, b)),
-        Expr::Repeat(times, a) => Step::Repeat(times, width_at(module, a), a),
+        Expr::Concat(a, b) => Step::Concat(a, b, module.width(b)),
+        Expr::Repeat(times, a) => Step::Repeat(times, module.width(a), a),
         Expr::Part(a, _, lo) => Step::Part(a, lo),
         Expr::Choose(a, b, c) => Step::Choose(a, b, c),
         Expr::Cell(k, a) => Step::Cell(k, a),
     })
 }
 
-fn binary(sign: Sign, a: u32, b: u32) -> Step
+/// The step of a literal whose word is added to the table.
+fn literal(word: u128, literals: &mut Vec<u128>) -> Result<Step, NoMemory>
+    ensures { IfOk result (λ step. IsAddedLiteral word step literals.old.items literals.new.items) }
+{
+    let number = literals.len();
+    literals.push(word)?;
+    Ok(Step::Literal(number))
+}
+
+fn binary(sign: Sign, a: NetId, b: NetId) -> Step
     ensures { IsBinary sign a b result }
 {
     match sign {
@@ -74,12 +120,4 @@ fn binary(sign: Sign, a: u32, b: u32) -> Step
         Sign::Eq => Step::Eq(a, b),
         Sign::Lt => Step::Lt(a, b),
     }
-}
-
-/// The width of a net.
-fn width_at(module: &Module, net: u32) -> u8
-    requires { net < length module.now.nets }
-    ensures { result ≡ width_of module.now net }
-{
-    module.nets.at(net as usize).width
 }

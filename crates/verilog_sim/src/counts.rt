@@ -34,7 +34,7 @@ fn count(module: &Module, first: u8, output: bool) -> usize
 {
     let mut found = 0;
     for port in module.ports.as_slice() {
-        let name = module.nets.at(port.net as usize).name.as_bytes();
+        let name = module.nets.at(port.net.index()).name.as_bytes();
         if port.output == output && starts_with(name, first) {
             found += 1;
         }

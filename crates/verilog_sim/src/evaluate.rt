@@ -1,52 +1,52 @@
 // One edge of a flat module, from its registers and inputs on.
-ghost use Rattle.std.specs.Prelude.{◌≡◌, ℕ, ◌+◌, ◌*◌, ◌<◌, length, Some, slice_get};
+ghost use Rattle.std.specs.Prelude.{◌≡◌, ℕ, ◌+◌, ◌*◌, ◌<◌, ◌-◌, List, length, Some, slice_get};
 ghost use Rattle.rtl_ir.specs.declared.design.Module.{Module};
+ghost use Rattle.rtl_ir.specs.declared.design.Assign.{Assign};
 ghost use Rattle.rtl_ir.specs.declared.design.Port.{Port};
-ghost use Rattle.rtl_ir.specs.Flat.{top_of};
 ghost use Rattle.rtl_ir.specs.Ports.{port_net};
 ghost use Rattle.verilog_sim.specs.declared.offer.Event.{Event};
 ghost use Rattle.verilog_sim.specs.Calls.{event_of};
 ghost use Rattle.verilog_sim.specs.Contents.{family_of};
+ghost use Rattle.verilog_sim.specs.Compiled.{AreLinesOf};
+ghost use Rattle.verilog_sim.specs.Runnable.{IsPartOf};
 ghost use Rattle.verilog_sim.specs.Channels.{channel_of, first_channel};
 ghost use Rattle.verilog_sim.specs.Sources.{port_count};
-ghost use Rattle.verilog_sim.specs.Simulates.{AreKept, IsReady, IsEvaluated, IsStepped};
+ghost use Rattle.verilog_sim.specs.Simulates.{AreKept, IsReady, IsProgramOf, IsEvaluatedBy, IsStepped, IsAnswered, last_net};
 
 use crate::Event;
 use crate::clock::{clock, load};
 use crate::compile::Program;
 use crate::given::{Counts, Given, drive};
+use crate::line::Line;
 use crate::memory::Memory;
 use crate::settle::settle;
-use rtl_ir::{Design, Module, Port, Update};
+use rtl_ir::{NetId, Port, Update};
 
-/// The top module of a design, which is the last one.
-pub(crate) fn top(design: &Design) -> &Module
-    requires { 0 < length design.now.modules }
-    ensures { top_of design.now ≡ Some result.now }
-{
-    design.modules.at(design.modules.len() - 1)
-}
-
-/// Gives each net of a flat module its value.
+/// Gives nets of a flat module their values: registers, inputs and the targets of these lines.
 pub(crate) fn evaluate(
     ports: &[Port],
     updates: &[Update],
     counts: Counts,
-    program: &Program,
+    literals: &[u128],
+    lines: &[Line],
     given: &Given<'_>,
     held: &[u128],
     memories: &[Memory],
     values: &mut [u128],
 )
-    requires { (m : Module) × IsReady m ports.now updates.now counts program.now.literals.items program.now.lines.items given.now.steady.now given.now.offers.now held.now values.old memories.now }
+    requires { (m : Module) × (assigns : List Assign)
+        × IsReady m ports.now updates.now counts given.now.steady.now given.now.offers.now held.now values.old memories.now
+        × IsPartOf m assigns × AreLinesOf m literals.now assigns lines.now }
     // each module for which all is there
-    ensures { (m : Module) → IsReady m ports.now updates.now counts program.now.literals.items program.now.lines.items given.now.steady.now given.now.offers.now held.now values.old memories.now
-        → IsEvaluated m counts given.now.reset given.now.steady.now given.now.offers.now given.now.accepts.now given.now.holds.now held.now memories.now values.new }
+    ensures { (m : Module) (assigns : List Assign)
+        → IsReady m ports.now updates.now counts given.now.steady.now given.now.offers.now held.now values.old memories.now
+        → IsPartOf m assigns → AreLinesOf m literals.now assigns lines.now
+        → IsEvaluatedBy m assigns counts given.now.reset given.now.steady.now given.now.offers.now
+        given.now.accepts.now given.now.holds.now held.now memories.now values.new }
 {
     load(updates, held, values);
     drive(ports, counts, given, values);
-    let lines = program.lines.as_slice();
-    settle(lines, program.literals.as_slice(), memories, values);
+    settle(lines, literals, memories, values);
 }
 
 /// One edge: gives each net its value, and writes registers and memories.
@@ -60,16 +60,52 @@ pub(crate) fn step(
     memories: &mut [Memory],
     values: &mut [u128],
 )
-    requires { (m : Module) × IsReady m ports.now updates.now counts program.now.literals.items program.now.lines.items given.now.steady.now given.now.offers.now held.old values.old memories.old }
+    requires { (m : Module) × (net : ℕ)
+        × IsReady m ports.now updates.now counts given.now.steady.now given.now.offers.now held.old values.old memories.old
+        × IsProgramOf m net program.now }
     // each module for which all is there
-    ensures { (m : Module) → IsReady m ports.now updates.now counts program.now.literals.items program.now.lines.items given.now.steady.now given.now.offers.now held.old values.old memories.old
+    ensures { (m : Module) (net : ℕ)
+        → IsReady m ports.now updates.now counts given.now.steady.now given.now.offers.now held.old values.old memories.old
+        → IsProgramOf m net program.now
         → AreKept m counts given.now.steady.now held.new values.new memories.new
-        × IsStepped m counts given.now.reset given.now.steady.now given.now.offers.now given.now.accepts.now given.now.holds.now held.old memories.old values.new held.new memories.new }
+        × IsStepped m counts given.now.reset given.now.steady.now given.now.offers.now
+        given.now.accepts.now given.now.holds.now held.old memories.old values.new held.new memories.new }
 {
+    let lines = program.lines.as_slice();
+    let literals = program.literals.as_slice();
     evaluate(
-        ports, updates, counts, program, given, held, memories, values,
+        ports, updates, counts, literals, lines, given, held, memories, values,
     );
     clock(updates, values, held, memories);
+}
+
+/// Whether the last port is 1. Nets that have no part in that may keep older values.
+pub(crate) fn is_done(
+    ports: &[Port],
+    updates: &[Update],
+    counts: Counts,
+    program: &Program,
+    given: &Given<'_>,
+    held: &[u128],
+    memories: &[Memory],
+    values: &mut [u128],
+) -> bool
+    requires { (m : Module)
+        × IsReady m ports.now updates.now counts given.now.steady.now given.now.offers.now held.now values.old memories.now
+        × IsProgramOf m (last_net ports.now) program.now }
+    // each module for which all is there
+    ensures { (m : Module)
+        → IsReady m ports.now updates.now counts given.now.steady.now given.now.offers.now held.now values.old memories.now
+        → IsProgramOf m (last_net ports.now) program.now
+        → IsAnswered m (last_net ports.now) counts given.now.reset given.now.steady.now given.now.offers.now
+        given.now.accepts.now given.now.holds.now held.now memories.now values.new result }
+{
+    let lines = program.feeding.as_slice();
+    let literals = program.literals.as_slice();
+    evaluate(
+        ports, updates, counts, literals, lines, given, held, memories, values,
+    );
+    value_at(ports, values, ports.len() - 1) == 1
 }
 
 /// What happened at each host stream, the inputs first.
@@ -101,10 +137,18 @@ fn event_at(ports: &[Port], values: &[u128], first: usize) -> Event
 }
 
 /// The value of a port.
-pub(crate) fn value_at(ports: &[Port], values: &[u128], number: usize) -> u128
+fn value_at(ports: &[Port], values: &[u128], number: usize) -> u128
     requires number { number < length ports.now }
     requires nets { (i : ℕ) (p : Port) → slice_get ports.now i ≡ Some p → p.net < length values.now }
     ensures { result ≡ family_of values.now (port_net (slice_get ports.now number)) }
 {
-    values[ports[number].net as usize]
+    values[ports[number].net.index()]
+}
+
+/// The net of the last port.
+pub(crate) fn net_of_last(ports: &[Port]) -> NetId
+    requires { 0 < length ports.now }
+    ensures { result ≡ last_net ports.now }
+{
+    ports[ports.len() - 1].net
 }

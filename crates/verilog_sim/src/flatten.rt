@@ -5,12 +5,11 @@ ghost use Rattle.rtl_ir.specs.Rules.{IsAccepted};
 ghost use Rattle.verilog_sim.specs.Flattened.{IsRanged, IsAdded, IsAddedJoined, IsFlat, module_of};
 ghost use Rattle.verilog_sim.specs.Start.{all_cells};
 
-use crate::evaluate::top;
 use crate::moved::First;
 use crate::parts::{add_assigns, add_instances, add_joins, add_mems, add_nets, add_updates};
 use crate::place::Place;
 use mx_base::{List, NoMemory, Text};
-use rtl_ir::{Assign, Design, Instance, Mem, Module, Net, Port, Update};
+use rtl_ir::{Assign, Design, Instance, Mem, Module, Net, NetId, Port, Update};
 use std::alloc::Global;
 
 /// The flat module of a design, and where its instances stand in it.
@@ -73,8 +72,8 @@ impl Parts {
         ensures { OnOk result (IsAdded self.old self.new part.now) }
     {
         let first = First {
-            net: self.nets.len() as u32,
-            mem: self.mems.len() as u32,
+            net: self.nets.len(),
+            mem: self.mems.len(),
         };
         add_nets(alloc, &mut self.nets, part.nets.as_slice())?;
         add_mems(alloc, &mut self.mems, part.mems.as_slice())?;
@@ -89,7 +88,7 @@ impl Parts {
     }
 
     /// Adds a module that becomes a part in place of an instance, with its ports joined to these nets.
-    fn join(&mut self, alloc: Global, part: &Module, nets: &[u32]) -> Result<(), NoMemory>
+    fn join(&mut self, alloc: Global, part: &Module, nets: &[NetId]) -> Result<(), NoMemory>
         requires ranged { IsRanged part.now }
         requires nets { length self.old.nets.items + length part.now.nets < 2 ^ 32 }
         requires mems { length self.old.mems.items + length part.now.mems < 2 ^ 32 }
@@ -97,7 +96,7 @@ impl Parts {
         requires joined { length nets.now ≡ length part.now.ports }
         ensures { OnOk result (IsAddedJoined self.old self.new part.now nets.now) }
     {
-        let first_net = self.nets.len() as u32;
+        let first_net = self.nets.len();
         self.add(alloc, part)?;
         add_joins(&mut self.assigns, part.ports.as_slice(), nets, first_net)
     }
@@ -124,12 +123,12 @@ pub(crate) fn flatten(alloc: Global, design: &Design) -> Result<Flat, NoMemory>
     requires small { all_cells design.now ≤ 2 ^ 26 }
     ensures { IfOk result (λ flat. IsFlat design.now flat.places.items flat.«module») }
 {
-    let top = top(design);
+    let top = design.top();
     let mut parts = Parts::new(alloc);
     let mut places = Vec::new(alloc);
     parts.add(alloc, top)?;
     while let Some(instance) = parts.instances.pop() {
-        let part = design.modules.at(instance.module as usize);
+        let part = design.modules.at(instance.module.index());
         places.push(parts.place_of(part))?;
         parts.join(alloc, part, instance.nets.as_slice())?;
     }

@@ -48,7 +48,7 @@ pub(crate) fn drive(ports: &[Port], counts: Counts, given: &Given<'_>, values: &
 {
     for (number, port) in ports.iter().enumerate() {
         if !port.output {
-            values[port.net as usize] = word_of(given, source_at(counts, number));
+            values[port.net.index()] = word_of(given, source_at(counts, number));
         }
     }
 }

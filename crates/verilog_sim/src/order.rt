@@ -1,12 +1,14 @@
 // An order in which the assignments of a module can be evaluated.
 ghost use Rattle.std.specs.Prelude.{◌≡◌, ℕ, ◌≤◌, ◌<◌, ◌^◌, List, [], length, Option, Some, slice_get, slice_index, replicate, IfOk};
-ghost use Rattle.rtl_ir.specs.Operands.{reads};
+ghost use Rattle.rtl_ir.specs.declared.design.Assign.{Assign};
+ghost use Rattle.rtl_ir.specs.Operands.{reads, IsRead};
 ghost use Rattle.verilog_sim.specs.Runnable.{IsRunnable, IsOrderOf};
 ghost use Rattle.verilog_sim.specs.Drivers.{AreDrivers, IsGathered};
+ghost use Rattle.verilog_sim.specs.Feeding.{AreMarkedFrom, AreReadsMarked, IsFeeding, marked_of};
 
 use digraph::{Found, rank};
 use mx_base::{List, NoMemory};
-use rtl_ir::{Assign, Expr, Module};
+use rtl_ir::{Assign, Expr, Module, NetId};
 use std::alloc::Global;
 
 /// Which nets each net reads, and the number of its assignment where it has one.
@@ -16,8 +18,29 @@ struct Drivers {
     by_net: Vec<Option<usize>>,
 }
 
+/// The assignments of a module, each after those whose targets it reads, and in the same order those
+/// that feed one of its nets.
+#[derive(Drop)]
+pub(crate) struct Orders {
+    pub(crate) all: Vec<Assign>,
+    pub(crate) feeding: Vec<Assign>,
+}
+
+/// Both orders of a module, with the assignments that feed this net.
+pub(crate) fn both_orders(alloc: Global, module: &Module, net: NetId) -> Result<Orders, NoMemory>
+    requires runnable { IsRunnable module.now }
+    requires small { length module.now.nets ≤ 2 ^ 32 }
+    requires net { net < length module.now.nets }
+    ensures { IfOk result (λ o. IsOrderOf module.now o.all.items × IsFeeding o.all.items o.feeding.items net) }
+{
+    let all = in_order(alloc, module)?;
+    let marks = marks_of(alloc, module, all.as_slice(), net)?;
+    let feeding = marked(alloc, all.as_slice(), marks.as_slice())?;
+    Ok(Orders { all, feeding })
+}
+
 /// The assignments of a module, each after those whose targets it reads.
-pub(crate) fn in_order(alloc: Global, module: &Module) -> Result<Vec<Assign>, NoMemory>
+fn in_order(alloc: Global, module: &Module) -> Result<Vec<Assign>, NoMemory>
     requires runnable { IsRunnable module.now }
     requires small { length module.now.nets ≤ 2 ^ 32 }
     ensures { IfOk result (λ order. IsOrderOf module.now order.items) }
@@ -44,8 +67,8 @@ fn drivers_of(alloc: Global, module: &Module) -> Result<Drivers, NoMemory>
     let mut by_net = undriven(alloc, module.nets.len())?;
     for (k, assign) in module.assigns.as_slice().iter().enumerate() {
         let reads = operands(alloc, &assign.expr)?;
-        graph[assign.target as usize] = reads;
-        by_net[assign.target as usize] = Some(k);
+        graph[assign.target.index()] = reads;
+        by_net[assign.target.index()] = Some(k);
     }
     Ok(Drivers { graph, by_net })
 }
@@ -72,28 +95,16 @@ fn undriven(alloc: Global, nets: usize) -> Result<Vec<Option<usize>>, NoMemory>
     Ok(drivers)
 }
 
-/// The nets that an expression reads.
+/// The nets that an expression reads, as nodes of a graph.
 fn operands(alloc: Global, expr: &Expr) -> Result<List<u32>, NoMemory>
     ensures { IfOk result (λ l. l ≡ reads expr.now) }
 {
-    let mut nets = Vec::new(alloc);
-    match *expr {
-        Expr::Literal(_) => {}
-        Expr::Net(a) | Expr::Not(a) | Expr::Repeat(_, a) | Expr::Part(a, _, _) | Expr::Cell(_, a) =>
-            {
-                nets.push(a)?;
-            }
-        Expr::Binary(_, a, b) | Expr::Concat(a, b) => {
-            nets.push(a)?;
-            nets.push(b)?;
-        }
-        Expr::Choose(a, b, c) => {
-            nets.push(a)?;
-            nets.push(b)?;
-            nets.push(c)?;
-        }
+    let nets = expr.operands(alloc);
+    let mut nodes = Vec::new(alloc);
+    for net in nets.as_slice() {
+        nodes.push(net.index() as u32)?;
     }
-    Ok(List::from_vec(nets))
+    Ok(List::from_vec(nodes))
 }
 
 /// The assignments to these nets, in their order.
@@ -114,4 +125,55 @@ fn gather(
         }
     }
     Ok(order)
+}
+
+/// Marks a net and all nets on which its value depends.
+fn marks_of(
+    alloc: Global,
+    module: &Module,
+    order: &[Assign],
+    net: NetId,
+) -> Result<Vec<bool>, NoMemory>
+    requires runnable { IsRunnable module.now }
+    requires order { IsOrderOf module.now order.now }
+    requires net { net < length module.now.nets }
+    ensures marked { IfOk result (λ marks. AreMarkedFrom order.now net marks.items 0) }
+    ensures size { IfOk result (λ marks. length marks.items ≡ length module.now.nets) }
+{
+    let mut marks = vec![in alloc; false; module.nets.len()]?;
+    marks[net.index()] = true;
+    let mut left = order.len();
+    while left > 0 {
+        left -= 1;
+        let assign = order[left];
+        if marks[assign.target.index()] {
+            mark_reads(alloc, &assign.expr, marks.as_mut_slice());
+        }
+    }
+    Ok(marks)
+}
+
+/// Marks the nets that an expression reads.
+fn mark_reads(alloc: Global, expr: &Expr, marks: &mut [bool])
+    requires { (n : ℕ) → IsRead expr.now n → n < length marks.old }
+    ensures { AreReadsMarked expr.now marks.old marks.new }
+{
+    let nets = expr.operands(alloc);
+    for net in nets.as_slice() {
+        marks[net.index()] = true;
+    }
+}
+
+/// The assignments to marked nets, in their order.
+fn marked(alloc: Global, order: &[Assign], marks: &[bool]) -> Result<Vec<Assign>, NoMemory>
+    requires { (i : ℕ) (a : Assign) → slice_get order.now i ≡ Some a → a.target < length marks.now }
+    ensures { IfOk result (λ l. l.items ≡ marked_of marks.now order.now) }
+{
+    let mut picked = Vec::new(alloc);
+    for assign in order {
+        if marks[assign.target.index()] {
+            picked.push(*assign)?;
+        }
+    }
+    Ok(picked)
 }

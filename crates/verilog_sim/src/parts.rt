@@ -6,9 +6,9 @@ ghost use Rattle.rtl_ir.specs.declared.design.Instance.{Instance};
 ghost use Rattle.rtl_ir.specs.declared.design.Port.{Port};
 ghost use Rattle.verilog_sim.specs.Moved.{bare_net, bare_mem, moved_assign as assign_of, moved_update as update_of, moved_instance as instance_of, joins_of, IsAssignMovable, IsUpdateMovable};
 
-use crate::moved::{First, joined, moved_assign, moved_update};
+use crate::moved::{First, joined, moved_assign, moved_net, moved_update};
 use mx_base::{List, NoMemory, Text};
-use rtl_ir::{Assign, Instance, Mem, Net, Port, Update};
+use rtl_ir::{Assign, Expr, Instance, Mem, Net, NetId, Port, Update};
 use std::alloc::Global;
 
 /// Adds the nets of a module, without names.
@@ -74,7 +74,7 @@ pub(crate) fn add_instances(
     alloc: Global,
     instances: &mut Vec<Instance>,
     more: &[Instance],
-    first_net: u32,
+    first_net: usize,
 ) -> Result<(), NoMemory>
     requires { (k j n : ℕ) (i : Instance) → slice_get more.now k ≡ Some i → slice_get i.nets j ≡ Some n → first_net + n < 2 ^ 32 }
     ensures { OnOk result (instances.new.items ≡ instances.old.items ++ map (instance_of first_net) more.now) }
@@ -85,7 +85,11 @@ pub(crate) fn add_instances(
     Ok(())
 }
 
-fn moved_instance(alloc: Global, instance: &Instance, first_net: u32) -> Result<Instance, NoMemory>
+fn moved_instance(
+    alloc: Global,
+    instance: &Instance,
+    first_net: usize,
+) -> Result<Instance, NoMemory>
     requires { (j n : ℕ) → slice_get instance.now.nets j ≡ Some n → first_net + n < 2 ^ 32 }
     ensures { IfOk result (λ i. i ≡ instance_of first_net instance.now) }
 {
@@ -96,13 +100,13 @@ fn moved_instance(alloc: Global, instance: &Instance, first_net: u32) -> Result<
     })
 }
 
-fn moved_nets(alloc: Global, nets: &[u32], first_net: u32) -> Result<List<u32>, NoMemory>
+fn moved_nets(alloc: Global, nets: &[NetId], first_net: usize) -> Result<List<NetId>, NoMemory>
     requires { (j n : ℕ) → slice_get nets.now j ≡ Some n → first_net + n < 2 ^ 32 }
     ensures { IfOk result (λ l. l ≡ map (λ n. first_net + n) nets.now) }
 {
     let mut moved = Vec::new(alloc);
     for net in nets {
-        moved.push(first_net + *net)?;
+        moved.push(moved_net(first_net, *net))?;
     }
     Ok(List::from_vec(moved))
 }
@@ -111,15 +115,19 @@ fn moved_nets(alloc: Global, nets: &[u32], first_net: u32) -> Result<List<u32>, 
 pub(crate) fn add_joins(
     assigns: &mut Vec<Assign>,
     ports: &[Port],
-    nets: &[u32],
-    first_net: u32,
+    nets: &[NetId],
+    first_net: usize,
 ) -> Result<(), NoMemory>
     requires nets { length nets.now ≡ length ports.now }
     requires ports { (k : ℕ) (p : Port) → slice_get ports.now k ≡ Some p → first_net + p.net < 2 ^ 32 }
     ensures { OnOk result (assigns.new.items ≡ assigns.old.items ++ joins_of first_net ports.now nets.now) }
 {
     for (k, port) in ports.iter().enumerate() {
-        assigns.push(joined(first_net, *port, nets[k]))?;
+        let join = joined(first_net, *port, nets[k]);
+        assigns.push(Assign {
+            target: join.target,
+            expr: Expr::Net(join.source),
+        })?;
     }
     Ok(())
 }

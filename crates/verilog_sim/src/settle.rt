@@ -17,7 +17,7 @@ pub(crate) fn settle(lines: &[Line], literals: &[u128], memories: &[Memory], val
         → AreWords m values.old memories.now → Settles m assigns memories.now values.old values.new }
 {
     for line in lines {
-        let value = value_of(line.step, line.width, literals, memories, values);
-        values[line.target as usize] = value;
+        let value = value_of(*line, literals, memories, values);
+        values[line.target.index()] = value;
     }
 }

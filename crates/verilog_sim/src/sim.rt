@@ -13,11 +13,11 @@ ghost use Rattle.verilog_sim.specs.Start.{all_cells, IsFilled, IsRefusal, filled
 use crate::cells::count_cells;
 use crate::compile::{Program, compile};
 use crate::counts::counts_of;
-use crate::evaluate::{evaluate, step, tell, top, value_at};
+use crate::evaluate::{is_done, net_of_last, step, tell};
 use crate::flatten::{Flat, flatten};
 use crate::given::{Counts, Given};
 use crate::memory::Memory;
-use crate::order::in_order;
+use crate::order::both_orders;
 use crate::place::Place;
 use crate::start::{memories, registers};
 use crate::{Event, Offer, SimError};
@@ -63,7 +63,7 @@ impl<'a> Model for Sim<'a> {
       memories = a.memories.items;
     } };
 
-    ghost invariant = { λ a. Simulates a.design.now a.counts a.program.literals.items a.program.lines.items a.updates a.places.items a.steady.items a.held.items a.values.items a.memories.items };
+    ghost invariant = { λ a. Simulates a.design.now a.counts a.program a.updates a.places.items a.steady.items a.held.items a.values.items a.memories.items };
 }
 
 impl<'a> Sim<'a> {
@@ -91,13 +91,14 @@ impl<'a> Sim<'a> {
         if cells > MOST_CELLS {
             return Err(SimError::TooManyCells(cells));
         }
-        let counts = counts_of(top(design));
+        let counts = counts_of(design.top());
         let Flat { module, places } = flatten(alloc, design)?;
-        let order = in_order(alloc, &module)?;
+        let done = net_of_last(module.ports.as_slice());
+        let orders = both_orders(alloc, &module, done)?;
         Ok(Sim {
             design,
             counts,
-            program: compile(alloc, &module, order.as_slice())?,
+            program: compile(alloc, &module, &orders)?,
             places,
             steady: vec![in alloc; 0; counts.kernels + counts.scalars]?,
             held: registers(alloc, &module, fill)?,
@@ -130,7 +131,7 @@ impl<'a> Sim<'a> {
             accepts: &[],
             holds: &[],
         };
-        let ports = top(self.design).ports.as_slice();
+        let ports = self.design.top().ports.as_slice();
         step(
             ports,
             self.updates.as_slice(),
@@ -155,8 +156,8 @@ impl<'a> Sim<'a> {
             accepts: &[],
             holds: &[],
         };
-        let ports = top(self.design).ports.as_slice();
-        evaluate(
+        let ports = self.design.top().ports.as_slice();
+        is_done(
             ports,
             self.updates.as_slice(),
             self.counts,
@@ -165,8 +166,7 @@ impl<'a> Sim<'a> {
             self.held.as_slice(),
             self.memories.as_slice(),
             self.values.as_mut_slice(),
-        );
-        value_at(ports, self.values.as_slice(), ports.len() - 1) == 1
+        )
     }
 
     /// One edge with the port reset at 0.
@@ -190,7 +190,7 @@ impl<'a> Sim<'a> {
             accepts,
             holds,
         };
-        let ports = top(self.design).ports.as_slice();
+        let ports = self.design.top().ports.as_slice();
         step(
             ports,
             self.updates.as_slice(),

@@ -10,7 +10,8 @@ use Rattle.rtl_ir.specs.declared.design.Sign.{Sign as Operation}
 use Rattle.rtl_ir.specs.declared.design.Sign.TheVariants.{Add, Sub, Mul, Div, And, Or, Xor, Eq, Lt}
 use Rattle.rtl_text.specs.Tokens.{Token, is_sign}
 use Rattle.rtl_ir.specs.Names.{is_reserved}
-use Rattle.rtl_text.specs.Productions.{Part, Sign_, Id, Number, Literal, Is, Choice, sign_bytes}
+use Rattle.rtl_text.specs.Productions.{Part, Sign_, Id, Number, Literal, Is, Choice}
+use Rattle.rtl_ir.specs.Spelling.{sign_bytes}
 use Rattle.verilog_syntax.specs.Parsing.{NameOf, NumberTo, LiteralOf, OperatorOf, SizedNumber, IsTree, ended, end_token, Reads, Stops, ReadsAll, StopsAll}
 use Rattle.verilog_syntax.specs.Pieces.{piece_part, piece_token, same_token, begins_with, name_at, number_at, operator_at, operator_in, BeginsLiteral, BeginsNoLiteral, keyword_bytes}
 use Rattle.verilog_syntax.specs.Scanning.{mark_bytes}

@@ -6,7 +6,8 @@ use Rattle.rtl_ir.specs.declared.design.Sign.{Sign as Operation}
 use Rattle.rtl_ir.specs.declared.design.Sign.TheVariants.{Add, Sub, Mul, Div, And, Or, Xor, Eq, Lt}
 use Rattle.rtl_text.specs.Tokens.{Token}
 use Rattle.rtl_ir.specs.Names.{is_reserved}
-use Rattle.rtl_text.specs.Productions.{Part, Id, Sign_, Number, Literal, Is, Choice, sign_bytes}
+use Rattle.rtl_text.specs.Productions.{Part, Id, Sign_, Number, Literal, Is, Choice}
+use Rattle.rtl_ir.specs.Spelling.{sign_bytes}
 use Rattle.verilog_syntax.specs.Parsing.{Symbol, NameOf, NumberTo, LiteralOf, OperatorOf, ExprOf, TreeOf, GoesOn, Ends, ended}
 use Rattle.verilog_syntax.specs.Pieces.{piece_part, piece_token, same_token, begins_with, name_at, operator_at}
 use Rattle.verilog_syntax.specs.declared.keyword.Piece.{Piece}

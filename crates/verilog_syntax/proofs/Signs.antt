@@ -3,7 +3,7 @@ use Rattle.std.proofs.Common.{◌≡◌, ◌∙◌, inl, inr, ℕ, ◌==◌, Boo
 use Rattle.std.specs.List.{list_all, list_any}
 use Rattle.std.specs.Str.{bytes_eq}
 use Rattle.std.proofs.lemmas.List.{append_cancel_right}
-use Rattle.grammar.specs.Bytes.{is_digit, is_hex, decimal}
+use Rattle.grammar.specs.Bytes.{is_digit, is_hex, decimal_value}
 use Rattle.rtl_text.specs.Tokens.{Token, token_of, is_hex_part, is_quote, is_sign, signs}
 use Rattle.rtl_ir.specs.Names.{begins_name, continues_name}
 use Rattle.rtl_ir.specs.declared.design.Sign.TheVariants.{Add, Sub, Mul, Div, And, Or, Xor, Eq, Lt}
@@ -32,7 +32,7 @@ word_taken text (b ∷ bs) rest gap h e a o =
 
 -- numbers
 
-pub number_taken : (text front rest : List ℕ) → BeginsNoGap text → begins_number text ≡ true → text ≡ front ++ rest → list_all is_digit front ≡ true → BeginsOutside Digit rest → begins_hex_part rest ≡ false → Takes text (Token.Number (decimal front)) rest
+pub number_taken : (text front rest : List ℕ) → BeginsNoGap text → begins_number text ≡ true → text ≡ front ++ rest → list_all is_digit front ≡ true → BeginsOutside Digit rest → begins_hex_part rest ≡ false → Takes text (Token.Number (decimal_value front)) rest
 number_taken text [] [] gap h e a o x = absurd (clash (sym (ap begins_number e) ∙ h) refl)
 number_taken text [] (y ∷ rest) gap h e a o x = absurd (clash (sym (ap begins_number e) ∙ h) o)
 number_taken text (b ∷ bs) rest gap h e a o x = taken (b ∷ bs) rest e gap (token_of_number (b ∷ bs) a) longer tt

@@ -3,7 +3,7 @@ use Rattle.std.proofs.Common.{◌≡◌, ◌∙◌, inl, inr, ℕ, ◌==◌, Boo
 use Rattle.std.specs.List.{list_all, list_any, before_first}
 use Rattle.std.specs.Str.{bytes_eq}
 use Rattle.std.proofs.lemmas.Bool.Decides.{nat_tests}
-use Rattle.grammar.specs.Bytes.{is_digit, is_hex, decimal}
+use Rattle.grammar.specs.Bytes.{is_digit, is_hex, decimal_value}
 use Rattle.rtl_text.specs.Tokens.{Token, token_of, is_word, is_number, is_literal, is_hex_part, is_quote, is_sign, signs}
 use Rattle.rtl_ir.specs.Names.{begins_name, continues_name}
 use Rattle.text_scan.proofs.ByteTests.{and_true, or_true, clash, not_true, true_or_false, eq_same, bytes_same, not_all, before_here, before_later, parts_at, before_more}
@@ -78,7 +78,7 @@ no_longer_word b bs h e =
 no_word : (b : ℕ) (bs : List ℕ) → is_digit b ≡ true → is_word (b ∷ bs) ≡ false
 no_word b bs d = not_true _ (λ t. clash (and_true (begins_name b) _ t).0 (digit_is_no_start b d))
 
-pub token_of_number : (w : List ℕ) → is_number w ≡ true → token_of w ≡ Some (Token.Number (decimal w))
+pub token_of_number : (w : List ℕ) → is_number w ≡ true → token_of w ≡ Some (Token.Number (decimal_value w))
 token_of_number [] e = cc
 token_of_number (b ∷ bs) e = rw (no_word b bs (and_true (is_digit b) _ e).0) (rw e refl)
 

@@ -6,7 +6,8 @@ use Rattle.rtl_ir.specs.declared.design.Sign.{Sign}
 use Rattle.rtl_text.specs.Tokens.{Token}
 use Rattle.rtl_ir.specs.Names.{is_reserved}
 use Rattle.rtl_text.specs.Tree.{Name, PortTree, ExprTree, UpdateTree, Connection, ItemTree, ModuleTree}
-use Rattle.rtl_text.specs.Productions.{Part, Sign_, Id, Number, Literal, File, Modules, Module, Ports, MorePorts, Port, Range, Items, Item, Updates, Update, Connections, MoreConnections, Connected, Expr, Is, Choice, IsWidth, sign_bytes}
+use Rattle.rtl_text.specs.Productions.{Part, Sign_, Id, Number, Literal, File, Modules, Module, Ports, MorePorts, Port, Range, Items, Item, Updates, Update, Connections, MoreConnections, Connected, Expr, Is, Choice, IsWidth}
+use Rattle.rtl_ir.specs.Spelling.{sign_bytes}
 
 -- a part without its tree
 pub data Symbol : Type 0 where

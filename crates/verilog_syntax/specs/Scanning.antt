@@ -1,10 +1,10 @@
 -- The tokens of a text with their places, and where a text has no token.
 use Rattle.std.specs.Prelude.{◌≡◌, ℕ, Bool, false, ◌&&◌, ◌||◌, ◌==◌, List, [], ◌∷◌, ◌++◌, length, codes}
-use Rattle.grammar.specs.Bytes.{is_digit, is_hex, decimal, hexadecimal}
+use Rattle.grammar.specs.Bytes.{is_digit, is_hex, decimal_value, hexadecimal}
 use Rattle.grammar.specs.Tokens.{IsNext, Reads, IsText, Gaps}
 use Rattle.rtl_text.specs.Tokens.{Token, token_of, is_quote, hex_digits, Apart}
 use Rattle.rtl_ir.specs.Names.{begins_name}
-use Rattle.rtl_text.specs.Productions.{sign_bytes}
+use Rattle.rtl_ir.specs.Spelling.{sign_bytes}
 use Rattle.std.specs.List.{before_first, after_first}
 use Rattle.text_scan.specs.Places as places
 use Rattle.text_scan.specs.Gaps.{BeginsNoGap}
@@ -76,7 +76,7 @@ mark_bytes Tilde = codes "~"
 mark_bytes (Operator s) = sign_bytes s
 
 abbrev pub literal_width : List ℕ → ℕ
-literal_width word = decimal (before_first is_quote word)
+literal_width word = decimal_value (before_first is_quote word)
 
 abbrev pub literal_value : List ℕ → ℕ
 literal_value word = hexadecimal (hex_digits (after_first is_quote word))
@@ -84,7 +84,7 @@ literal_value word = hexadecimal (hex_digits (after_first is_quote word))
 -- the token that a token of the scanner is
 abbrev pub token_view : Read → Token
 token_view (Word w) = Token.Word w.now
-token_view (Number w) = Token.Number (decimal w.now)
+token_view (Number w) = Token.Number (decimal_value w.now)
 token_view (Literal w) = Token.Literal (literal_width w.now) (literal_value w.now)
 token_view (MarkOf m) = Token.Sign (mark_bytes m)
 

@@ -19,6 +19,3 @@ pub use modules::{ParseError, parse};
 pub use scanner::{ScanError, scan};
 pub use token::{Placed, Token};
 pub use tree::{Connection, ExprTree, ItemTree, ModuleTree, PortTree, UpdateTree};
-
-#[cfg(test)]
-mod tests;

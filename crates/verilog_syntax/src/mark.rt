@@ -82,15 +82,7 @@ impl Mark {
             Mark::Assign => b"=",
             Mark::LessEqual => b"<=",
             Mark::Tilde => b"~",
-            Mark::Operator(Sign::Add) => b"+",
-            Mark::Operator(Sign::Sub) => b"-",
-            Mark::Operator(Sign::Mul) => b"*",
-            Mark::Operator(Sign::Div) => b"/",
-            Mark::Operator(Sign::And) => b"&",
-            Mark::Operator(Sign::Or) => b"|",
-            Mark::Operator(Sign::Xor) => b"^",
-            Mark::Operator(Sign::Eq) => b"==",
-            Mark::Operator(Sign::Lt) => b"<",
+            Mark::Operator(sign) => sign.spelling(),
         }
     }
 }

@@ -38,7 +38,7 @@ fn number(base: u8, digits: &[u8], limit: u128) -> Option<u128>
 
 /// The number that decimal digits say, where it is at most `limit`.
 pub fn decimal(digits: &[u8], limit: u32) -> Option<u32>
-    ensures { let said = numerals.decimal digits.now in MatchOption result (limit < said) (λ n. (n ≡ said) × (n ≤ limit)) }
+    ensures { let said = numerals.decimal_value digits.now in MatchOption result (limit < said) (λ n. (n ≡ said) × (n ≤ limit)) }
 {
     match number(10, digits, limit as u128) {
         Some(value) => Some(value as u32),

@@ -1,5 +1,5 @@
 -- Sets of names.
-use Rattle.std.proofs.Common.{◌≡◌, List, ℕ, [], ◌∷◌, ◌++◌, ◌||◌, ◌&&◌, ◌↔◌, IsTrue, not, Bor, Bool, true, false, cond, bytes_eq, nat_cmp, BTreeSet, suc, take, drop, length, get_or, map, ◌<◌, ◌+◌, add-one, sym, ap, subst, ◌∙◌, refl}
+use Rattle.std.proofs.Common.{◌≡◌, List, ℕ, [], ◌∷◌, ◌++◌, ◌||◌, ◌&&◌, ◌↔◌, IsTrue, not, Bor, Bool, true, false, cond, bytes_eq, nat_cmp, BTreeSet, suc, take, drop, length, get_or, map, ◌<◌, ◌+◌, add-one, sym, ap, ◌∙◌, refl}
 use Rattle.std.specs.BTreeSet as sorted
 use Rattle.std.specs.Cmp.Lexicographic.{slice_cmp, nat_list_eq_equiv}
 use Rattle.std.specs.List.{list_any, list_all}
@@ -8,7 +8,7 @@ use Rattle.std.proofs.lemmas.List.Folds.{list_any-append}
 use Rattle.std.proofs.lemmas.Bool.{false≢true}
 use Rattle.std.proofs.lemmas.Grind.{take_at_read}
 use Rattle.std.proofs.Math.Seq.{drop-cons}
-use Rattle.std.proofs.lemmas.List.{map-append, map-id}
+use Rattle.std.proofs.lemmas.List.{map-append}
 use Rattle.word_files.specs.Keys.{HasKeys}
 use Rattle.word_files.specs.RunFiles.{files, is_shared, SameNames}
 
@@ -87,7 +87,3 @@ same_decides s t xs ys h k true around both f g e =
     (λ r. same_names s t xs ys h k (f.0 refl) (g.0 (sym e ∙ r)), λ n. e ∙ g.1 (is_part t s ys xs k h (λ name. sym (n name))))
 same_decides s t xs ys h k false around both f g e =
     (λ r. absurd (false≢true (sym e ∙ r)), λ n. absurd (false≢true (f.1 (is_part s t xs ys h k n))))
-
--- names that are names of themselves
-pub own_names : (xs ys : List (List ℕ)) → SameNames xs (map (λ name. name) ys) → SameNames xs ys
-own_names xs ys h = subst (SameNames xs) (map-id ys) h

@@ -1,5 +1,5 @@
 -- What a run file is, and what it says.
-use Rattle.std.specs.Prelude.{ℕ, ◌≡◌, ◌^◌, ◌&&◌, ◌||◌, not, Bool, true, false, nat_le, nat_lt, ◌⊎◌, List, [], ◌∷◌, map, codes, bytes_eq, Option, Some, None, is_some, unwrap_or, option_map, option_and_then, if◌then◌else◌, Result, Ok, Err, ⊤, IsUtf8}
+use Rattle.std.specs.Prelude.{ℕ, ◌≡◌, ◌^◌, ◌&&◌, ◌||◌, not, Bool, true, false, nat_le, nat_lt, ◌⊎◌, List, [], ◌∷◌, ◌++◌, map, codes, bytes_eq, Option, Some, None, is_some, unwrap_or, option_map, option_and_then, if◌then◌else◌, Result, Ok, Err, ⊤, IsUtf8}
 use Rattle.std.specs.List.{list_any, list_all, find}
 use Rattle.std.specs.Option.{option_or}
 use Rattle.serde_json.specs.Data.{Data, Members, no_members, member}
@@ -9,9 +9,12 @@ use Rattle.serde_json.specs.View.{view}
 use Rattle.serde_json.specs.declared.value.Value.{Value}
 use Rattle.word_files.specs.Hex.{word_of}
 use Rattle.word_files.specs.declared.run_file.RunFile.{RunFile}
-use Rattle.word_files.specs.declared.run_file.PortList.{PortList}
-use Rattle.word_files.specs.declared.error.RunError.{RunError}
-use Rattle.word_files.specs.declared.error.RunError.TheVariants.{NotJson, Shape, BadLine, WordRange, ReadFault, WriteFault, NoMemory}
+use Rattle.rtl_ir.specs.declared.interface.Interface.{Interface}
+use Rattle.rtl_ir.specs.declared.interface.KernelPorts.{KernelPorts}
+use Rattle.rtl_ir.specs.declared.interface.ScalarPort.{ScalarPort}
+use Rattle.rtl_ir.specs.declared.interface.StreamPorts.{StreamPorts}
+use Rattle.word_files.specs.declared.error.RunFileError.{RunFileError}
+use Rattle.word_files.specs.declared.error.RunFileError.TheVariants.{NotJson, Shape, NoMemory}
 
 abbrev pub Name : Type 0
 Name = List ℕ
@@ -56,25 +59,17 @@ or_default default reads (Some d) = reads d
 -- ---- one part of the file
 
 -- what the part under this key says, or that it isn't of its form
-abbrev pub IsPart : {A : Type 0} → Name → Option A → Result A RunError → Type 0
+abbrev pub IsPart : {A : Type 0} → Name → Option A → Result A RunFileError → Type 0
 IsPart key part (Ok a) = part ≡ Some a
 IsPart key part (Err NotJson) = ⊥
 IsPart key part (Err (Shape name)) = (name ≡ key) × (part ≡ None)
-IsPart key part (Err (BadLine file line)) = ⊥
-IsPart key part (Err (WordRange file line)) = ⊥
-IsPart key part (Err ReadFault) = ⊥
-IsPart key part (Err WriteFault) = ⊥
 IsPart key part (Err NoMemory) = Unit {0}
 
 -- a further key is refused
-abbrev pub IsFurther : Option Name → Result ⊤ RunError → Type 0
+abbrev pub IsFurther : Option Name → Result ⊤ RunFileError → Type 0
 IsFurther key (Ok t) = key ≡ None
 IsFurther key (Err NotJson) = ⊥
 IsFurther key (Err (Shape name)) = key ≡ Some name
-IsFurther key (Err (BadLine file line)) = ⊥
-IsFurther key (Err (WordRange file line)) = ⊥
-IsFurther key (Err ReadFault) = ⊥
-IsFurther key (Err WriteFault) = ⊥
 IsFurther key (Err NoMemory) = Unit {0}
 
 -- ---- the file, key by key
@@ -160,14 +155,10 @@ pub record IsRunFile (d : Data) (run : RunFile) : Type 0 where
   pub sound : fault_of d ≡ None
 
 -- what the JSON value says as a run file, or its first fault
-abbrev pub Says : Data → Result RunFile RunError → Type 0
+abbrev pub Says : Data → Result RunFile RunFileError → Type 0
 Says d (Ok run) = IsRunFile d run
 Says d (Err NotJson) = ⊥
 Says d (Err (Shape name)) = fault_of d ≡ Some name
-Says d (Err (BadLine file line)) = ⊥
-Says d (Err (WordRange file line)) = ⊥
-Says d (Err ReadFault) = ⊥
-Says d (Err WriteFault) = ⊥
 Says d (Err NoMemory) = Unit {0}
 
 -- a text is JSON exactly where serde_json reads a value from it
@@ -178,25 +169,17 @@ abbrev pub IsNoJson : List ℕ → Type 0
 IsNoJson bytes = IsUtf8 bytes → read bytes ≡ None
 
 -- what the bytes say as a run file
-abbrev pub Reads : List ℕ → Result RunFile RunError → Type 0
+abbrev pub Reads : List ℕ → Result RunFile RunFileError → Type 0
 Reads bytes (Ok run) = (d : Data) × IsJson bytes d × Says d (Ok run)
 Reads bytes (Err NotJson) = IsNoJson bytes
 Reads bytes (Err (Shape name)) = (d : Data) × IsJson bytes d × Says d (Err (Shape name))
-Reads bytes (Err (BadLine file line)) = ⊥
-Reads bytes (Err (WordRange file line)) = ⊥
-Reads bytes (Err ReadFault) = ⊥
-Reads bytes (Err WriteFault) = ⊥
 Reads bytes (Err NoMemory) = Unit {0}
 
 -- the JSON value of the bytes
-abbrev pub Parses : List ℕ → Result Value RunError → Type 0
+abbrev pub Parses : List ℕ → Result Value RunFileError → Type 0
 Parses bytes (Ok value) = IsJson bytes (view value)
 Parses bytes (Err NotJson) = IsNoJson bytes
 Parses bytes (Err (Shape name)) = ⊥
-Parses bytes (Err (BadLine file line)) = ⊥
-Parses bytes (Err (WordRange file line)) = ⊥
-Parses bytes (Err ReadFault) = ⊥
-Parses bytes (Err WriteFault) = ⊥
 Parses bytes (Err NoMemory) = Unit {0}
 
 -- ---- the run file beside the ports of a design
@@ -216,29 +199,32 @@ all_below scalars name width = list_all (λ s. not (bytes_eq s.0 name && not (na
 abbrev pub in_range : List (Name × ℕ) → List (Name × ℕ) → Bool
 in_range scalars ports = list_all (λ p. all_below scalars p.0 p.1) ports
 
-abbrev pub TicksFit : RunFile → PortList → Type 0
-TicksFit run ports = SameNames (names run.ticks) ports.kernels
+-- the scalars, each with its name KERNEL.NAME in a run file and its width
+abbrev pub scalar_entry : ScalarPort → Name × ℕ
+scalar_entry s = (s.kernel ++ codes "." ++ s.name, s.width)
 
-abbrev pub ScalarsFit : RunFile → PortList → Type 0
-ScalarsFit run ports = SameNames (names run.scalars) (names ports.scalars) × (in_range run.scalars ports.scalars ≡ true)
+abbrev pub scalar_entries : Interface → List (Name × ℕ)
+scalar_entries i = map scalar_entry i.scalars
 
-abbrev pub InputsFit : RunFile → PortList → Type 0
-InputsFit run ports = SameNames (names run.inputs) (names ports.inputs)
+abbrev pub TicksFit : RunFile → Interface → Type 0
+TicksFit run i = SameNames (names run.ticks) (map (λ (k : KernelPorts). k.name) i.kernels)
 
-abbrev pub OutputsFit : RunFile → PortList → Type 0
-OutputsFit run ports = SameNames (names run.outputs) (names ports.outputs)
+abbrev pub ScalarsFit : RunFile → Interface → Type 0
+ScalarsFit run i = SameNames (names run.scalars) (names (scalar_entries i)) × (in_range run.scalars (scalar_entries i) ≡ true)
+
+abbrev pub InputsFit : RunFile → Interface → Type 0
+InputsFit run i = SameNames (names run.inputs) (map (λ (x : StreamPorts). x.name) i.inputs)
+
+abbrev pub OutputsFit : RunFile → Interface → Type 0
+OutputsFit run i = SameNames (names run.outputs) (map (λ (y : StreamPorts). y.name) i.outputs)
 
 -- the run file fits the ports, or the key of the first list that doesn't
-abbrev pub Fits : RunFile → PortList → Result ⊤ RunError → Type 0
-Fits run ports (Ok t) = TicksFit run ports × ScalarsFit run ports × InputsFit run ports × OutputsFit run ports
-Fits run ports (Err NotJson) = ⊥
-Fits run ports (Err (Shape key)) =
-    ((key ≡ codes "ticks") × ¬ TicksFit run ports)
-    ⊎ ((key ≡ codes "scalars") × TicksFit run ports × ¬ ScalarsFit run ports)
-    ⊎ ((key ≡ codes "inputs") × TicksFit run ports × ScalarsFit run ports × ¬ InputsFit run ports)
-    ⊎ ((key ≡ codes "outputs") × TicksFit run ports × ScalarsFit run ports × InputsFit run ports × ¬ OutputsFit run ports)
-Fits run ports (Err (BadLine file line)) = ⊥
-Fits run ports (Err (WordRange file line)) = ⊥
-Fits run ports (Err ReadFault) = ⊥
-Fits run ports (Err WriteFault) = ⊥
-Fits run ports (Err NoMemory) = Unit {0}
+abbrev pub Fits : RunFile → Interface → Result ⊤ RunFileError → Type 0
+Fits run i (Ok t) = TicksFit run i × ScalarsFit run i × InputsFit run i × OutputsFit run i
+Fits run i (Err NotJson) = ⊥
+Fits run i (Err (Shape key)) =
+    ((key ≡ codes "ticks") × ¬ TicksFit run i)
+    ⊎ ((key ≡ codes "scalars") × TicksFit run i × ¬ ScalarsFit run i)
+    ⊎ ((key ≡ codes "inputs") × TicksFit run i × ScalarsFit run i × ¬ InputsFit run i)
+    ⊎ ((key ≡ codes "outputs") × TicksFit run i × ScalarsFit run i × InputsFit run i × ¬ OutputsFit run i)
+Fits run i (Err NoMemory) = Unit {0}

@@ -7,8 +7,8 @@ use Rattle.word_files.specs.Lines.{lines_from, lines_of}
 use Rattle.word_files.specs.declared.refusal.Refusal.{Refusal}
 use Rattle.word_files.specs.declared.refusal.Refusal.TheVariants as kept
 use Rattle.word_files.specs.declared.reader.WordReader.{WordReader}
-use Rattle.word_files.specs.declared.error.RunError.{RunError}
-use Rattle.word_files.specs.declared.error.RunError.TheVariants.{NotJson, Shape, BadLine, WordRange, ReadFault, WriteFault, NoMemory}
+use Rattle.word_files.specs.declared.error.WordError.{WordError}
+use Rattle.word_files.specs.declared.error.WordError.TheVariants.{BadLine, WordRange, ReadFault, WriteFault, NoMemory}
 
 -- the next line of the file is the one after so many lines; the reader has refused nothing
 pub record Follows (file : List ℕ) (reader : WordReader) : Type 0 where
@@ -22,11 +22,9 @@ pub record IsUnread (reader : WordReader) : Type 0 where
   pub none_ahead : reader.bytes.filled ≡ reader.bytes.from
 
 -- what the line of this number says, if there is one: a word of the width, or its refusal
-abbrev pub IsOfLine : List ℕ → ℕ → ℕ → Option (List ℕ) → Result (Option Word) RunError → Type 0
+abbrev pub IsOfLine : List ℕ → ℕ → ℕ → Option (List ℕ) → Result (Option Word) WordError → Type 0
 IsOfLine name width number line (Ok None) = line ≡ None
 IsOfLine name width number line (Ok (Some word)) = (option_map word_of line ≡ Some (Some word.bits)) × (word.width ≡ width)
-IsOfLine name width number line (Err NotJson) = ⊥
-IsOfLine name width number line (Err (Shape key)) = ⊥
 IsOfLine name width number line (Err (BadLine file at)) = (file ≡ name) × (at ≡ number) × (option_map word_of line ≡ Some None)
 IsOfLine name width number line (Err (WordRange file at)) = (file ≡ name) × (at ≡ number) × ((value : ℕ) × (option_map word_of line ≡ Some (Some value)) × (2 ^ width ≤ value))
 IsOfLine name width number line (Err ReadFault) = Unit {0}
@@ -43,17 +41,17 @@ Judges width number line (Err kept.ReadFault) = Unit {0}
 Judges width number line (Err kept.NoMemory) = Unit {0}
 
 -- a refusal, with the file's name
-abbrev pub refusal_of : List ℕ → Refusal → RunError
+abbrev pub refusal_of : List ℕ → Refusal → WordError
 refusal_of name (kept.BadLine line) = BadLine name line
 refusal_of name (kept.WordRange line) = WordRange name line
 refusal_of name kept.ReadFault = ReadFault
 refusal_of name kept.NoMemory = NoMemory
 
 -- this error is answered, or want of memory is
-abbrev pub Answers : RunError → Result (Option Word) RunError → Type 0
+abbrev pub Answers : WordError → Result (Option Word) WordError → Type 0
 Answers error result = (result ≡ Err error) ⊎ (result ≡ Err NoMemory)
 
 -- a reader keeps a refusal exactly where it answers it
-abbrev pub Keeps : List ℕ → Option Refusal → Result (Option Word) RunError → Type 0
+abbrev pub Keeps : List ℕ → Option Refusal → Result (Option Word) WordError → Type 0
 Keeps name refusal (Ok word) = refusal ≡ None
 Keeps name refusal (Err e) = (option_map (refusal_of name) refusal ≡ Some e) ⊎ (e ≡ NoMemory)

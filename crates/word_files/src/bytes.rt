@@ -58,6 +58,7 @@ impl FileBytes {
         ensures place { IfOk result (λ byte.
             self.new.place ≡ self.old.place + (if is_some byte then 1 else 0)) }
         ensures later { self.old.place ≤ self.new.place }
+        ensures most { self.new.place ≤ self.old.place + 1 }
         ensures byte { (file : List ℕ) → Holds (F.held files.old) name.now file → IsAhead file self.old →
             IfOk result (λ byte. byte ≡ slice_get file self.old.place) }
         ensures ahead { (file : List ℕ) → Holds (F.held files.old) name.now file → IsAhead file self.old →

@@ -4,14 +4,31 @@ ghost use Rattle.std.specs.Prelude.{◌≡◌};
 use mx_base::{NoMemory, Text};
 use std::alloc::AllocError;
 
-/// Why a file of a simulation is refused. A line counts from 1.
+/// Why a run file is refused.
 #[derive(Debug, PartialEq, Eq, Drop)]
-pub enum RunError {
+pub enum RunFileError {
     /// The run file is no JSON text.
     NotJson,
     /// The run file isn't of its form, under this key of the outermost object, or `-` where it is no
     /// object.
     Shape(Text),
+    /// No memory was left.
+    NoMemory,
+}
+
+impl From<NoMemory> for RunFileError {
+    ghost from_gives = { λ _ e. e ≡ NoMemory };
+
+    ghost use Rattle.word_files.specs.declared.error.RunFileError.TheVariants.{NoMemory};
+
+    fn from(_: NoMemory) -> Self {
+        RunFileError::NoMemory
+    }
+}
+
+/// Why words are not read or not written. A line counts from 1.
+#[derive(Debug, PartialEq, Eq, Drop)]
+pub enum WordError {
     /// A line of this file isn't 1 to 32 hexadecimal digits.
     BadLine(Text, u64),
     /// A line of this file says a number that has more bits than the words of its stream.
@@ -24,22 +41,12 @@ pub enum RunError {
     NoMemory,
 }
 
-impl From<NoMemory> for RunError {
+impl From<AllocError> for WordError {
     ghost from_gives = { λ _ e. e ≡ NoMemory };
 
-    ghost use Rattle.word_files.specs.declared.error.RunError.TheVariants.{NoMemory};
-
-    fn from(_: NoMemory) -> Self {
-        RunError::NoMemory
-    }
-}
-
-impl From<AllocError> for RunError {
-    ghost from_gives = { λ _ e. e ≡ NoMemory };
-
-    ghost use Rattle.word_files.specs.declared.error.RunError.TheVariants.{NoMemory};
+    ghost use Rattle.word_files.specs.declared.error.WordError.TheVariants.{NoMemory};
 
     fn from(_: AllocError) -> Self {
-        RunError::NoMemory
+        WordError::NoMemory
     }
 }

@@ -5,8 +5,10 @@ ghost use Rattle.word_files.specs.Keys.{HasKeys};
 
 use crate::hex::is_below;
 use crate::parts::shape;
-use crate::{PortList, RunError, RunFile};
+use crate::scalars::scalar_names;
+use crate::{RunFile, RunFileError};
 use mx_base::{List, NoMemory, Text};
+use rtl_ir::{Interface, KernelPorts, StreamPorts};
 use std::alloc::Global;
 use std::collections::BTreeSet;
 
@@ -14,13 +16,14 @@ impl RunFile {
     /// Tests the run file beside the ports of a design: its kernels, scalars, inputs and outputs are
     /// exactly those of the design, and each scalar's word has at most as many bits as the scalar.
     /// Error: `Shape` with the key of the first list, in this order, that isn't so.
-    pub fn fit(&self, alloc: Global, ports: &PortList) -> Result<(), RunError>
+    pub fn fit(&self, alloc: Global, ports: &Interface) -> Result<(), RunFileError>
         ensures { Fits self.now ports.now result }
     {
         if !same_names(alloc, &self.ticks, &ports.kernels)? {
             return Err(shape(alloc, "ticks"));
         }
-        if !scalars_fit(alloc, &self.scalars, &ports.scalars)? {
+        let scalars = scalar_names(alloc, ports)?;
+        if !scalars_fit(alloc, &self.scalars, &scalars)? {
             return Err(shape(alloc, "scalars"));
         }
         if !same_names(alloc, &self.inputs, &ports.inputs)? {
@@ -41,11 +44,19 @@ trait Named: Sized {
         ensures { result.now ≡ name_of self.now };
 }
 
-impl Named for Text {
-    ghost name_of = { λ t. t };
+impl Named for KernelPorts {
+    ghost name_of = { λ k. k.name };
 
     fn name(&self) -> &[u8] {
-        self.as_bytes()
+        self.name.as_bytes()
+    }
+}
+
+impl Named for StreamPorts {
+    ghost name_of = { λ x. x.name };
+
+    fn name(&self) -> &[u8] {
+        self.name.as_bytes()
     }
 }
 

@@ -12,12 +12,11 @@ mod reader;
 mod reading;
 mod refusal;
 mod run_file;
+mod scalars;
 mod writer;
 
-pub use error::RunError;
+pub use error::{RunFileError, WordError};
 pub use reader::WordReader;
-pub use run_file::{PortList, RunFile};
+pub use run_file::RunFile;
+pub use scalars::scalar_names;
 pub use writer::WordWriter;
-
-#[cfg(test)]
-mod tests;

@@ -33,6 +33,7 @@ impl FileBytes {
         ensures place { IfOk result (λ line.
             MatchOption line (self.new.place ≡ self.old.place) (λ _. self.old.place < self.new.place)) }
         ensures later { self.old.place ≤ self.new.place }
+        ensures most { self.new.place ≤ self.old.place + 33 }
         ensures line { (file : List ℕ) → Holds (F.held files.old) name.now file → IsAhead file self.old →
             IfOk result (IsLineTaken file self.old.place self.new.place piece.new) }
         ensures ahead { (file : List ℕ) → Holds (F.held files.old) name.now file → IsAhead file self.old →

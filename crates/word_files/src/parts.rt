@@ -4,9 +4,9 @@ ghost use Rattle.serde_json.specs.Data.{Data};
 ghost use Rattle.serde_json.specs.Find.{get};
 ghost use Rattle.serde_json.specs.View.{view};
 ghost use Rattle.word_files.specs.RunFiles.{up_to, word, text, object_of, or_default, most_count, IsPart};
-ghost use Rattle.word_files.specs.declared.error.RunError.TheVariants.{Shape, NoMemory as WantOfMemory};
+ghost use Rattle.word_files.specs.declared.error.RunFileError.TheVariants.{Shape, NoMemory as WantOfMemory};
 
-use crate::RunError;
+use crate::RunFileError;
 use crate::hex::parse_word;
 use mx_base::{List, NoMemory, Text};
 use serde_json::Value;
@@ -82,7 +82,7 @@ impl<T: Part> Part for List<(Text, T)> {
 }
 
 /// The part under a key that has to be there.
-pub(crate) fn needed<T: Part>(alloc: Global, file: &Value, key: &str) -> Result<T, RunError>
+pub(crate) fn needed<T: Part>(alloc: Global, file: &Value, key: &str) -> Result<T, RunFileError>
     ensures { IsPart key.now (option_and_then T.reads (get key.now (view file.now))) result }
 {
     match file.get(key) {
@@ -97,7 +97,7 @@ pub(crate) fn optional<T: Part>(
     file: &Value,
     key: &str,
     default: T,
-) -> Result<T, RunError>
+) -> Result<T, RunFileError>
     ensures { IsPart key.now (or_default default T.reads (get key.now (view file.now))) result }
 {
     match file.get(key) {
@@ -106,7 +106,7 @@ pub(crate) fn optional<T: Part>(
     }
 }
 
-fn of_its_form<T: Part>(alloc: Global, key: &str, value: &Value) -> Result<T, RunError>
+fn of_its_form<T: Part>(alloc: Global, key: &str, value: &Value) -> Result<T, RunFileError>
     ensures { IsPart key.now (T.reads (view value.now)) result }
 {
     match T::read(alloc, value)? {
@@ -116,11 +116,11 @@ fn of_its_form<T: Part>(alloc: Global, key: &str, value: &Value) -> Result<T, Ru
 }
 
 /// The refusal of what stands under a key.
-pub(crate) fn shape(alloc: Global, key: &str) -> RunError
+pub(crate) fn shape(alloc: Global, key: &str) -> RunFileError
     ensures { (result ≡ Shape key.now) ⊎ (result ≡ WantOfMemory) }
 {
     match key.as_bytes().to_vec(alloc) {
-        Ok(key) => RunError::Shape(Text::from_vec(key)),
-        Err(_) => RunError::NoMemory,
+        Ok(key) => RunFileError::Shape(Text::from_vec(key)),
+        Err(_) => RunFileError::NoMemory,
     }
 }

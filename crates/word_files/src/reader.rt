@@ -3,7 +3,7 @@ ghost use Rattle.std.specs.Prelude.{◌≡◌, ◌⊎◌, ◌≤◌, ◌<◌, �
 ghost use Rattle.mx_base.specs.Counts.{Rose};
 ghost use Rattle.mx_base.specs.Files.{Holds, Lacks};
 
-use crate::RunError;
+use crate::WordError;
 use crate::bytes::FileBytes;
 use crate::hex::{is_below, parse_word};
 use crate::lines::MOST_TAKEN;
@@ -33,7 +33,7 @@ pub struct WordReader {
 impl WordReader {
     ghost use Rattle.word_files.specs.Lines.{lines_of};
     ghost use Rattle.word_files.specs.WordFiles.{Follows, IsUnread, IsOfLine, Judges, Keeps, Answers, refusal_of};
-    ghost use Rattle.word_files.specs.declared.error.RunError.TheVariants.{ReadFault, NoMemory as WantOfMemory};
+    ghost use Rattle.word_files.specs.declared.error.WordError.TheVariants.{ReadFault, NoMemory as WantOfMemory};
     ghost use Rattle.word_files.specs.declared.refusal.Refusal.{Refusal};
     ghost use Rattle.word_files.specs.declared.refusal.Refusal.TheVariants as kept;
 
@@ -61,7 +61,7 @@ impl WordReader {
     /// The word of the next line; `None` at the end of the file. Errors: `BadLine` where the line
     /// isn't 1 to 32 hexadecimal digits; `WordRange` where its number has more bits than the words;
     /// `ReadFault` where a read failed or the file isn't held; and a refusal answered before.
-    pub fn next<F: Files>(&mut self, files: &mut F) -> Result<Option<Word>, RunError>
+    pub fn next<F: Files>(&mut self, files: &mut F) -> Result<Option<Word>, WordError>
         ensures same { F.held files.new ≡ F.held files.old }
         ensures read_later { F.read_faults files.old ≤ F.read_faults files.new }
         ensures quiet { (result ≡ Err ReadFault → ⊥) →
@@ -69,6 +69,9 @@ impl WordReader {
         ensures write_quiet { F.write_faults files.new ≡ F.write_faults files.old }
         ensures name { self.new.name ≡ self.old.name }
         ensures width { self.new.width ≡ self.old.width }
+
+        // Of a line at most 33 bytes are taken.
+        ensures taken { self.new.bytes.place ≤ self.old.bytes.place + 33 }
 
         // A refusal that is kept is answered, and nothing is read.
         ensures again { (kept : Refusal) → self.old.refusal ≡ Some kept →
@@ -104,20 +107,20 @@ impl WordReader {
     }
 
     // The answer of a refusal.
-    fn answer(&self, refusal: Refusal) -> RunError
+    fn answer(&self, refusal: Refusal) -> WordError
         ensures refusal { (result ≡ refusal_of self.now.name refusal) ⊎ (result ≡ WantOfMemory) }
         ensures fault { refusal ≡ kept.ReadFault → result ≡ ReadFault }
     {
         match refusal {
-            Refusal::ReadFault => RunError::ReadFault,
-            Refusal::NoMemory => RunError::NoMemory,
+            Refusal::ReadFault => WordError::ReadFault,
+            Refusal::NoMemory => WordError::NoMemory,
             Refusal::BadLine(line) => match self.name.copy(self.alloc) {
-                Ok(name) => RunError::BadLine(name, line),
-                Err(NoMemory) => RunError::NoMemory,
+                Ok(name) => WordError::BadLine(name, line),
+                Err(NoMemory) => WordError::NoMemory,
             },
             Refusal::WordRange(line) => match self.name.copy(self.alloc) {
-                Ok(name) => RunError::WordRange(name, line),
-                Err(NoMemory) => RunError::NoMemory,
+                Ok(name) => WordError::WordRange(name, line),
+                Err(NoMemory) => WordError::NoMemory,
             },
         }
     }
@@ -132,6 +135,7 @@ impl WordReader {
         ensures name { self.new.name ≡ self.old.name }
         ensures width { self.new.width ≡ self.old.width }
         ensures refusal { self.new.refusal ≡ self.old.refusal }
+        ensures taken { self.new.bytes.place ≤ self.old.bytes.place + 33 }
         ensures fault { result ≡ Err kept.ReadFault →
             Rose (F.read_faults files.old) (F.read_faults files.new) ⊎ Lacks (F.held files.old) self.old.name }
         ensures wide { IfOk result (λ word. IfSome word (λ w. w.width ≡ self.old.width)) }

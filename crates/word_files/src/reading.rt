@@ -5,7 +5,7 @@ ghost use Rattle.serde_json.specs.Find.{get};
 ghost use Rattle.word_files.specs.RunFiles.{IsPart, IsFurther, pick_of, is_key, files, is_shared, further_key, Says, Reads, Parses};
 
 use crate::parts::{needed, optional, shape};
-use crate::{RunError, RunFile};
+use crate::{RunFile, RunFileError};
 use mx_base::{List, NoMemory, Text};
 use serde_json::Value;
 use std::alloc::Global;
@@ -16,7 +16,7 @@ impl RunFile {
     /// for an absent key `scalars`, and `pick` and `fill` are 0 for absent keys `pattern` and
     /// `fill`. Errors: `NotJson`; and `Shape` with the key under which the first fault stands that
     /// the file alone shows, in the order of the fields, before a further key of the file.
-    pub fn read(alloc: Global, bytes: &[u8]) -> Result<Self, RunError>
+    pub fn read(alloc: Global, bytes: &[u8]) -> Result<Self, RunFileError>
         ensures { Reads bytes.now result }
     {
         let file = parse(alloc, bytes)?;
@@ -25,17 +25,17 @@ impl RunFile {
 }
 
 // The JSON value that the bytes are.
-fn parse(alloc: Global, bytes: &[u8]) -> Result<Value, RunError>
+fn parse(alloc: Global, bytes: &[u8]) -> Result<Value, RunFileError>
     ensures { Parses bytes.now result }
 {
     match Value::from_slice(alloc, bytes) {
         Ok(value) => Ok(value),
-        Err(error) if error.is_memory() => Err(RunError::NoMemory),
-        Err(_) => Err(RunError::NotJson),
+        Err(error) if error.is_memory() => Err(RunFileError::NoMemory),
+        Err(_) => Err(RunFileError::NotJson),
     }
 }
 
-fn read_parts(alloc: Global, file: &Value) -> Result<RunFile, RunError>
+fn read_parts(alloc: Global, file: &Value) -> Result<RunFile, RunFileError>
     ensures { Says (view file.now) result }
 {
     if !file.is_object() {
@@ -64,7 +64,7 @@ fn read_parts(alloc: Global, file: &Value) -> Result<RunFile, RunError>
 }
 
 // The pattern number, which may be any of 64 bits.
-fn pattern(alloc: Global, file: &Value) -> Result<u64, RunError>
+fn pattern(alloc: Global, file: &Value) -> Result<u64, RunFileError>
     ensures { IsPart (codes "pattern") (pick_of (view file.now)) result }
 {
     match file.get("pattern") {
@@ -97,7 +97,7 @@ fn share_files(
 }
 
 // Refuses the first key in byte order that is none of a run file's.
-fn refuse_further(alloc: Global, file: &Value) -> Result<(), RunError>
+fn refuse_further(alloc: Global, file: &Value) -> Result<(), RunFileError>
     ensures { IsFurther (further_key (view file.now)) result }
 {
     let Some(object) = file.as_object() else {

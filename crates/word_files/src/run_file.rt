@@ -19,13 +19,3 @@ pub struct RunFile {
     /// What a memory is filled with.
     pub fill: u128,
 }
-
-/// The names of a design's kernels and ports, and the widths of the ports, 1 to 128 bits.
-#[derive(Debug, Drop)]
-pub struct PortList {
-    pub kernels: List<Text>,
-    /// The scalars, each named `KERNEL.NAME`.
-    pub scalars: List<(Text, u8)>,
-    pub inputs: List<(Text, u8)>,
-    pub outputs: List<(Text, u8)>,
-}

@@ -1,9 +1,11 @@
 // Writing a file of words.
-ghost use Rattle.std.specs.Prelude.{◌≡◌, ◌⊎◌, ◌≤◌, ◌++◌, ℕ, List, [], IfOk, OnOk, OnErr, IfErr, IfSome, IsSome};
+ghost use Rattle.std.specs.Prelude.{◌≡◌, ◌⊎◌, ◌≤◌, ◌++◌, ℕ, List, [], IfOk, OnOk, OnErr, IfErr, IfSome, IsSome, ◌<◌, ◌+◌, length, vec_len};
 ghost use Rattle.mx_base.specs.Counts.{Rose};
 ghost use Rattle.mx_base.specs.Files.{Holds, Lacks, ChangesOnly};
+ghost use Rattle.word_files.specs.Written.{line_of};
+ghost use Rattle.word_files.specs.declared.error.WordError.TheVariants.{WriteFault, NoMemory};
 
-use crate::RunError;
+use crate::WordError;
 use crate::digits::{MOST_LINE, count_digits, digits};
 use mx_base::{Files, Text};
 use mx_bits::Word;
@@ -13,8 +15,8 @@ use std::alloc::Global;
 const PIECE: usize = 4_096;
 
 /// Writes a file of words, one a line: as many lower-case hexadecimal digits as the width over 4
-/// rounded up, ended by LF; an undefined word has `x` for each digit. Whole lines wait in a piece,
-/// and are written together.
+/// rounded up, ended by LF; an undefined word has `x` for each digit. Whole lines of fewer than 4,096
+/// bytes wait, and are written together.
 #[derive(Debug, Drop)]
 pub struct WordWriter {
     pub(crate) name: Text,
@@ -22,11 +24,11 @@ pub struct WordWriter {
     pub(crate) waiting: Vec<u8>,
     ghost some: { 1 ≤ width },
     ghost at_most: { width ≤ 128 },
+    ghost bounded: { vec_len waiting < 4096 },
 }
 
 impl WordWriter {
-    ghost use Rattle.word_files.specs.Written.{line_of, Puts};
-    ghost use Rattle.word_files.specs.declared.error.RunError.TheVariants.{WriteFault, NoMemory};
+    ghost use Rattle.word_files.specs.Written.{Puts};
 
     /// Makes the file hold nothing, for words of this width. After `NoMemory` the files are as
     /// before; after `WriteFault` nothing is said of this file alone.
@@ -35,7 +37,7 @@ impl WordWriter {
         files: &mut F,
         name: Text,
         width: u8,
-    ) -> Result<Self, RunError>
+    ) -> Result<Self, WordError>
         requires some { 1 ≤ width }
         requires at_most { width ≤ 128 }
         ensures name { IfOk result (λ made. made.name ≡ name) }
@@ -54,7 +56,7 @@ impl WordWriter {
     {
         let waiting = Vec::with_capacity(alloc, PIECE + MOST_LINE)?;
         let Ok(()) = files.create(&name) else {
-            return Err(RunError::WriteFault);
+            return Err(WordError::WriteFault);
         };
         Ok(WordWriter {
             name,
@@ -65,7 +67,7 @@ impl WordWriter {
 
     /// Puts the line of a word after those put before. After `NoMemory` nothing has changed; after
     /// `WriteFault` nothing is said of this file alone.
-    pub fn put<F: Files>(&mut self, files: &mut F, word: Option<Word>) -> Result<(), RunError>
+    pub fn put<F: Files>(&mut self, files: &mut F, word: Option<Word>) -> Result<(), WordError>
         requires width { IfSome word (λ w. w.width ≡ self.old.width) }
         requires held { Lacks (F.held files.old) self.old.name → ⊥ }
         ensures name { self.new.name ≡ self.old.name }
@@ -77,6 +79,7 @@ impl WordWriter {
         ensures errors { IfErr result (λ e. (e ≡ WriteFault) ⊎ (e ≡ NoMemory)) }
         ensures memory { result ≡ Err NoMemory → F.held files.new ≡ F.held files.old }
         ensures waiting { result ≡ Err NoMemory → self.new.waiting.items ≡ self.old.waiting.items }
+        ensures bounded { length self.new.waiting.items < 4096 }
         ensures read_quiet { F.read_faults files.new ≡ F.read_faults files.old }
         ensures write_later { F.write_faults files.old ≤ F.write_faults files.new }
         ensures quiet { (result ≡ Err WriteFault → ⊥) →
@@ -84,20 +87,20 @@ impl WordWriter {
         ensures fault { result ≡ Err WriteFault →
             Rose (F.write_faults files.old) (F.write_faults files.new) }
     {
-        self.add_line(word)?;
+        add_line(&mut self.waiting, self.width, word)?;
         if self.waiting.len() < PIECE {
             return Ok(());
         }
-        self.flush(files)?;
+        write(files, &self.name, &mut self.waiting)?;
         Ok(())
     }
 
     /// Writes the lines that wait. After `WriteFault` nothing is said of this file alone.
-    pub fn flush<F: Files>(&mut self, files: &mut F) -> Result<(), RunError>
+    pub fn flush<F: Files>(&mut self, files: &mut F) -> Result<(), WordError>
         requires { Lacks (F.held files.old) self.old.name → ⊥ }
         ensures name { self.new.name ≡ self.old.name }
         ensures width { self.new.width ≡ self.old.width }
-        ensures waiting { OnOk result (self.new.waiting.items ≡ []) }
+        ensures waiting { self.new.waiting.items ≡ [] }
         ensures written { (file : List ℕ) → Holds (F.held files.old) self.old.name file →
             OnOk result (Holds (F.held files.new) self.old.name (file ++ self.old.waiting.items)) }
         ensures only { ChangesOnly self.old.name (F.held files.old) (F.held files.new) }
@@ -109,25 +112,44 @@ impl WordWriter {
         ensures fault { result ≡ Err WriteFault →
             Rose (F.write_faults files.old) (F.write_faults files.new) }
     {
-        let Ok(()) = files.append(&self.name, &self.waiting) else {
-            return Err(RunError::WriteFault);
-        };
-        self.waiting.clear();
-        Ok(())
+        write(files, &self.name, &mut self.waiting)
     }
+}
 
-    // Puts the line of a word behind those that wait.
-    fn add_line(&mut self, word: Option<Word>) -> Result<(), RunError>
-        ensures name { self.new.name ≡ self.old.name }
-        ensures width { self.new.width ≡ self.old.width }
-        ensures line { OnOk result (self.new.waiting.items ≡ self.old.waiting.items ++ line_of self.old.width word) }
-        ensures same { OnErr result (self.new.waiting.items ≡ self.old.waiting.items) }
-        ensures errors { IfErr result (λ e. e ≡ NoMemory) }
-    {
-        let count = count_digits(self.width);
-        let mut line = digits(self.width, word);
-        line[count] = b'\n';
-        self.waiting.extend_from_slice(&line[..count + 1])?;
-        Ok(())
+// Puts the line of a word behind those that wait.
+fn add_line(waiting: &mut Vec<u8>, width: u8, word: Option<Word>) -> Result<(), WordError>
+    requires { width ≤ 128 }
+    ensures line { OnOk result (waiting.new.items ≡ waiting.old.items ++ line_of width word) }
+    ensures size { length waiting.new.items ≤ length waiting.old.items + 33 }
+    ensures same { OnErr result (waiting.new.items ≡ waiting.old.items) }
+    ensures errors { IfErr result (λ e. e ≡ NoMemory) }
+{
+    let count = count_digits(width);
+    let mut line = digits(width, word);
+    line[count] = b'\n';
+    waiting.extend_from_slice(&line[..count + 1])?;
+    Ok(())
+}
+
+// Writes what waits. Whether that succeeds or not, nothing waits then.
+fn write<F: Files>(files: &mut F, name: &Text, waiting: &mut Vec<u8>) -> Result<(), WordError>
+    requires { Lacks (F.held files.old) name.now → ⊥ }
+    ensures waiting { waiting.new.items ≡ [] }
+    ensures written { (file : List ℕ) → Holds (F.held files.old) name.now file →
+        OnOk result (Holds (F.held files.new) name.now (file ++ waiting.old.items)) }
+    ensures only { ChangesOnly name.now (F.held files.old) (F.held files.new) }
+    ensures errors { IfErr result (λ e. e ≡ WriteFault) }
+    ensures read_quiet { F.read_faults files.new ≡ F.read_faults files.old }
+    ensures write_later { F.write_faults files.old ≤ F.write_faults files.new }
+    ensures quiet { (result ≡ Err WriteFault → ⊥) →
+        F.write_faults files.new ≡ F.write_faults files.old }
+    ensures fault { result ≡ Err WriteFault →
+        Rose (F.write_faults files.old) (F.write_faults files.new) }
+{
+    let written = files.append(name, waiting);
+    waiting.clear();
+    match written {
+        Ok(()) => Ok(()),
+        Err(_) => Err(WordError::WriteFault),
     }
 }

@@ -1,5 +1,6 @@
 // The plan of a run file whose lists stand in another order than the ports.
 use super::*;
+use rtl_ir::{NetId, ScalarPort};
 use std::alloc::AllocError;
 use std::test::Fail;
 
@@ -33,15 +34,50 @@ fn run_file(alloc: Global) -> Result<RunFile, NoMemory> {
     })
 }
 
-fn port_list(alloc: Global) -> Result<PortList, NoMemory> {
-    let mut kernels = List::new(alloc);
-    kernels.push(text(alloc, b"b")?)?;
-    kernels.push(text(alloc, b"a")?)?;
-    Ok(PortList {
-        kernels,
-        scalars: pairs(alloc, (b"b.k", b"a.k"), (8, 4))?,
-        inputs: pairs(alloc, (b"q", b"p"), (16, 8))?,
-        outputs: pairs(alloc, (b"y", b"x"), (2, 1))?,
+// A kernel, whose nets don't matter here.
+fn kernel(alloc: Global, name: &[u8]) -> Result<KernelPorts, NoMemory> {
+    Ok(KernelPorts {
+        name: text(alloc, name)?,
+        hold: NetId::new(0),
+        ticks: NetId::new(0),
+    })
+}
+
+fn scalar(alloc: Global, kernel: &[u8], width: u8) -> Result<ScalarPort, NoMemory> {
+    Ok(ScalarPort {
+        kernel: text(alloc, kernel)?,
+        name: text(alloc, b"k")?,
+        width,
+        net: NetId::new(0),
+    })
+}
+
+fn stream(alloc: Global, name: &[u8], width: u8) -> Result<StreamPorts, NoMemory> {
+    Ok(StreamPorts {
+        name: text(alloc, name)?,
+        width,
+        word: NetId::new(0),
+        valid: NetId::new(0),
+        ready: NetId::new(0),
+    })
+}
+
+fn both<T: Drop>(alloc: Global, first: T, second: T) -> Result<List<T>, NoMemory> {
+    let mut list = List::new(alloc);
+    list.push(first)?;
+    list.push(second)?;
+    Ok(list)
+}
+
+fn interface(alloc: Global) -> Result<Interface, NoMemory> {
+    Ok(Interface {
+        clock: NetId::new(0),
+        reset: NetId::new(0),
+        kernels: both(alloc, kernel(alloc, b"b")?, kernel(alloc, b"a")?)?,
+        scalars: both(alloc, scalar(alloc, b"b", 8)?, scalar(alloc, b"a", 4)?)?,
+        inputs: both(alloc, stream(alloc, b"q", 16)?, stream(alloc, b"p", 8)?)?,
+        outputs: both(alloc, stream(alloc, b"y", 2)?, stream(alloc, b"x", 1)?)?,
+        done: NetId::new(0),
     })
 }
 
@@ -49,7 +85,7 @@ fn port_list(alloc: Global) -> Result<PortList, NoMemory> {
 fn a_plan_is_in_the_order_of_the_ports(rt: HostRuntime) -> Result<(), Fail> {
     let alloc = rt.alloc();
     let run = run_file(alloc)?;
-    let ports = port_list(alloc)?;
+    let ports = interface(alloc)?;
     run.fit(alloc, &ports)?;
     let plan = plan_of(alloc, &run, &ports)?;
     let inputs = pairs(alloc, (b"q.words", b"p.words"), (16, 8))?;

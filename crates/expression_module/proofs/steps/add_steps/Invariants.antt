@@ -3,4 +3,4 @@ use Rattle.expression_module.proofs.Carried.{Carries}
 use Rattle.expression_module.proofs.steps.add_steps.Given as goal
 
 abbrev pub invariant-loop-step : goal.invariant-loop-step
-invariant-loop-step l = Carries l.project l.fn.top l.top l.nets.items (drop l.step-index l.step-items)
+invariant-loop-step l = Carries l.project l.fn.netlist l.netlist l.nets.items (drop l.step-index l.step-items)

@@ -1,4 +1,4 @@
-use Rattle.std.proofs.Common.{◌≡◌, inl, inr, ⊎_elim, refl}
+use Rattle.std.proofs.Common.{inl, inr, ⊎_elim, refl}
 use Rattle.mx_base.specs.Files.{Held}
 use Rattle.maxjc_core.specs.Causes.{file_limit, Stands}
 use Rattle.maxjc_core.specs.Named.{names_told}

@@ -1,8 +1,5 @@
-use Rattle.maxjc_core.specs.LoadStops.{IsRunFault}
+use Rattle.maxjc_core.proofs.Refusing.{of_run_file}
 use Rattle.maxjc_core.proofs.load.run_of.Goals as goal
 
-pub returns-in-Err-NotJson-clause-refused : goal.returns-in-Err-NotJson-clause-refused
-returns-in-Err-NotJson-clause-refused c = IsRunFault.not_json (rw (c.in-Err-NotJson.field-0-is) at c.in-Err-NotJson.ensures)
-
-pub returns-in-Err-Shape-clause-refused : goal.returns-in-Err-Shape-clause-refused
-returns-in-Err-Shape-clause-refused c = IsRunFault.shape c.in-Err-Shape.key (rw (c.in-Err-Shape.field-0-is) at c.in-Err-Shape.ensures)
+pub returns-in_default-clause-refused : goal.returns-in_default-clause-refused
+returns-in_default-clause-refused c = of_run_file c.args.bytes.now c.in-Err.error c.in_default.not-NoMemory c.in-Err.ensures

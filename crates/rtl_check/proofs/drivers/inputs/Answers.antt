@@ -15,7 +15,7 @@ pub loop-place-preserved : goal.loop-place-preserved
 loop-place-preserved c =
     let ports = c.args.module.now.ports in let i = c.loop-place.place in let p = c.at-port.result.now in
     let lt = c.requires i p c.at-port.ensures in
-    record {
+    rw c.index.ensures.number (record {
       size = c.loop-place.invariant.size;
       marks = λ n mark at. rw (take_more_at ports i p c.at-port.ensures) (input_marked c.loop-place.marks.items (take i ports) p c.if-port.false (omega (arith, c.loop-place.invariant.size)) c.loop-place.invariant.marks n mark at);
-    }
+    })

@@ -25,7 +25,7 @@ returns-then-not-wanted-clause-levelled c = λ d part.
     let g = c.as_slice.result.now in
     let here = subst (HasEdges m tables) (sym c.as_slice.ensures.value) edges in
     let found = rw c.in-Ranks.is at c.in_ok-walk.ensures in
-    levelled d m g (graph_of d m tables g part here) c.in-Ranks.order.rank.items found.0
+    levelled d m g (graph_of d m tables g part here) _ found.0
 
 pub port_paths-requires-clause-graph : goal.port_paths-requires-clause-graph
 port_paths-requires-clause-graph c =
@@ -38,7 +38,7 @@ returns-clause-levelled c = λ d part.
     let g = c.as_slice.result.now in
     let here = subst (HasEdges m tables) (sym c.as_slice.ensures.value) edges in
     let found = rw c.in-Ranks.is at c.in_ok-walk.ensures in
-    levelled d m g (graph_of d m tables g part here) c.in-Ranks.order.rank.items found.0
+    levelled d m g (graph_of d m tables g part here) _ found.0
 
 pub returns-clause-paths : goal.returns-clause-paths
 returns-clause-paths c = λ wanted d part.

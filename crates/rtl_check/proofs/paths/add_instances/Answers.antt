@@ -6,8 +6,8 @@ use Rattle.rtl_check.proofs.paths.add_instances.Goals as goal
 pub loop-place-preserved : goal.loop-place-preserved
 loop-place-preserved c =
     let m = c.args.module.now in let tables = c.args.tables.now in let k = c.loop-place.place in let i = c.at-instance.result.now in
-    let paths = c.index-tables-instance.result in
-    let table = item_at tables tables i.module paths refl (c.requires.earlier k i c.at-instance.ensures) c.index-tables-instance.is in
+    let paths = c.index-tables-number.result in
+    let table = item_at tables tables i.module paths refl (c.requires.earlier k i c.at-instance.ensures) (rw (sym c.index-number.ensures.number) c.index-tables-number.is) in
     let same = c.as_slice-paths.ensures in
     record {
       added = parted_more m tables k i paths c.args.graph.now c.loop-place.graph c.add_paths.new.graph c.at-instance.ensures table c.loop-place.invariant.added (rw (sym same) c.in_ok-add_paths.ensures.added);

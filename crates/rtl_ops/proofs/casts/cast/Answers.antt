@@ -1,6 +1,6 @@
 use Rattle.std.proofs.Common.{arith}
 use Rattle.std.proofs.lemmas.Result.{IfOk-weaker}
-use Rattle.rtl_ops.proofs.Growing.{same_value}
+use Rattle.rtl_build.proofs.Growing.{same_value}
 use Rattle.rtl_ops.proofs.Casting.{cast_more, cast_less}
 use Rattle.rtl_ops.proofs.casts.cast.Goals as goal
 

@@ -1,6 +1,6 @@
 use Rattle.std.proofs.Common.{◌==◌, if◌then◌else◌, ◌∙◌, ap, refl, arith}
 use Rattle.std.proofs.lemmas.Result.{IfOk-weaker}
-use Rattle.rtl_ops.proofs.Growing.{goes_on}
+use Rattle.rtl_build.proofs.Growing.{goes_on}
 use Rattle.rtl_ops.proofs.Options.{by_bit}
 use Rattle.rtl_ops.proofs.choice.preferred.Goals as goal
 

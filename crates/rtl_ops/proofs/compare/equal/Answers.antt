@@ -1,6 +1,7 @@
 use Rattle.std.proofs.Common.{refl, arith}
 use Rattle.std.proofs.lemmas.Result.{IfOk-weaker}
-use Rattle.rtl_ops.proofs.Growing.{same_value, type_fits, type_some}
+use Rattle.rtl_build.proofs.Growing.{same_value}
+use Rattle.rtl_ops.proofs.Typed.{type_fits, type_some}
 use Rattle.rtl_ops.proofs.Ranks.{equal_test}
 use Rattle.rtl_ops.proofs.compare.equal.Goals as goal
 

@@ -2,7 +2,8 @@ use Rattle.std.proofs.Common.{◌∙◌, ap, refl, arith, nat_lt}
 use Rattle.std.proofs.lemmas.Result.{IfOk-weaker}
 use Rattle.rtl_ir.specs.Value.{bit}
 use Rattle.rtl_ops.specs.Orders.{rank_of}
-use Rattle.rtl_ops.proofs.Growing.{goes_on, type_fits, type_some}
+use Rattle.rtl_build.proofs.Growing.{goes_on}
+use Rattle.rtl_ops.proofs.Typed.{type_fits, type_some}
 use Rattle.rtl_ops.proofs.Ranks.{less_test}
 use Rattle.rtl_ops.proofs.compare.less.Goals as goal
 

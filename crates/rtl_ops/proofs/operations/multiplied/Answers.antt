@@ -3,7 +3,7 @@ use Rattle.std.proofs.lemmas.Result.{IfOk-weaker}
 use Rattle.fix_arith.specs.Types.{width_of}
 use Rattle.fix_arith.specs.Values.{value_of, reduced}
 use Rattle.fix_arith.proofs.Residues.{product_bits}
-use Rattle.rtl_ops.proofs.Growing.{made_where}
+use Rattle.rtl_build.proofs.Growing.{made_where}
 use Rattle.rtl_ops.proofs.Rows.{whole_product}
 use Rattle.rtl_ops.proofs.operations.multiplied.Goals as goal
 

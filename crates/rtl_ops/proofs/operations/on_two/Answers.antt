@@ -2,7 +2,8 @@ use Rattle.std.proofs.Common.{◌^◌, ◌<◌, ◌∙◌, ap, sym, subst, refl,
 use Rattle.std.proofs.lemmas.Result.{IfOk-weaker}
 use Rattle.fix_arith.specs.Table.{bit_of}
 use Rattle.fix_arith.proofs.Residues.{sum_bits, difference_bits}
-use Rattle.rtl_ops.proofs.Growing.{made_where, same_where, word_fits, type_fits, type_some}
+use Rattle.rtl_build.proofs.Growing.{made_where, same_where, word_fits}
+use Rattle.rtl_ops.proofs.Typed.{type_fits, type_some}
 use Rattle.rtl_ops.proofs.Ranks.{greater_test, at_least_test}
 use Rattle.rtl_ops.proofs.operations.on_two.Goals as goal
 

@@ -1,6 +1,6 @@
 use Rattle.std.proofs.Common.{◌≡◌, ◌≤◌, ◌∙◌, IsTrue, map, length, get_or, ap, sym, subst, refl, arith}
 use Rattle.std.proofs.lemmas.Result.{IfOk-weaker}
-use Rattle.std.specs.Prelude.{pos, ◌-ℤ◌, ◌*ℤ◌, ◌-◌, ◌^◌}
+use Rattle.std.specs.Prelude.{slice_get, pos, ◌-ℤ◌, ◌*ℤ◌, ◌-◌, ◌^◌}
 use Rattle.mx_bits.specs.declared.op.Op.TheVariants.{Mul}
 use Rattle.fix_arith.specs.declared.types.StreamType.{StreamType}
 use Rattle.fix_arith.specs.declared.types.StreamType.TheVariants.{UInt}
@@ -10,8 +10,10 @@ use Rattle.fix_arith.specs.Values.{value_of, reduced}
 use Rattle.fix_arith.specs.Rounding.{floor_of}
 use Rattle.fix_arith.specs.Table.{row_of, operand, cast_of, GivesType}
 use Rattle.fix_arith.proofs.Residues.{negation_bits}
-use Rattle.rtl_ops.proofs.Growing.{made_where, same_where, some_is, word_fits}
-use Rattle.rtl_ops.proofs.Options.{length-rest}
+use Rattle.rtl_build.specs.declared.signal.Signal.{Signal}
+use Rattle.rtl_build.specs.Signals.{HasSignal}
+use Rattle.rtl_build.proofs.Growing.{made_where, same_where, some_is, word_fits}
+use Rattle.rtl_ops.proofs.Options.{length-rest, rest_of, signal_is}
 use Rattle.rtl_ops.proofs.Rows.{first_type, length-args, signal_of, second_signal, option_signals, operand_at, mux_row, cast_row, cast_count, two_by_rest, on_two}
 use Rattle.rtl_ops.proofs.operations.operation.Goals as goal
 
@@ -25,31 +27,41 @@ pub cast-requires-clause-a : goal.cast-requires-clause-a
 cast-requires-clause-a c =
     let q = c.requires in
     let count = cast_count c.args.op c.args.types.now c.args.amount c.args.out c.in-Cast.is q.gives in
-    signal_of c.args.netlist.now c.args.types.now c.args.args.now 0 _ _ (UInt 0) q.nets q.types (omega arith) refl c.width-width.ensures
+    let size = length-args c.args.netlist.now c.args.types.now c.args.args.now q.nets in
+    let a_is = signal_is c.args.args.now 0 c.index-args-0.result c.width-width.result c.new-a.result (omega arith) c.index-args-0.is c.new-a.ensures in
+    rw a_is (signal_of c.args.netlist.now c.args.types.now c.args.args.now 0 _ _ (UInt 0) q.nets q.types (omega arith) refl c.width-width.ensures)
 
-pub opposite-requires-clause-a : goal.opposite-requires-clause-a
-opposite-requires-clause-a c =
+pub opposite-requires : goal.opposite-requires
+opposite-requires c =
     let q = c.requires in
     let gives = subst (λ op. GivesType op c.args.types.now c.args.amount c.args.out) c.in-Neg.is q.gives in
-    signal_of c.args.netlist.now c.args.types.now c.args.args.now 0 _ _ (UInt 0) q.nets q.types (omega (arith, gives.0)) refl c.width-width.ensures
+    let size = length-args c.args.netlist.now c.args.types.now c.args.args.now q.nets in
+    let a_is = signal_is c.args.args.now 0 c.index-args-0.result c.width-width.result c.new-a.result (omega (arith, gives.0)) c.index-args-0.is c.new-a.ensures in
+    rw a_is (record { a = signal_of c.args.netlist.now c.args.types.now c.args.args.now 0 _ _ (UInt 0) q.nets q.types (omega (arith, gives.0)) refl c.width-width.ensures })
 
-pub complement-requires-clause-a : goal.complement-requires-clause-a
-complement-requires-clause-a c =
+pub not-requires : goal.not-requires
+not-requires c =
     let q = c.requires in
     let gives = subst (λ op. GivesType op c.args.types.now c.args.amount c.args.out) c.in-Not.is q.gives in
-    signal_of c.args.netlist.now c.args.types.now c.args.args.now 0 _ _ (UInt 0) q.nets q.types (omega (arith, gives.0)) refl c.width-width.ensures
+    let size = length-args c.args.netlist.now c.args.types.now c.args.args.now q.nets in
+    let a_is = signal_is c.args.args.now 0 c.index-args-0.result c.width-width.result c.new-a.result (omega (arith, gives.0)) c.index-args-0.is c.new-a.ensures in
+    rw a_is (signal_of c.args.netlist.now c.args.types.now c.args.args.now 0 _ _ (UInt 0) q.nets q.types (omega (arith, gives.0)) refl c.width-width.ensures)
 
 pub shifted_left-requires-clause-a : goal.shifted_left-requires-clause-a
 shifted_left-requires-clause-a c =
     let q = c.requires in
     let gives = subst (λ op. GivesType op c.args.types.now c.args.amount c.args.out) c.in-Shl.is q.gives in
-    signal_of c.args.netlist.now c.args.types.now c.args.args.now 0 _ _ (UInt 0) q.nets q.types (omega (arith, gives.0)) refl c.width-width.ensures
+    let size = length-args c.args.netlist.now c.args.types.now c.args.args.now q.nets in
+    let a_is = signal_is c.args.args.now 0 c.index-args-0.result c.width-width.result c.new-a.result (omega (arith, gives.0)) c.index-args-0.is c.new-a.ensures in
+    rw a_is (signal_of c.args.netlist.now c.args.types.now c.args.args.now 0 _ _ (UInt 0) q.nets q.types (omega (arith, gives.0)) refl c.width-width.ensures)
 
 pub floor-requires-clause-a : goal.floor-requires-clause-a
 floor-requires-clause-a c =
     let q = c.requires in
     let gives = subst (λ op. GivesType op c.args.types.now c.args.amount c.args.out) c.in-Shr.is q.gives in
-    signal_of c.args.netlist.now c.args.types.now c.args.args.now 0 _ _ (UInt 0) q.nets q.types (omega (arith, gives.0)) refl c.width-width.ensures
+    let size = length-args c.args.netlist.now c.args.types.now c.args.args.now q.nets in
+    let a_is = signal_is c.args.args.now 0 c.index-args-0.result c.width-width.result c.new-a.result (omega (arith, gives.0)) c.index-args-0.is c.new-a.ensures in
+    rw a_is (signal_of c.args.netlist.now c.args.types.now c.args.args.now 0 _ _ (UInt 0) q.nets q.types (omega (arith, gives.0)) refl c.width-width.ensures)
 
 pub on_two-requires : goal.on_two-requires
 on_two-requires c =
@@ -61,16 +73,17 @@ on_two-requires c =
     let two = two_by_rest c.args.op rest.not-Neg rest.not-Not rest.not-Shl rest.not-Shr rest.not-Mux rest.not-Cast rest.not-Round in
     let gives = (on_two c.args.op c.args.mode types args c.args.amount c.args.out two).gives q.gives in
     let is : get_or types 0 (UInt 0) ≡ first types = first_type types (UInt 0) (omega (arith, gives.0)) in
-    record {
+    let size = length-args m types args q.nets in
+    let a_is = signal_is args 0 c.index-args-0.result c.width-width.result c.new-a.result (omega (arith, gives.0)) c.index-args-0.is c.new-a.ensures in
+    let b_is = signal_is args 1 c.index-args-1.result c.width-width.result c.new-b.result (omega (arith, gives.0)) c.index-args-1.is c.new-b.ensures in
+    rw (a_is, b_is) (record {
       two = two;
-      range = q.range;
-      room = omega (arith, q.few);
       a = signal_of m types args 0 _ _ (UInt 0) q.nets q.types (omega (arith, gives.0)) refl c.width-width.ensures;
       b = second_signal m types args _ (UInt 0) q.nets q.types gives.1 (omega (arith, gives.0)) c.width-width.ensures;
       a_type = c.width-width.ensures;
       b_type = c.width-width.ensures;
       narrow = subst (λ (t : StreamType). c.args.op ≡ Mul → IsTrue (is_fix t) → width_of t ≤ 64) (sym is) gives.2.narrow;
-    }
+    })
 
 pub returns-in-Mux : goal.returns-in-Mux
 returns-in-Mux c =
@@ -79,7 +92,9 @@ returns-in-Mux c =
     let args = c.args.args.now in
     let gives = subst (λ op. GivesType op types c.args.amount c.args.out) c.in-Mux.is q.gives in
     let some : 1 ≤ length args = omega (arith, gives.0, length-args c.args.netlist.now types args q.nets) in
-    rw c.in-Mux.is (IfOk-weaker _ _ _ (λ r made. same_where _ _ _ made (omega (arith, length-rest args)) c.width.ensures (λ v. mux_row v args some)) c.choice.ensures)
+    let a_is = signal_is args 0 c.index-args-0.result c.width-width.result c.new-a.result some c.index-args-0.is c.new-a.ensures in
+    let net = ap (λ (s : Signal). s.net) a_is in
+    rw c.in-Mux.is (IfOk-weaker _ _ _ (λ r made. same_where _ _ _ made (omega (arith, length-rest args)) c.width.ensures (λ v. ap (λ n. slice_get (map v (rest_of args)) (v n)) net ∙ mux_row v args some)) c.choice.ensures)
 
 pub returns-in-Cast : goal.returns-in-Cast
 returns-in-Cast c =
@@ -88,10 +103,12 @@ returns-in-Cast c =
     let args = c.args.args.now in
     let count = cast_count c.args.op types c.args.amount c.args.out c.in-Cast.is q.gives in
     let size = length-args c.args.netlist.now types args q.nets in
+    let a_is = signal_is args 0 c.index-args-0.result c.width-width.result c.new-a.result (omega arith) c.index-args-0.is c.new-a.ensures in
+    let net = ap (λ (s : Signal). s.net) a_is in
     IfOk-weaker _ _ _ (λ r made. made_where _ _ _ made (omega arith) refl (λ d v h.
     some_is (cast_row c.args.op c.args.mode types (map v args) c.args.amount c.args.out c.in-Cast.is)
-    (ap (λ t. cast_of c.args.mode t c.args.out (v (get_or args 0 0))) (first_type types (UInt 0) (omega arith))
-    ∙ ap (cast_of c.args.mode (first types) c.args.out) (sym (operand_at v args 0 (omega arith)))))) c.cast.ensures
+    (ap (λ t. cast_of c.args.mode t c.args.out (v c.new-a.result.net)) (first_type types (UInt 0) (omega arith))
+    ∙ ap (cast_of c.args.mode (first types) c.args.out) (ap v net ∙ sym (operand_at v args 0 (omega arith)))))) c.cast.ensures
 
 pub returns-in-Neg : goal.returns-in-Neg
 returns-in-Neg c =
@@ -100,12 +117,14 @@ returns-in-Neg c =
     let args = c.args.args.now in
     let gives = subst (λ op. GivesType op types c.args.amount c.args.out) c.in-Neg.is q.gives in
     let size = length-args c.args.netlist.now types args q.nets in
+    let a_is = signal_is args 0 c.index-args-0.result c.width-width.result c.new-a.result (omega (arith, gives.0)) c.index-args-0.is c.new-a.ensures in
+    let net = ap (λ (s : Signal). s.net) a_is in
     let is : get_or types 0 (UInt 0) ≡ first types = first_type types (UInt 0) (omega (arith, gives.0)) in
-    let wide = c.width-width.ensures ∙ ap width_of is in
-    let a = signal_of c.args.netlist.now types args 0 _ _ (UInt 0) q.nets q.types (omega (arith, gives.0)) refl c.width-width.ensures in
+    let wide = ap (λ (s : Signal). s.width) a_is ∙ c.width-width.ensures ∙ ap width_of is in
+    let a : HasSignal c.args.netlist.now c.new-a.result = rw a_is (signal_of c.args.netlist.now types args 0 _ _ (UInt 0) q.nets q.types (omega (arith, gives.0)) refl c.width-width.ensures) in
     rw c.in-Neg.is (IfOk-weaker _ _ _ (λ r made. made_where _ _ _ made (omega (arith, gives.0)) (wide ∙ ap width_of (sym gives.1.result)) (λ d v h.
-    negation_bits (first types) (v (get_or args 0 0)) c.width-width.result _ wide (word_fits (record { net = get_or args 0 0; width = c.width-width.result }) (made.keeps _ a) h) refl
-    ∙ ap (λ n. reduced (width_of (first types)) (pos 0 -ℤ value_of (first types) n)) (sym (operand_at v args 0 (omega (arith, gives.0)))))) c.opposite.ensures)
+    negation_bits (first types) (v c.new-a.result.net) c.new-a.result.width _ wide (word_fits c.new-a.result (made.keeps _ a) h) refl
+    ∙ ap (λ n. reduced (width_of (first types)) (pos 0 -ℤ value_of (first types) n)) (ap v net ∙ sym (operand_at v args 0 (omega (arith, gives.0)))))) c.opposite.ensures)
 
 pub returns-in-Not : goal.returns-in-Not
 returns-in-Not c =
@@ -114,10 +133,12 @@ returns-in-Not c =
     let args = c.args.args.now in
     let gives = subst (λ op. GivesType op types c.args.amount c.args.out) c.in-Not.is q.gives in
     let size = length-args c.args.netlist.now types args q.nets in
+    let a_is = signal_is args 0 c.index-args-0.result c.width-width.result c.new-a.result (omega (arith, gives.0)) c.index-args-0.is c.new-a.ensures in
+    let net = ap (λ (s : Signal). s.net) a_is in
     let is : get_or types 0 (UInt 0) ≡ first types = first_type types (UInt 0) (omega (arith, gives.0)) in
-    let wide = c.width-width.ensures ∙ ap width_of is in
+    let wide = ap (λ (s : Signal). s.width) a_is ∙ c.width-width.ensures ∙ ap width_of is in
     rw c.in-Not.is (IfOk-weaker _ _ _ (λ r made. made_where _ _ _ made (omega (arith, gives.0)) (wide ∙ ap width_of (sym gives.1.result)) (λ d v h.
-    ap (λ w. 2 ^ w - 1 - v (get_or args 0 0)) wide ∙ ap (λ n. 2 ^ width_of (first types) - 1 - n) (sym (operand_at v args 0 (omega (arith, gives.0)))))) c.complement.ensures)
+    ap (λ w. 2 ^ w - 1 - v c.new-a.result.net) wide ∙ ap (λ n. 2 ^ width_of (first types) - 1 - n) (ap v net ∙ sym (operand_at v args 0 (omega (arith, gives.0)))))) c.not.ensures)
 
 pub returns-in-Shl : goal.returns-in-Shl
 returns-in-Shl c =
@@ -127,12 +148,14 @@ returns-in-Shl c =
     let d = 2 ^ c.args.amount in
     let gives = subst (λ op. GivesType op types c.args.amount c.args.out) c.in-Shl.is q.gives in
     let size = length-args c.args.netlist.now types args q.nets in
+    let a_is = signal_is args 0 c.index-args-0.result c.width-width.result c.new-a.result (omega (arith, gives.0)) c.index-args-0.is c.new-a.ensures in
+    let net = ap (λ (s : Signal). s.net) a_is in
     let is : get_or types 0 (UInt 0) ≡ first types = first_type types (UInt 0) (omega (arith, gives.0)) in
     let wide = c.width-width.ensures ∙ ap width_of is in
     rw c.in-Shl.is (IfOk-weaker _ _ _ (λ r made. made_where _ _ _ made (omega (arith, gives.0)) (wide ∙ ap width_of (sym gives.1.result)) (λ k v h.
-    ap (λ w. reduced w (value_of (get_or types 0 (UInt 0)) (v (get_or args 0 0)) *ℤ pos d)) wide
-    ∙ ap (λ t. reduced (width_of (first types)) (value_of t (v (get_or args 0 0)) *ℤ pos d)) is
-    ∙ ap (λ n. reduced (width_of (first types)) (value_of (first types) n *ℤ pos d)) (sym (operand_at v args 0 (omega (arith, gives.0)))))) c.shifted_left.ensures)
+    ap (λ w. reduced w (value_of (get_or types 0 (UInt 0)) (v c.new-a.result.net) *ℤ pos d)) wide
+    ∙ ap (λ t. reduced (width_of (first types)) (value_of t (v c.new-a.result.net) *ℤ pos d)) is
+    ∙ ap (λ n. reduced (width_of (first types)) (value_of (first types) n *ℤ pos d)) (ap v net ∙ sym (operand_at v args 0 (omega (arith, gives.0)))))) c.shifted_left.ensures)
 
 pub returns-in-Shr : goal.returns-in-Shr
 returns-in-Shr c =
@@ -142,12 +165,14 @@ returns-in-Shr c =
     let d = 2 ^ c.args.amount in
     let gives = subst (λ op. GivesType op types c.args.amount c.args.out) c.in-Shr.is q.gives in
     let size = length-args c.args.netlist.now types args q.nets in
+    let a_is = signal_is args 0 c.index-args-0.result c.width-width.result c.new-a.result (omega (arith, gives.0)) c.index-args-0.is c.new-a.ensures in
+    let net = ap (λ (s : Signal). s.net) a_is in
     let is : get_or types 0 (UInt 0) ≡ first types = first_type types (UInt 0) (omega (arith, gives.0)) in
     let wide = c.width-width.ensures ∙ ap width_of is in
     rw c.in-Shr.is (IfOk-weaker _ _ _ (λ r made. made_where _ _ _ made (omega (arith, gives.0)) (wide ∙ ap width_of (sym gives.1.result)) (λ k v h.
-    ap (λ w. reduced w (floor_of (value_of (get_or types 0 (UInt 0)) (v (get_or args 0 0))) d)) wide
-    ∙ ap (λ t. reduced (width_of (first types)) (floor_of (value_of t (v (get_or args 0 0))) d)) is
-    ∙ ap (λ n. reduced (width_of (first types)) (floor_of (value_of (first types) n) d)) (sym (operand_at v args 0 (omega (arith, gives.0)))))) c.floor.ensures)
+    ap (λ w. reduced w (floor_of (value_of (get_or types 0 (UInt 0)) (v c.new-a.result.net)) d)) wide
+    ∙ ap (λ t. reduced (width_of (first types)) (floor_of (value_of t (v c.new-a.result.net)) d)) is
+    ∙ ap (λ n. reduced (width_of (first types)) (floor_of (value_of (first types) n) d)) (ap v net ∙ sym (operand_at v args 0 (omega (arith, gives.0)))))) c.floor.ensures)
 
 pub returns-in_default : goal.returns-in_default
 returns-in_default c =
@@ -161,9 +186,13 @@ returns-in_default c =
     let two = two_by_rest op rest.not-Neg rest.not-Not rest.not-Shl rest.not-Shr rest.not-Mux rest.not-Cast rest.not-Round in
     let gives = (on_two op mode types args c.args.amount out two).gives q.gives in
     let size = length-args c.args.netlist.now types args q.nets in
+    let a_is = signal_is args 0 c.index-args-0.result c.width-width.result c.new-a.result (omega (arith, gives.0)) c.index-args-0.is c.new-a.ensures in
+    let net = ap (λ (s : Signal). s.net) a_is in
+    let b_is = signal_is args 1 c.index-args-1.result c.width-width.result c.new-b.result (omega (arith, gives.0)) c.index-args-1.is c.new-b.ensures in
+    let second = ap (λ (s : Signal). s.net) b_is in
     let is : get_or types 0 (UInt 0) ≡ first types = first_type types (UInt 0) (omega (arith, gives.0)) in
     IfOk-weaker _ _ _ (λ r made. same_where _ _ _ made (omega (arith, gives.0)) (ap width_of ((on_two op mode types args c.args.amount out two).result (get_or types 0 (UInt 0)) is ∙ sym gives.2.result)) (λ v.
-    ap (λ t. row_of op mode t 0 (v (get_or args 0 0)) (v (get_or args 1 0))) is
-    ∙ ap (λ n. row_of op mode (first types) 0 n (v (get_or args 1 0))) (sym (operand_at v args 0 (omega (arith, gives.0))))
-    ∙ ap (λ n. row_of op mode (first types) 0 (operand (map v args) 0) n) (sym (operand_at v args 1 (omega (arith, gives.0))))
+    ap (λ t. row_of op mode t 0 (v c.new-a.result.net) (v c.new-b.result.net)) is
+    ∙ ap (λ n. row_of op mode (first types) 0 n (v c.new-b.result.net)) (ap v net ∙ sym (operand_at v args 0 (omega (arith, gives.0))))
+    ∙ ap (λ n. row_of op mode (first types) 0 (operand (map v args) 0) n) (ap v second ∙ sym (operand_at v args 1 (omega (arith, gives.0))))
     ∙ sym (on_two op mode types (map v args) c.args.amount out two).row)) c.on_two.ensures

@@ -3,7 +3,8 @@ use Rattle.std.proofs.lemmas.Result.{IfOk-weaker}
 use Rattle.fix_arith.specs.Types.{width_of}
 use Rattle.fix_arith.specs.Values.{value_of, reduced}
 use Rattle.fix_arith.specs.Rounding.{rounded}
-use Rattle.rtl_ops.proofs.Growing.{goes_on, type_fits, type_some}
+use Rattle.rtl_build.proofs.Growing.{goes_on}
+use Rattle.rtl_ops.proofs.Typed.{type_fits, type_some}
 use Rattle.rtl_ops.proofs.Multiples.{product_value}
 use Rattle.rtl_ops.proofs.products.product.Goals as goal
 

@@ -1,6 +1,7 @@
 use Rattle.std.proofs.Common.{arith}
 use Rattle.std.proofs.lemmas.Result.{IfOk-weaker}
-use Rattle.rtl_ops.proofs.Growing.{made_where, type_fits}
+use Rattle.rtl_build.proofs.Growing.{made_where}
+use Rattle.rtl_ops.proofs.Typed.{type_fits}
 use Rattle.rtl_ops.proofs.Signs.{unsigned_quotient_test}
 use Rattle.rtl_ops.proofs.quotients.quotient.Goals as goal
 

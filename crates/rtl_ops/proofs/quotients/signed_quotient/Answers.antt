@@ -3,7 +3,8 @@ use Rattle.std.proofs.lemmas.Result.{IfOk-weaker}
 use Rattle.rtl_ir.specs.Value.{bit}
 use Rattle.fix_arith.specs.Types.{width_of}
 use Rattle.rtl_ops.specs.Orders.{is_below_zero, differ}
-use Rattle.rtl_ops.proofs.Growing.{goes_on, goes_on_where, type_fits, type_some}
+use Rattle.rtl_build.proofs.Growing.{goes_on, goes_on_where}
+use Rattle.rtl_ops.proofs.Typed.{type_fits, type_some}
 use Rattle.rtl_ops.proofs.Signs.{signed_quotient_test}
 use Rattle.rtl_ops.proofs.quotients.signed_quotient.Goals as goal
 

@@ -1,6 +1,7 @@
 use Rattle.std.proofs.Common.{◌==◌, ◌+◌, ◌-◌, ◌%◌, ◌^◌, if◌then◌else◌, ap, refl, arith}
 use Rattle.std.proofs.lemmas.Result.{IfOk-weaker}
-use Rattle.rtl_ops.proofs.Growing.{goes_on, type_fits}
+use Rattle.rtl_build.proofs.Growing.{goes_on}
+use Rattle.rtl_ops.proofs.Typed.{type_fits}
 use Rattle.rtl_ops.proofs.Signs.{size_test}
 use Rattle.rtl_ops.proofs.quotients.size.Goals as goal
 

@@ -5,7 +5,7 @@ use Rattle.fix_arith.specs.declared.types.RoundMode.TheVariants.{Truncate}
 use Rattle.fix_arith.specs.Values.{value_of, reduced}
 use Rattle.fix_arith.specs.Rounding.{rounded, rounds_up}
 use Rattle.fix_arith.specs.Table.{bit_of}
-use Rattle.rtl_ops.proofs.Growing.{same_value, goes_on}
+use Rattle.rtl_build.proofs.Growing.{same_value, goes_on}
 use Rattle.rtl_ops.proofs.Carries.{no_rounding, truncated, carried, bit_value}
 use Rattle.rtl_ops.proofs.rounding.rounded.Goals as goal
 use Rattle.rtl_ops.proofs.rounding.rounded.Goals.{in-Truncate, in_default}
@@ -34,8 +34,8 @@ returns c =
     IfOk-weaker _ _ _ (λ r made.
     goes_on 15 w _ c.in_ok-floor.ensures (
     goes_on 11 w (λ v. (v floor.net + reduced w (value_of OneBit (bit_of (rounds_up mode (v floor.net % 2 == 1) (v a.net % 2 ^ k) (2 ^ k))))) % 2 ^ w) c.in_ok-up.ensures (
-    goes_on 4 w (λ v. (v floor.net + reduced w (value_of OneBit (v up.net))) % 2 ^ w) c.in_ok-more.ensures made (omega arith) refl
-    (λ d v h e. ap (λ n. (v floor.net + n) % 2 ^ w) e))
+    goes_on 4 w (λ v. (v floor.net + reduced w (value_of OneBit (v up.net))) % 2 ^ w) c.in_ok-more.ensures made (omega arith) c.in_ok-floor.ensures.width
+    (λ d v h e. ap (λ j. (v floor.net + v c.in_ok-more.more.net) % 2 ^ j) c.in_ok-floor.ensures.width ∙ ap (λ n. (v floor.net + n) % 2 ^ w) e))
     (omega arith) refl (λ d v h e. ap (λ n. (v floor.net + reduced w (value_of OneBit n)) % 2 ^ w) e))
     (omega arith) refl (λ d v h e.
     carried mode t (v a.net) k w (v floor.net) _ _ (omega (arith, q.within, q.a_type)) q.some e refl (bit_value w _))) c.binary.ensures

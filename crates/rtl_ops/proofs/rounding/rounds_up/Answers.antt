@@ -2,7 +2,7 @@ use Rattle.std.proofs.Common.{◌==◌, ◌%◌, ◌^◌, ◌∙◌, ap, sym, re
 use Rattle.std.proofs.lemmas.Result.{IfOk-weaker}
 use Rattle.fix_arith.specs.Rounding.{rounds_up}
 use Rattle.fix_arith.specs.Table.{bit_of}
-use Rattle.rtl_ops.proofs.Growing.{same_value}
+use Rattle.rtl_build.proofs.Growing.{same_value}
 use Rattle.rtl_ops.proofs.Carries.{near_test}
 use Rattle.rtl_ops.proofs.rounding.rounds_up.Goals as goal
 

@@ -1,7 +1,7 @@
 use Rattle.std.proofs.Common.{◌+◌, ◌*◌, ◌^◌, ◌∙◌, ap, refl, arith}
 use Rattle.std.proofs.lemmas.Result.{IfOk-weaker}
 use Rattle.fix_arith.specs.Values.{value_of}
-use Rattle.rtl_ops.proofs.Growing.{same_value, goes_on}
+use Rattle.rtl_build.proofs.Growing.{same_value, goes_on}
 use Rattle.rtl_ops.proofs.Carries.{no_shift, far_shift, near_shift}
 use Rattle.rtl_ops.proofs.rounding.shifted_left.Goals as goal
 

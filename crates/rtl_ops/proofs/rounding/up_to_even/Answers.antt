@@ -2,7 +2,7 @@ use Rattle.std.proofs.Common.{◌==◌, ◌&&◌, ◌-◌, ◌%◌, ◌^◌, ◌
 use Rattle.std.proofs.lemmas.Result.{IfOk-weaker}
 use Rattle.rtl_ir.specs.Value.{bit}
 use Rattle.fix_arith.specs.Table.{bit_of}
-use Rattle.rtl_ops.proofs.Growing.{goes_on}
+use Rattle.rtl_build.proofs.Growing.{goes_on}
 use Rattle.rtl_ops.proofs.Carries.{left_of, even_test}
 use Rattle.rtl_ops.proofs.rounding.up_to_even.Goals as goal
 
@@ -19,7 +19,7 @@ returns c =
     goes_on 7 1 _ c.in_ok-left.ensures (
     goes_on 6 1 (λ v. bit_or (bit (nat_lt number (v left.net))) (bit_of (v left.net == number && v floor.net % 2 == 1))) c.in_ok-half.ensures (
     goes_on 5 1 (λ v. bit_or (bit (nat_lt (v half.net) (v left.net))) (bit_of (v left.net == v half.net && v floor.net % 2 == 1))) c.in_ok-above.ensures (
-    goes_on 4 1 (λ v. bit_or (v above.net) (bit_of (v left.net == v half.net && v floor.net % 2 == 1))) c.in_ok-tie.ensures made (omega arith) refl
+    goes_on 4 1 (λ v. bit_or (v above.net) (bit_of (v left.net == v half.net && v floor.net % 2 == 1))) c.in_ok-tie.ensures made (omega arith) c.in_ok-above.ensures.width
     (λ d v h e. ap (bit_or (v above.net)) e))
     (omega arith) refl (λ d v h e. ap (λ n. bit_or n (bit_of (v left.net == v half.net && v floor.net % 2 == 1))) e))
     (omega arith) refl (λ d v h e. ap (λ n. bit_or (bit (nat_lt n (v left.net))) (bit_of (v left.net == n && v floor.net % 2 == 1))) e))

@@ -2,7 +2,8 @@ use Rattle.std.proofs.Common.{◌<◌, ◌-◌, ◌^◌, ◌∙◌, ap, sym, sub
 use Rattle.std.proofs.lemmas.Result.{IfOk-weaker}
 use Rattle.fix_arith.specs.Types.{width_of}
 use Rattle.fix_arith.specs.Values.{value_of, reduced}
-use Rattle.rtl_ops.proofs.Growing.{same_value, goes_on, type_fits}
+use Rattle.rtl_build.proofs.Growing.{same_value, goes_on}
+use Rattle.rtl_ops.proofs.Typed.{type_fits}
 use Rattle.rtl_ops.proofs.Extensions.{floor_far, high_value, high_part}
 use Rattle.rtl_ops.proofs.widths.floor.Goals as goal
 

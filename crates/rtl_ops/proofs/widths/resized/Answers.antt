@@ -3,7 +3,8 @@ use Rattle.std.proofs.lemmas.Result.{IfOk-weaker}
 use Rattle.fix_arith.specs.Types.{width_of}
 use Rattle.fix_arith.specs.Values.{value_of, reduced}
 use Rattle.fix_arith.proofs.Residues.{reduced-value}
-use Rattle.rtl_ops.proofs.Growing.{same_value, goes_on, as_it_stands, type_fits}
+use Rattle.rtl_build.proofs.Growing.{same_value, goes_on, as_it_stands}
+use Rattle.rtl_ops.proofs.Typed.{type_fits}
 use Rattle.rtl_ops.proofs.Extensions.{low_part, extended}
 use Rattle.rtl_ops.proofs.widths.resized.Goals as goal
 
@@ -14,7 +15,7 @@ returns-then-width-a c =
     let q = c.requires in
     let w = c.args.width in
     let is : w ≡ width_of t = c.if-width-a.true ∙ q.a_type in
-    same_value 3 w _ (as_it_stands a 3 (λ v. reduced w (value_of t (v a.net))) q.range q.a (λ d v h. sym (ap (λ k. reduced k (value_of t (v a.net))) is ∙ reduced-value t (v a.net) (type_fits t a q.a q.a_type h)))) (omega arith) (sym c.if-width-a.true) (λ d v h. refl)
+    same_value 3 w _ (as_it_stands a 3 (λ v. reduced w (value_of t (v a.net))) q.a (λ d v h. sym (ap (λ k. reduced k (value_of t (v a.net))) is ∙ reduced-value t (v a.net) (type_fits t a q.a q.a_type h)))) (omega arith) (sym c.if-width-a.true) (λ d v h. refl)
 
 pub returns-then-width-a-2 : goal.returns-then-width-a-2
 returns-then-width-a-2 c =

@@ -1,6 +1,7 @@
 use Rattle.std.proofs.Common.{arith}
 use Rattle.std.proofs.lemmas.Result.{IfOk-weaker}
-use Rattle.rtl_ops.proofs.Growing.{same_value, type_fits}
+use Rattle.rtl_build.proofs.Growing.{same_value}
+use Rattle.rtl_ops.proofs.Typed.{type_fits}
 use Rattle.rtl_ops.proofs.Signs.{sign_bit}
 use Rattle.rtl_ops.proofs.widths.sign.Goals as goal
 

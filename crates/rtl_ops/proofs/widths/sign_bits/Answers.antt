@@ -1,7 +1,8 @@
 use Rattle.std.proofs.Common.{◌∙◌, ap, refl, arith}
 use Rattle.std.proofs.lemmas.Result.{IfOk-weaker}
 use Rattle.rtl_ir.specs.Value.{repeated}
-use Rattle.rtl_ops.proofs.Growing.{same_value, goes_on, type_fits}
+use Rattle.rtl_build.proofs.Growing.{same_value, goes_on}
+use Rattle.rtl_ops.proofs.Typed.{type_fits}
 use Rattle.rtl_ops.proofs.Extensions.{unsigned_bits, signed_bits}
 use Rattle.rtl_ops.proofs.widths.sign_bits.Goals as goal
 

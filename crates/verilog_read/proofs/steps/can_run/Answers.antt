@@ -1,5 +1,4 @@
-use Rattle.std.proofs.Common.{◌∙◌, ◌-◌, sym, ap, subst}
-use Rattle.std.specs.Prelude.{slice_get}
+use Rattle.std.proofs.Common.{sym, subst}
 use Rattle.std.proofs.lemmas.Result.{err_from_is_err_and}
 use Rattle.rtl_ir.specs.Ports.{ports_of}
 use Rattle.top_ports.specs.Shapes.{IsFirstWrong}
@@ -12,5 +11,4 @@ returns-in_err-name-in-Some-clause-err c = rw (err_is (err_from_is_err_and c.fro
 
 pub returns-in_ok-name-in-Some-clause-err : goal.returns-in_ok-name-in-Some-clause-err
 returns-in_ok-name-in-Some-clause-err c =
-    let top = ap (λ n. slice_get c.args.design.now.modules (n - 1)) (sym c.len.ensures) ∙ c.at-top.ensures in
-    HasWrongPort.port c.at-top.result.now c.in_ok-name-in-Some.name top (subst (IsFirstWrong (ports_of c.at-top.result.now)) (sym c.in_ok-name-in-Some.ensures) c.in-Some.ensures.wrong)
+    HasWrongPort.port c.top-top.result.now c.in_ok-name-in-Some.name c.top-top.ensures (subst (IsFirstWrong (ports_of c.top-top.result.now)) (sym c.in_ok-name-in-Some.ensures) c.in-Some.ensures.wrong)

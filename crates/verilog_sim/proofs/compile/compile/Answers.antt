@@ -1,26 +1,13 @@
-use Rattle.std.proofs.Common.{length, refl}
-use Rattle.std.proofs.lemmas.Option.{slice_get_read}
-use Rattle.verilog_sim.specs.declared.line.Line.{Line}
-use Rattle.verilog_sim.proofs.Compiling.{one_compiled}
+use Rattle.std.proofs.Common.{List, subst}
+use Rattle.rtl_ir.specs.declared.design.Assign.{Assign}
+use Rattle.verilog_sim.specs.Compiled.{AreLinesOf}
+use Rattle.verilog_sim.proofs.Compiling.{lines_grow}
 use Rattle.verilog_sim.proofs.compile.compile.Goals as goal
 
-pub width_at-width-requires : goal.width_at-width-requires
-width_at-width-requires c =
-    let at = slice_get_read c.args.order.now (length c.args.order.now) c.loop-assign.assign-index c.assign-item.result refl c.loop-assign-test.true c.assign-item.is in
-    let from = c.requires.order.from c.loop-assign.assign-index c.assign-item.result at in
-    (c.requires.runnable.assigns from.0 c.assign-item.result from.1).target
-
-pub step_of-requires : goal.step_of-requires
-step_of-requires c =
-    let at = slice_get_read c.args.order.now (length c.args.order.now) c.loop-assign.assign-index c.assign-item.result refl c.loop-assign-test.true c.assign-item.is in
-    let from = c.requires.order.from c.loop-assign.assign-index c.assign-item.result at in
-    record { formed = (c.requires.runnable.assigns from.0 c.assign-item.result from.1).expr }
-
-pub loop-assign-preserved : goal.loop-assign-preserved
-loop-assign-preserved c =
-    let i = c.loop-assign.assign-index in
-    let a = c.assign-item.result in
-    let line : Line = record { target = a.target; width = c.width_at-width.result; step = c.in_ok-step.step } in
-    let at = slice_get_read c.args.order.now (length c.args.order.now) i a refl c.loop-assign-test.true c.assign-item.is in
-    rw c.in_ok-push.ensures.items
-    (one_compiled c.args.module.now c.loop-assign.literals.items c.step_of.new.literals.items c.args.order.now c.loop-assign.lines.items i a line at refl c.width_at-width.ensures c.in_ok-step.ensures c.loop-assign.invariant)
+pub returns-clause-all : goal.returns-clause-all
+returns-clause-all c =
+    let m = c.args.module.now in
+    let lines = c.in_ok-lines.lines.items in
+    let literals = c.lines_of-2.new.literals.items in
+    subst (λ (l : List Assign). AreLinesOf m literals l lines) c.as_slice.ensures.value
+    (lines_grow m c.lines_of.new.literals.items literals c.as_slice.result.now lines c.in_ok-feeding.ensures.more c.in_ok-lines.ensures.lines_are)

@@ -5,26 +5,25 @@ use Rattle.rtl_ir.specs.Value.{width_of}
 use Rattle.verilog_sim.specs.Simulates.{AreOffered}
 use Rattle.verilog_sim.specs.Updates.{IsLoaded}
 use Rattle.verilog_sim.specs.Sources.{AreDriven}
-use Rattle.verilog_sim.specs.Compiled.{AreLinesOf}
 use Rattle.rtl_ir.specs.Run.{Outer}
 use Rattle.verilog_sim.proofs.Updating.{load_safe}
 use Rattle.verilog_sim.proofs.Compiling.{lines_safe}
 use Rattle.verilog_sim.proofs.Outer.{outer_same, given_fits}
-use Rattle.verilog_sim.proofs.Evaluated.{loaded_words, driven_words, evaluated}
+use Rattle.verilog_sim.proofs.Evaluated.{loaded_words, driven_words, by_lines}
 use Rattle.verilog_sim.proofs.evaluate.evaluate.Goals as goal
 
 pub load-requires : goal.load-requires
 load-requires c =
-    let r = c.requires.1 in
+    let r = c.requires.2 in
     record {
-      safe = load_safe c.requires.0 _ _ r.program.runnable r.kept.words.nets r.updates_are;
+      safe = load_safe c.requires.0 _ _ r.simulable.runnable r.kept.words.nets r.updates_are;
       held = r.kept.held_nets ∙ sym r.kept.words.nets;
     }
 
 pub drive-requires : goal.drive-requires
 drive-requires c =
-    let r = c.requires.1 in
-    let p = r.program in
+    let r = c.requires.2 in
+    let p = r.simulable in
     rw r.ports_are
     (record {
       counted = p.counted;
@@ -34,15 +33,15 @@ drive-requires c =
 
 pub settle-requires : goal.settle-requires
 settle-requires c =
-    let r = c.requires.1 in
-    let p = r.program in
+    let r = c.requires.2 in
+    let p = r.simulable in
     let nets : length c.drive.new.values ≡ length c.requires.0.nets = c.drive.ensures.size ∙ c.load.ensures.size ∙ r.kept.words.nets in
-    rw (c.as_slice-lines.ensures.value, c.as_slice.ensures.value, nets, r.kept.blocks)
-    (record { safe = lines_safe c.requires.0 c.args.program.now.literals.items p.order c.args.program.now.lines.items p.runnable p.ordered p.lines_are })
+    rw (nets, r.kept.blocks)
+    (record { safe = lines_safe c.requires.0 c.args.literals.now c.requires.1 c.args.lines.now p.runnable c.requires.3 c.requires.4 })
 
 pub returns : goal.returns
-returns c = λ m r.
-    let p = r.program in
+returns c = λ m assigns r part lines.
+    let p = r.simulable in
     let k = r.kept in
     let g = c.args.given.now in
     let same = outer_same m c.args.counts p.shape p.counts in
@@ -52,6 +51,5 @@ returns c = λ m r.
     let offered = subst (λ (o : Outer). AreOffered m o g.offers.now) same r.offered in
     let first = loaded_words m c.args.counts g.steady.now c.args.held.now c.args.values.now c.load.new.values c.args.memories.now p.runnable k loaded in
     let words = driven_words m c.args.counts g.reset g.steady.now g.offers.now g.accepts.now g.holds.now c.load.new.values c.drive.new.values c.args.memories.now (λ i x q at input given. given_fits m c.args.counts p.shape g.reset g.steady.now g.offers.now g.accepts.now g.holds.now p.runnable p.counts steady k.steady_ports offered i x q at ((p.formed i q at).net) given) first driven in
-    let lines : AreLinesOf m c.as_slice.result.now p.order c.as_slice-lines.result.now = rw (c.as_slice.ensures.value, c.as_slice-lines.ensures.value) p.lines_are in
-    let settled = c.settle.ensures m p.order lines p.ordered.in_order words in
-    evaluated m c.args.counts g.reset g.steady.now g.offers.now g.accepts.now g.holds.now c.args.held.now c.args.values.now c.load.new.values c.drive.new.values c.settle.new.values c.args.memories.now p.order p.runnable p.ordered (λ i q at. (p.formed i q at).wire) loaded driven words settled
+    let settled = c.settle.ensures m assigns lines part.in_order words in
+    by_lines m assigns c.args.counts g.reset g.steady.now g.offers.now g.accepts.now g.holds.now c.args.held.now c.args.values.now c.load.new.values c.drive.new.values c.settle.new.values c.args.memories.now p.runnable (λ i q at. (p.formed i q at).wire) loaded driven words settled

@@ -1,5 +1,7 @@
-use Rattle.std.proofs.Common.{false, ◌≡◌, ℕ, zero, suc, ◌+◌, ◌<◌, ◌++◌, List, [], ◌∷◌, take, length, get_or, append_assoc, refl, sym, ap, ◌∙◌, arith}
+use Rattle.std.proofs.Common.{◌≡◌, ℕ, zero, suc, ◌+◌, ◌<◌, ◌++◌, List, [], ◌∷◌, take, length, get_or, append_assoc, refl, sym, ap, ◌∙◌, arith}
 use Rattle.rtl_ir.specs.declared.design.Port.{Port}
+use Rattle.rtl_ir.specs.declared.design.Assign.{Assign}
+use Rattle.rtl_ir.specs.declared.design.Expr.TheVariants.{Net as Plain}
 use Rattle.verilog_sim.specs.Moved.{join_of, joins_of}
 use Rattle.verilog_sim.proofs.parts.add_joins.Goals as goal
 
@@ -18,8 +20,10 @@ loop-k-preserved c =
     let before = joins_of c.args.first_net (take k ports) (take k nets) in
     let lt : k < length ports = c.loop-k-test.true in
     let next : suc k ≡ k + 1 = omega arith in
-    let more = joins_suc c.args.first_net k ports nets (record { net = 0; output = false }) 0 lt (omega (arith, lt, c.requires.nets)) in
+    let more = joins_suc c.args.first_net k ports nets c.index-ports-k.result c.index-nets-k.result lt (omega (arith, lt, c.requires.nets)) in
+    let pick : join_of c.args.first_net c.index-ports-k.result c.index-nets-k.result ≡ join_of c.args.first_net (get_or ports k c.index-ports-k.result) (get_or nets k c.index-nets-k.result) = ap (λ (p : Port). join_of c.args.first_net p c.index-nets-k.result) c.index-ports-k.is ∙ ap (λ (n : ℕ). join_of c.args.first_net (get_or ports k c.index-ports-k.result) n) c.index-nets-k.is in
+    let one : Assign = record { target = c.joined-join.result.target; expr = Plain c.joined-join.result.source } in
     c.in_ok-push.ensures.items
-    ∙ ap (λ l. l ++ c.joined.result ∷ []) c.loop-k.invariant
-    ∙ append_assoc old before (c.joined.result ∷ [])
-    ∙ ap (λ l. old ++ l) (ap (λ x. before ++ x ∷ []) c.joined.ensures ∙ sym more ∙ ap (λ i. joins_of c.args.first_net (take i ports) (take i nets)) next)
+    ∙ ap (λ l. l ++ one ∷ []) c.loop-k.invariant
+    ∙ append_assoc old before (one ∷ [])
+    ∙ ap (λ l. old ++ l) (ap (λ x. before ++ x ∷ []) (sym c.joined-join.ensures ∙ pick) ∙ sym more ∙ ap (λ i. joins_of c.args.first_net (take i ports) (take i nets)) next)

@@ -1,5 +1,5 @@
 use Rattle.std.proofs.Common.{◌≡◌, ◌∙◌, ◌<◌, ◌≤◌, ◌^◌, arith, ap, sym, subst}
-use Rattle.grammar.specs.Bytes.{digits_value, decimal}
+use Rattle.grammar.specs.Bytes.{digits_value, decimal_value}
 use Rattle.std.proofs.lemmas.Nat.{pow_pos}
 use Rattle.verilog_syntax.specs.Scanning.{literal_width, literal_value}
 use Rattle.verilog_syntax.proofs.Digits.{width_is, digits_are}
@@ -8,14 +8,14 @@ use Rattle.verilog_syntax.proofs.number.literal.Goals as goal
 pub returns-in-Some-eq0 : goal.returns-in-Some-eq0
 returns-in-Some-eq0 c =
     let s = c.split_front-split in
-    let w = ap decimal (width_is c.args.bytes.now s.result.front.now s.result.rest.now s.ensures.joined s.ensures.front s.ensures.rest) in
+    let w = ap decimal_value (width_is c.args.bytes.now s.result.front.now s.result.rest.now s.ensures.joined s.ensures.front s.ensures.rest) in
     let n = c.in-Some-eq0.ensures in
     λ h. let a = h.0.0 in omega arith
 
 pub returns-in-None : goal.returns-in-None
 returns-in-None c =
     let s = c.split_front-split in
-    let w = ap decimal (width_is c.args.bytes.now s.result.front.now s.result.rest.now s.ensures.joined s.ensures.front s.ensures.rest) in
+    let w = ap decimal_value (width_is c.args.bytes.now s.result.front.now s.result.rest.now s.ensures.joined s.ensures.front s.ensures.rest) in
     let n = c.in-None.ensures in
     λ h. let a = h.0.1 in omega arith
 
@@ -29,7 +29,7 @@ new-requires-clause-fits c =
 pub returns-in-Some-number : goal.returns-in-Some-number
 returns-in-Some-number c =
     let s = c.split_front-split in
-    let w = ap decimal (width_is c.args.bytes.now s.result.front.now s.result.rest.now s.ensures.joined s.ensures.front s.ensures.rest) in
+    let w = ap decimal_value (width_is c.args.bytes.now s.result.front.now s.result.rest.now s.ensures.joined s.ensures.front s.ensures.rest) in
     let v = ap (digits_value 16 0) (digits_are c.args.bytes.now s.result.front.now s.result.rest.now s.ensures.joined s.ensures.front s.ensures.rest ∙ sym c.behind_quote.ensures) in
     let n = c.in-Some.ensures in
     let m = c.in-Some-number.ensures in
@@ -48,7 +48,7 @@ returns-in-Some-number c =
 pub returns-in-None-number : goal.returns-in-None-number
 returns-in-None-number c =
     let s = c.split_front-split in
-    let w = ap decimal (width_is c.args.bytes.now s.result.front.now s.result.rest.now s.ensures.joined s.ensures.front s.ensures.rest) in
+    let w = ap decimal_value (width_is c.args.bytes.now s.result.front.now s.result.rest.now s.ensures.joined s.ensures.front s.ensures.rest) in
     let v = ap (digits_value 16 0) (digits_are c.args.bytes.now s.result.front.now s.result.rest.now s.ensures.joined s.ensures.front s.ensures.rest ∙ sym c.behind_quote.ensures) in
     let n = c.in-Some.ensures in
     let m = c.in-None-number.ensures in

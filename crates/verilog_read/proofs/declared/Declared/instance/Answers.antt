@@ -27,7 +27,7 @@ returns-in-Some-get c = λ sc m e h t.
     let (j, p, f) = named_module 0 sc.modules c.args.of.now number n in
     let q : j ≡ number = omega (arith, p) in
     let same : f.tree ≡ module_view c.in-Some-get.tree.now = some_is (sym f.at ∙ ap (slice_get sc.modules) q ∙ at) in
-    gives_instance sc m c.args.of.now c.args.name.now (map connection_view c.args.connections.now) c.instance_of.result (module_view c.in-Some-get.tree.now) (f.found ∙ ap Some same) (ap (λ (x : tree.ModuleTree). x.name) (sym same) ∙ f.named) (c.instance_of.ensures sc m h t at)
+    gives_instance sc m c.args.of.now c.args.name.now (map connection_view c.args.connections.now) c.instance_of.result (module_view c.in-Some-get.tree.now) (f.found ∙ ap Some same) (ap (λ (x : tree.ModuleTree). x.name) (sym same) ∙ f.named) (c.instance_of.ensures sc m h t (rw c.new-inner.ensures at))
 
 pub returns-in-None-get : goal.returns-in-None-get
 returns-in-None-get c = λ sc m e h t.

@@ -9,7 +9,7 @@ use Rattle.verilog_sim.specs.State.{State}
 use Rattle.verilog_sim.specs.Contents.{family_of}
 use Rattle.verilog_sim.specs.Channels.{channel_of, first_channel}
 use Rattle.verilog_sim.specs.Calls.{event_of, IsEdge}
-use Rattle.verilog_sim.specs.Simulates.{AreOffered}
+use Rattle.verilog_sim.specs.Simulates.{last_net, AreOffered}
 use Rattle.verilog_sim.proofs.Edges.{state, back, kept_back, ready_at, kept_on, stepped_back, nets_within, ports_counted, streams_counted, edge_is}
 use Rattle.verilog_sim.proofs.sim.Sim.edge.Goals as goal
 
@@ -17,7 +17,7 @@ pub step-requires : goal.step-requires
 step-requires c =
     let x = c.self.inside in
     let s = c.self.invariant in
-    (s.flat, ready_at s c.as_slice-ports.result.now c.as_slice-2.result.now c.as_slice.result.now c.as_mut_slice.result.now c.as_mut_slice-3.result.now c.as_mut_slice-2.result.now c.args.offers.now c.top.result.now c.top.ensures c.as_slice-ports.ensures c.as_slice-2.ensures c.as_slice.ensures.value c.as_mut_slice.ensures.value c.as_mut_slice-3.ensures.value c.as_mut_slice-2.ensures.value (subst (λ (st : State). (m : Module) → top_of st.design ≡ Some m → AreOffered m st.outer c.args.offers.now) (sym c.self.view_is) c.requires.words c.top.result.now c.top.ensures))
+    (s.flat, last_net s.flat.ports, ready_at s c.as_slice-ports.result.now c.as_slice-2.result.now c.as_slice.result.now c.as_mut_slice.result.now c.as_mut_slice-3.result.now c.as_mut_slice-2.result.now c.args.offers.now c.top.result.now c.top.ensures c.as_slice-ports.ensures c.as_slice-2.ensures c.as_slice.ensures.value c.as_mut_slice.ensures.value c.as_mut_slice-3.ensures.value c.as_mut_slice-2.ensures.value (subst (λ (st : State). (m : Module) → top_of st.design ≡ Some m → AreOffered m st.outer c.args.offers.now) (sym c.self.view_is) c.requires.words c.top.result.now c.top.ensures), s.program)
 
 pub tell-requires-clause-counted : goal.tell-requires-clause-counted
 tell-requires-clause-counted c = ports_counted c.self.invariant c.top.result.now c.top.ensures ∙ ap length (sym c.as_slice-ports.ensures)
@@ -26,7 +26,7 @@ pub tell-requires-clause-nets : goal.tell-requires-clause-nets
 tell-requires-clause-nets c =
     let x = c.self.inside in
     let s = c.self.invariant in
-    let done = c.step.ensures s.flat (ready_at s c.as_slice-ports.result.now c.as_slice-2.result.now c.as_slice.result.now c.as_mut_slice.result.now c.as_mut_slice-3.result.now c.as_mut_slice-2.result.now c.args.offers.now c.top.result.now c.top.ensures c.as_slice-ports.ensures c.as_slice-2.ensures c.as_slice.ensures.value c.as_mut_slice.ensures.value c.as_mut_slice-3.ensures.value c.as_mut_slice-2.ensures.value (subst (λ (st : State). (m : Module) → top_of st.design ≡ Some m → AreOffered m st.outer c.args.offers.now) (sym c.self.view_is) c.requires.words c.top.result.now c.top.ensures)) in
+    let done = c.step.ensures s.flat (last_net s.flat.ports) (ready_at s c.as_slice-ports.result.now c.as_slice-2.result.now c.as_slice.result.now c.as_mut_slice.result.now c.as_mut_slice-3.result.now c.as_mut_slice-2.result.now c.args.offers.now c.top.result.now c.top.ensures c.as_slice-ports.ensures c.as_slice-2.ensures c.as_slice.ensures.value c.as_mut_slice.ensures.value c.as_mut_slice-3.ensures.value c.as_mut_slice-2.ensures.value (subst (λ (st : State). (m : Module) → top_of st.design ≡ Some m → AreOffered m st.outer c.args.offers.now) (sym c.self.view_is) c.requires.words c.top.result.now c.top.ensures)) s.program in
     nets_within s c.top.result.now c.as_slice-ports.result.now c.as_slice-3.result.now c.top.ensures c.as_slice-ports.ensures
     (ap length (c.as_slice-3.ensures.value ∙ back x.values c.step.new.values c.as_mut_slice-3.result.now c.step.auto.values c.as_mut_slice-3.ensures.value) ∙ done.0.words.nets)
 
@@ -38,7 +38,7 @@ pub invariant_of-self : goal.invariant_of-self
 invariant_of-self c =
     let x = c.self.inside in
     let s = c.self.invariant in
-    let done = c.step.ensures s.flat (ready_at s c.as_slice-ports.result.now c.as_slice-2.result.now c.as_slice.result.now c.as_mut_slice.result.now c.as_mut_slice-3.result.now c.as_mut_slice-2.result.now c.args.offers.now c.top.result.now c.top.ensures c.as_slice-ports.ensures c.as_slice-2.ensures c.as_slice.ensures.value c.as_mut_slice.ensures.value c.as_mut_slice-3.ensures.value c.as_mut_slice-2.ensures.value (subst (λ (st : State). (m : Module) → top_of st.design ≡ Some m → AreOffered m st.outer c.args.offers.now) (sym c.self.view_is) c.requires.words c.top.result.now c.top.ensures)) in
+    let done = c.step.ensures s.flat (last_net s.flat.ports) (ready_at s c.as_slice-ports.result.now c.as_slice-2.result.now c.as_slice.result.now c.as_mut_slice.result.now c.as_mut_slice-3.result.now c.as_mut_slice-2.result.now c.args.offers.now c.top.result.now c.top.ensures c.as_slice-ports.ensures c.as_slice-2.ensures c.as_slice.ensures.value c.as_mut_slice.ensures.value c.as_mut_slice-3.ensures.value c.as_mut_slice-2.ensures.value (subst (λ (st : State). (m : Module) → top_of st.design ≡ Some m → AreOffered m st.outer c.args.offers.now) (sym c.self.view_is) c.requires.words c.top.result.now c.top.ensures)) s.program in
     let held : c.step.new.held ≡ (with_items x.held c.step.new.held).items = sym (back x.held c.step.new.held c.as_mut_slice.result.now c.step.auto.held c.as_mut_slice.ensures.value) in
     let memories : c.step.new.memories ≡ (with_items x.memories c.step.new.memories).items = sym (back x.memories c.step.new.memories c.as_mut_slice-2.result.now c.step.auto.memories c.as_mut_slice-2.ensures.value) in
     let values : c.step.new.values ≡ (with_items x.values c.step.new.values).items = sym (back x.values c.step.new.values c.as_mut_slice-3.result.now c.step.auto.values c.as_mut_slice-3.ensures.value) in
@@ -49,7 +49,7 @@ pub returns-clause-edge : goal.returns-clause-edge
 returns-clause-edge c = λ m e.
     let x = c.self.inside in
     let s = c.self.invariant in
-    let done = c.step.ensures s.flat (ready_at s c.as_slice-ports.result.now c.as_slice-2.result.now c.as_slice.result.now c.as_mut_slice.result.now c.as_mut_slice-3.result.now c.as_mut_slice-2.result.now c.args.offers.now c.top.result.now c.top.ensures c.as_slice-ports.ensures c.as_slice-2.ensures c.as_slice.ensures.value c.as_mut_slice.ensures.value c.as_mut_slice-3.ensures.value c.as_mut_slice-2.ensures.value (subst (λ (st : State). (m : Module) → top_of st.design ≡ Some m → AreOffered m st.outer c.args.offers.now) (sym c.self.view_is) c.requires.words c.top.result.now c.top.ensures)) in
+    let done = c.step.ensures s.flat (last_net s.flat.ports) (ready_at s c.as_slice-ports.result.now c.as_slice-2.result.now c.as_slice.result.now c.as_mut_slice.result.now c.as_mut_slice-3.result.now c.as_mut_slice-2.result.now c.args.offers.now c.top.result.now c.top.ensures c.as_slice-ports.ensures c.as_slice-2.ensures c.as_slice.ensures.value c.as_mut_slice.ensures.value c.as_mut_slice-3.ensures.value c.as_mut_slice-2.ensures.value (subst (λ (st : State). (m : Module) → top_of st.design ≡ Some m → AreOffered m st.outer c.args.offers.now) (sym c.self.view_is) c.requires.words c.top.result.now c.top.ensures)) s.program in
     let held : c.step.new.held ≡ (with_items x.held c.step.new.held).items = sym (back x.held c.step.new.held c.as_mut_slice.result.now c.step.auto.held c.as_mut_slice.ensures.value) in
     let memories : c.step.new.memories ≡ (with_items x.memories c.step.new.memories).items = sym (back x.memories c.step.new.memories c.as_mut_slice-2.result.now c.step.auto.memories c.as_mut_slice-2.ensures.value) in
     let top : top_of x.design.now ≡ Some m = subst (λ (st : State). top_of st.design ≡ Some m) (sym c.self.view_is) e in

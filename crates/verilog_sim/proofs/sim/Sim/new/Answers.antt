@@ -1,13 +1,16 @@
-use Rattle.std.proofs.Common.{rules, ◌≡◌, ℕ, ◌+◌, ◌^◌, ◌≤◌, ◌-◌, List, [], replicate, length, min, refl, subst, sym, ap, ◌∙◌, arith}
+use Rattle.std.proofs.Common.{rules, ◌≡◌, ℕ, ◌+◌, ◌^◌, ◌<◌, ◌≤◌, ◌-◌, false, [], Some, get_or, replicate, length, min, refl, subst, sym, ap, ◌∙◌, arith}
 use Rattle.rtl_ir.specs.declared.design.Module.{Module}
 use Rattle.rtl_ir.specs.Flat.{top_of, AllContents}
-use Rattle.rtl_ir.specs.declared.design.Assign.{Assign}
 use Rattle.std.proofs.lemmas.List.{length-map}
-use Rattle.rtl_ir.specs.Ports.{HasShape, port_view}
+use Rattle.std.specs.Prelude.{slice_get}
+use Rattle.std.proofs.lemmas.Option.{slice_get-get_or}
+use Rattle.rtl_ir.specs.Ports.{HasShape, port_view, port_net}
+use Rattle.verilog_sim.specs.Feeding.{IsFeeding}
+use Rattle.verilog_sim.specs.Simulates.{last_net}
+use Rattle.verilog_sim.proofs.Answering.{part_of_order, part_of_feeding}
 use Rattle.verilog_sim.proofs.Shapes.{length_shape}
 use Rattle.rtl_ir.specs.Run.{Outer}
 use Rattle.rtl_ir.specs.Rules.{AllHold}
-use Rattle.verilog_sim.specs.Compiled.{AreLinesOf}
 use Rattle.verilog_sim.specs.Contents.{contents_of}
 use Rattle.verilog_sim.specs.Parts.{contents_by_path}
 use Rattle.verilog_sim.specs.Start.{IsFilled, filled}
@@ -26,11 +29,41 @@ small_of cells all le e = omega (arith, le, e)
 pub counts_of-counts-requires : goal.counts_of-counts-requires
 counts_of-counts-requires c = λ i p at. (((c.requires.accepted.formed.each (length c.args.design.now.modules - 1) c.top.result.now c.top.ensures).ports i p at).net)
 
-pub in_order-requires-clause-runnable : goal.in_order-requires-clause-runnable
-in_order-requires-clause-runnable c = runnable_of c.args.design.now c.in_ok-module.field-0.«module» (placed_flat c.args.design.now c.requires.accepted c.in_ok-module.ensures)
+pub both_orders-requires-clause-runnable : goal.both_orders-requires-clause-runnable
+both_orders-requires-clause-runnable c = runnable_of c.args.design.now c.in_ok-module.field-0.«module» (placed_flat c.args.design.now c.requires.accepted c.in_ok-module.ensures)
 
-pub in_order-requires-clause-small : goal.in_order-requires-clause-small
-in_order-requires-clause-small c = omega (arith, flat_cells c.args.design.now c.requires.accepted c.in_ok-module.ensures (small_of c.in_ok-cells.cells _ c.if-cells-gt-MOST_CELLS.false c.in_ok-cells.ensures))
+pub both_orders-requires-clause-small : goal.both_orders-requires-clause-small
+both_orders-requires-clause-small c = omega (arith, flat_cells c.args.design.now c.requires.accepted c.in_ok-module.ensures (small_of c.in_ok-cells.cells _ c.if-cells-gt-MOST_CELLS.false c.in_ok-cells.ensures))
+
+pub net_of_last-done-requires : goal.net_of_last-done-requires
+net_of_last-done-requires c =
+    let d = c.args.design.now in
+    let f = c.in_ok-module.ensures in
+    let shape = c.requires.shape.1 in
+    let to_flat : c.requires.shape.0 ≡ f.top = (let e = c.requires.shape.2 in let g = f.is_top in cc) in
+    let has_flat : HasShape f.top shape = subst (λ (x : Module). HasShape x shape) to_flat c.requires.shape.3 in
+    omega (arith, length-map f.top.ports (port_view f.top), ap length has_flat, length_shape shape, ap length (ports_flat d c.requires.accepted f), ap length c.as_slice.ensures)
+
+pub both_orders-requires-clause-net : goal.both_orders-requires-clause-net
+both_orders-requires-clause-net c =
+    let f = c.in_ok-module.ensures in
+    let placed = placed_flat c.args.design.now c.requires.accepted f in
+    let ports = c.in_ok-module.field-0.«module».ports in
+    let last = length ports - 1 in
+    let some : 0 < length ports = (let d = c.args.design.now in let shape = c.requires.shape.1 in
+    let to_flat : c.requires.shape.0 ≡ f.top = (let e = c.requires.shape.2 in let g = f.is_top in cc) in
+    let has_flat : HasShape f.top shape = subst (λ (x : Module). HasShape x shape) to_flat c.requires.shape.3 in
+    omega (arith, length-map f.top.ports (port_view f.top), ap length has_flat, length_shape shape, ap length (ports_flat d c.requires.accepted f))) in
+    let at : slice_get ports last ≡ Some (get_or ports last (record { net = 0; output = false })) = slice_get-get_or ports last (record { net = 0; output = false }) (omega (arith, some)) in
+    let lt = (placed.ports last _ at).net in
+    let net : c.net_of_last-done.result ≡ (get_or ports last (record { net = 0; output = false })).net = c.net_of_last-done.ensures ∙ ap last_net c.as_slice.ensures ∙ ap port_net at in
+    omega (arith, net, lt)
+
+pub compile-requires-clause-all : goal.compile-requires-clause-all
+compile-requires-clause-all c = part_of_order _ _ c.in_ok-orders.ensures.0
+
+pub compile-requires-clause-feeding : goal.compile-requires-clause-feeding
+compile-requires-clause-feeding c = part_of_feeding _ _ _ _ c.in_ok-orders.ensures.0 c.in_ok-orders.ensures.1
 
 pub compile-requires-clause-runnable : goal.compile-requires-clause-runnable
 compile-requires-clause-runnable c = runnable_of c.args.design.now c.in_ok-module.field-0.«module» (placed_flat c.args.design.now c.requires.accepted c.in_ok-module.ensures)
@@ -59,16 +92,21 @@ invariant_of-result c =
       accepted = c.requires.accepted;
       flat = n;
       is_flat = f;
-      program = record {
+      simulable = record {
         runnable = runnable_of d n placed;
-        order = c.in_ok-order.order.items;
-        ordered = c.in_ok-order.ensures;
-        lines_are = subst (λ (l : List Assign). AreLinesOf c.in_ok-module.field-0.«module» c.in_ok-compile.field-0.literals.items l c.in_ok-compile.field-0.lines.items) c.as_slice.ensures.value c.in_ok-compile.ensures;
         shape = shape;
         counts = counts;
         counted = omega (arith, length-map f.top.ports (port_view f.top), ap length has_flat, length_shape shape, counts.kernels, counts.scalars, counts.inputs, counts.outputs, ap length (ports_flat d c.requires.accepted f));
         apart = placed.apart;
         formed = placed.ports;
+      };
+      program = record {
+        order = c.in_ok-orders.orders.all.items;
+        ordered = c.in_ok-orders.ensures.0;
+        lines_are = c.in_ok-compile.ensures.all;
+        feeding = c.in_ok-orders.orders.feeding.items;
+        feeds = subst (IsFeeding c.in_ok-orders.orders.all.items c.in_ok-orders.orders.feeding.items) (c.net_of_last-done.ensures ∙ ap last_net c.as_slice.ensures) c.in_ok-orders.ensures.1;
+        feeding_are = c.in_ok-compile.ensures.feeding;
       };
       updates_are = refl;
       has = has_flat;

@@ -1,0 +1,77 @@
+#!/usr/bin/env python3
+"""Time and memory of `maxjc simulate` on texts whose instances have very many ports.
+
+Many ports: a module of PORTS ports, each output the inverse of one input, and an instance of it. Many pairs: a
+module of SIDE inputs, each of which feeds each of SIDE outputs, and an instance of it, so that it has SIDE * SIDE
+ways from a port to a port. Each is simulated for some edges; the words that leave are checked. Memory is the
+greatest resident set of the program.
+
+    bench/hostile_sizes.py [PORTS [SIDE]]
+"""
+import subprocess
+import sys
+
+import check_size
+import simulate_speed
+
+# Seconds for either text.
+BAR = 2
+BIT = "wire [0:0] "
+
+
+def joined(names, net):
+    return "".join(f", .{name}({net})" for name in names)
+
+
+def whole(inner, joins, outputs, chosen):
+    """A text of an inner module, and of a top module with an instance of it: the net of the output chosen leaves."""
+    nets = "".join(f"{BIT}n{name};\n" for name in outputs)
+    outs = "".join(f", .{name}(n{name})" for name in outputs)
+    instance = f"inner i (.clk(clk), .reset(reset){joins}{outs});\n"
+    head = f"{BIT}a;\nassign a = in$x$data[0:0];\n"
+    return inner + simulate_speed.HEAD + head + nets + instance + f"assign out$y$data = {{32{{n{chosen}}}}};\nendmodule\n"
+
+
+def module(inputs, outputs, body):
+    ports = ["clk", "reset"] + inputs
+    declared = ", ".join([f"input {BIT}{name}" for name in ports] + [f"output {BIT}{name}" for name in outputs])
+    return f"module inner ({declared});\n{body}endmodule\n"
+
+
+def many_ports(ports):
+    """A module of so many ports in all, half of them outputs: each inverts an input."""
+    pairs = (ports - 2) // 2
+    inputs, outputs = [f"a{number}" for number in range(pairs)], [f"b{number}" for number in range(pairs)]
+    body = "".join(f"assign {b} = ~{a};\n" for a, b in zip(inputs, outputs))
+    return whole(module(inputs, outputs, body), joined(inputs, "a"), outputs, outputs[-1])
+
+
+def many_pairs(side):
+    """A module whose outputs are all the bit by bit sum of all its inputs."""
+    inputs, outputs = [f"a{number}" for number in range(side)], [f"b{number}" for number in range(side)]
+    sums = [f"s{number}" for number in range(1, side)]
+    body = "".join(f"{BIT}{name};\n" for name in sums)
+    before = inputs[:1] + sums
+    body += "".join(f"assign {name} = {before[place]} ^ {inputs[place + 1]};\n" for place, name in enumerate(sums))
+    body += "".join(f"assign {name} = {before[-1]};\n" for name in outputs)
+    return whole(module(inputs, outputs, body), joined(inputs, "a"), outputs, outputs[-1])
+
+
+def main():
+    ports = int(sys.argv[1]) if len(sys.argv) > 1 else 200_000
+    side = int(sys.argv[2]) if len(sys.argv) > 2 else 8_000
+    subprocess.run([str(check_size.TOP / "maxjc")], stdout=subprocess.DEVNULL)
+    words = list(range(check_size.EDGES))
+    inverted = [0 if word % 2 else 2**32 - 1 for word in words]
+    # A sum of an even number of equal bits is 0, of an odd number the bit.
+    summed = [(2**32 - 1) * (word % 2) * (side % 2) for word in words]
+    done = check_size.SIMULATED
+    good = [
+        check_size.holds(f"an instance of {ports} ports", many_ports(ports), words, done, inverted, BAR),
+        check_size.holds(f"an instance of {side} by {side} ways", many_pairs(side), words, done, summed, BAR),
+    ]
+    return 0 if all(good) else 1
+
+
+if __name__ == "__main__":
+    sys.exit(main())

@@ -1,4 +1,0 @@
-use Rattle.maxj_syntax.proofs.parse_tests.+show.Given as goal
-
-abbrev pub decreases-show : goal.decreases-show
-decreases-show l = l.depth

@@ -1,0 +1,230 @@
+use maxjc_core::{Status, maxjc};
+use mx_base::{MemFiles, MemSay, Text, read_whole};
+use stall_source::{Pattern, program_stalls};
+use std::alloc::Global;
+use std::process::Abort;
+use std::test::Fail;
+
+const DOUBLE: &[u8] = b"class Double extends Kernel {
+  Double(KernelParameters p) {
+    super(p);
+    DFEVar x = io.input(\"x\", dfeUInt(8));
+    io.output(\"y\", x + x, dfeUInt(8));
+  }
+}
+";
+
+const DOUBLE_TEXT: &[u8] = b"module top$project (
+input wire [0:0] clk,
+input wire [0:0] reset,
+input wire [0:0] hold$Double,
+input wire [47:0] ticks$Double,
+input wire [7:0] in$x$data,
+input wire [0:0] in$x$valid,
+output wire [0:0] in$x$ready,
+output wire [7:0] out$y$data,
+output wire [0:0] out$y$valid,
+input wire [0:0] out$y$ready,
+output wire [0:0] done);
+wire [0:0] w11;
+wire [7:0] w12;
+assign w11 = ~hold$Double;
+assign w12 = in$x$data + in$x$data;
+assign out$y$data = w12;
+assign out$y$valid = in$x$valid & w11;
+assign in$x$ready = out$y$ready & w11;
+assign done = 1'h0;
+endmodule
+";
+
+const OFFSETS: &[u8] = b"class Sum3 extends Kernel {
+  Sum3(KernelParameters p) {
+    super(p);
+    DFEVar x = io.input(\"x\", dfeUInt(32));
+    io.output(\"y\", stream.offset(x, -1) + x + stream.offset(x, 1), dfeUInt(32));
+  }
+}
+";
+
+const TWO_CLASSES: &[u8] = b"class A extends Kernel { A(KernelParameters p) { super(p); } }
+class B extends Kernel { B(KernelParameters p) { super(p); } }
+";
+
+const USAGE: &[u8] =
+    b"usage: compile SRC TABLE OUT REPORT | simulate TEXT RUN | expect SRC TABLE REPORT RUN | check SRC TABLE REPORT | generate N\n";
+
+fn text(alloc: Global, bytes: &[u8]) -> Result<Text, Fail> {
+    Ok(Text::from_vec(bytes.to_vec(alloc)?))
+}
+
+fn words(alloc: Global, line: &[&[u8]]) -> Result<Vec<Text>, Fail> {
+    let mut words = Vec::new(alloc);
+    for word in line {
+        words.push(text(alloc, word)?)?;
+    }
+    Ok(words)
+}
+
+// Files in memory that hold this source and an empty table, and fail at these calls.
+fn project(alloc: Global, source: &[u8], fails: &[u64]) -> Result<MemFiles, Fail> {
+    let mut files = MemFiles::new(alloc, fails.to_vec(alloc)?)?;
+    files.put(&text(alloc, b"source")?, source)?;
+    files.put(&text(alloc, b"table")?, b"{}")?;
+    files.put(&text(alloc, b"other")?, b"as before")?;
+    Ok(files)
+}
+
+fn compile_words(alloc: Global) -> Result<Vec<Text>, Fail> {
+    words(
+        alloc,
+        &[b"compile", b"source", b"table", b"text", b"report"],
+    )
+}
+
+// Runs a command under the program's pattern of stalls.
+fn run(alloc: Global, words: &Vec<Text>, files: &mut MemFiles, say: &mut MemSay) -> Status {
+    let stalls = Pattern::new(|pick: u64, edge: u64, port: u32| program_stalls(pick, edge, port));
+    maxjc(alloc, words, files, say, &stalls)
+}
+
+// What a source leads to: the status, and what is said.
+fn expect_end(
+    rt: &impl Abort,
+    alloc: Global,
+    source: &[u8],
+    status: Status,
+    said: &[u8],
+) -> Result<(), Fail> {
+    let mut files = project(alloc, source, &[])?;
+    let mut say = MemSay::new(alloc, Vec::new(alloc))?;
+    let ended = run(alloc, &compile_words(alloc)?, &mut files, &mut say);
+    assert_eq!(rt; ended, status, "{:?}", text(alloc, source)?);
+    assert_eq!(rt; say.bytes(), said);
+    Ok(())
+}
+
+#[test]
+fn a_kernel_of_one_sum_is_compiled(rt: HostRuntime) -> Result<(), Fail> {
+    let alloc = rt.alloc();
+    let mut files = project(alloc, DOUBLE, &[])?;
+    let mut say = MemSay::new(alloc, Vec::new(alloc))?;
+    let ended = run(alloc, &compile_words(alloc)?, &mut files, &mut say);
+    assert_eq!(rt; ended, Status::Done);
+    assert_eq!(rt; say.bytes(), b"kernel Double fifo 0\n".as_slice());
+    let held = read_whole(alloc, &mut files, &text(alloc, b"text")?, 10_000)?;
+    assert_eq!(rt; held.as_slice(), DOUBLE_TEXT);
+    let other = read_whole(alloc, &mut files, &text(alloc, b"other")?, 100)?;
+    assert_eq!(rt; other.as_slice(), b"as before".as_slice());
+    Ok(())
+}
+
+#[test]
+fn sources_are_refused(rt: HostRuntime) -> Result<(), Fail> {
+    for (source, said) in [
+        (OFFSETS, b"refused N0\n".as_slice()),
+        (b"", b"refused S3 0\n"),
+        (b"class", b"refused S3 5\n"),
+        (b"\xc8", b"refused S1 0\n"),
+        (b"class #", b"refused S2 6\n"),
+        (b"class goto", b"refused S4 6\n"),
+        (TWO_CLASSES, b"refused S6\n"),
+    ] {
+        expect_end(&rt, rt.alloc(), source, Status::Refused, said)?;
+    }
+    Ok(())
+}
+
+#[test]
+fn words_that_are_no_command(rt: HostRuntime) -> Result<(), Fail> {
+    let alloc = rt.alloc();
+    let lines: [&[&[u8]]; 6] = [
+        &[],
+        &[b"simulate", b"a"],
+        &[b"simulate", b"a", b"b", b"c"],
+        &[b"compile", b"a", b"b", b"c", b"c"],
+        &[b"compile", b"a", b"b", b"c"],
+        &[b"generate", b"4294967296"],
+    ];
+    for line in lines {
+        let mut files = project(alloc, DOUBLE, &[])?;
+        let mut say = MemSay::new(alloc, Vec::new(alloc))?;
+        let ended = run(alloc, &words(alloc, line)?, &mut files, &mut say);
+        assert_eq!(rt; ended, Status::Usage);
+        assert_eq!(rt; say.bytes(), USAGE);
+    }
+    Ok(())
+}
+
+// The calls of `compile`: two reads of the source, two of the table, `create`, `append`.
+#[test]
+fn the_first_call_that_fails_ends_the_command(rt: HostRuntime) -> Result<(), Fail> {
+    let alloc = rt.alloc();
+    for (call, status) in [
+        (1, Status::ReadFault),
+        (2, Status::ReadFault),
+        (3, Status::ReadFault),
+        (4, Status::ReadFault),
+        (5, Status::WriteFault),
+        (6, Status::WriteFault),
+        (7, Status::Done),
+    ] {
+        let mut files = project(alloc, DOUBLE, &[call])?;
+        let mut say = MemSay::new(alloc, Vec::new(alloc))?;
+        let ended = run(alloc, &compile_words(alloc)?, &mut files, &mut say);
+        assert_eq!(rt; ended, status, "call {call}");
+        if status != Status::Done {
+            assert_eq!(rt; say.bytes(), b"".as_slice());
+        }
+    }
+    let mut files = project(alloc, DOUBLE, &[])?;
+    let mut say = MemSay::new(alloc, [1u64].to_vec(alloc)?)?;
+    let ended = run(alloc, &compile_words(alloc)?, &mut files, &mut say);
+    assert_eq!(rt; ended, Status::WriteFault);
+    Ok(())
+}
+
+#[test]
+fn a_source_that_is_not_held(rt: HostRuntime) -> Result<(), Fail> {
+    let alloc = rt.alloc();
+    let mut files = MemFiles::new(alloc, Vec::new(alloc))?;
+    let mut say = MemSay::new(alloc, Vec::new(alloc))?;
+    let ended = run(alloc, &compile_words(alloc)?, &mut files, &mut say);
+    assert_eq!(rt; ended, Status::ReadFault);
+    assert_eq!(rt; say.bytes(), b"".as_slice());
+    Ok(())
+}
+
+// A source with blanks behind it, of this many bytes.
+fn padded(alloc: Global, source: &[u8], size: usize) -> Result<Vec<u8>, Fail> {
+    let mut bytes = source.to_vec(alloc)?;
+    for _ in source.len()..size {
+        bytes.push(b' ')?;
+    }
+    Ok(bytes)
+}
+
+#[test]
+fn a_source_at_the_limit_and_past_it(rt: HostRuntime) -> Result<(), Fail> {
+    let alloc = rt.alloc();
+    let mut source = padded(alloc, DOUBLE, 1 << 24)?;
+    expect_end(&rt, alloc, &source, Status::Done, b"kernel Double fifo 0\n")?;
+    source.push(b' ')?;
+    expect_end(&rt, alloc, &source, Status::Refused, b"refused F1 source\n")
+}
+
+#[test]
+fn a_text_and_a_run_file_that_are_not_held(rt: HostRuntime) -> Result<(), Fail> {
+    let alloc = rt.alloc();
+    let names: [&[&[u8]]; 2] = [
+        &[b"simulate", b"text", b"run"],
+        &[b"simulate", b"source", b"run"],
+    ];
+    for line in names {
+        let mut files = project(alloc, DOUBLE, &[])?;
+        let mut say = MemSay::new(alloc, Vec::new(alloc))?;
+        let ended = run(alloc, &words(alloc, line)?, &mut files, &mut say);
+        assert_eq!(rt; ended, Status::ReadFault);
+        assert_eq!(rt; say.bytes(), b"".as_slice());
+    }
+    Ok(())
+}

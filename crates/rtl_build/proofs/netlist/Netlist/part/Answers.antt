@@ -1,0 +1,4 @@
+use Rattle.rtl_build.proofs.netlist.Netlist.part.Goals as goal
+
+pub returns : goal.returns
+returns c = rw (← c.net.ensures) c.wire.ensures

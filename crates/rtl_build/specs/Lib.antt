@@ -1,0 +1,4 @@
+pub mod Wires
+pub mod Signals
+pub mod Ports
+pub mod Storage
