@@ -3,8 +3,9 @@ ghost use Rattle.std.specs.Prelude.{◌≡◌, ℕ, ◌+◌, ◌≤◌, ◌<◌,
 ghost use Rattle.digraph.specs.Graph.{IsGraph};
 ghost use Rattle.digraph.specs.FanIn.{IsFanIn, IsMet, Collects, all_left};
 
-use crate::search::reads_at;
-use mx_base::{List, NoMemory};
+use crate::Row;
+use crate::search::{read_at, reads_at};
+use mx_base::NoMemory;
 use std::alloc::Global;
 
 /// Lists the nodes from which there is a way to the node `end`, itself among them.
@@ -13,7 +14,7 @@ use std::alloc::Global;
 /// this one. So a search takes time in proportion to what it lists and what that reads.
 pub fn fan_in(
     alloc: Global,
-    graph: &[List<u32>],
+    graph: &[Row<u32>],
     seen: &mut [usize],
     number: usize,
     end: u32,
@@ -51,7 +52,7 @@ fn meet(seen: &mut [usize], number: usize, nodes: &mut Vec<u32>, node: u32) -> R
 
 /// Meets what a listed node reads, where all that those before it read is met.
 fn meet_reads(
-    graph: &[List<u32>],
+    graph: &[Row<u32>],
     seen: &mut [usize],
     number: usize,
     nodes: &mut Vec<u32>,
@@ -67,7 +68,7 @@ fn meet_reads(
 {
     let reads = reads_at(graph, nodes[done]);
     for i in 0..reads.len() {
-        meet(seen, number, nodes, reads[i])?;
+        meet(seen, number, nodes, read_at(reads, i))?;
     }
     Ok(())
 }

@@ -4,12 +4,12 @@ ghost use Rattle.digraph.specs.Graph.{IsGraph, RanksOrWalk};
 
 use crate::search::{Search, visit};
 use crate::walk::walk_from;
-use crate::{Found, Order};
-use mx_base::{List, NoMemory};
+use crate::{Found, Order, Row};
+use mx_base::NoMemory;
 use std::alloc::Global;
 
 /// Ranks of all nodes, or a closed walk from its least node.
-pub fn rank(alloc: Global, graph: &[List<u32>]) -> Result<Found, NoMemory>
+pub fn rank(alloc: Global, graph: &[Row<u32>]) -> Result<Found, NoMemory>
     requires graph { IsGraph graph.now }
     requires small { length graph.now ≤ 2 ^ 32 }
     ensures { IfOk result (λ found. RanksOrWalk graph.now found) }

@@ -3,8 +3,9 @@ ghost use Rattle.std.specs.Prelude.{◌≡◌, ℕ, ◌≤◌, ◌<◌, [], leng
 ghost use Rattle.digraph.specs.Graph.{IsGraph, reads_of};
 ghost use Rattle.digraph.specs.Search.{Searches, IsStuck, IsOpened, IsClosed};
 
+use crate::Row;
 use crate::walk::place_of;
-use mx_base::{List, NoMemory};
+use mx_base::NoMemory;
 
 /// A search in progress.
 #[derive(Drop)]
@@ -22,7 +23,7 @@ pub struct Search {
 }
 
 /// Gives a node and all that it reads their places, or finds where on the path a closed walk begins.
-pub fn visit(graph: &[List<u32>], search: &mut Search, node: u32) -> Result<Option<usize>, NoMemory>
+pub fn visit(graph: &[Row<u32>], search: &mut Search, node: u32) -> Result<Option<usize>, NoMemory>
     requires graph { IsGraph graph.now }
     requires searches { Searches graph.now search.old.rank.items search.old.fresh.items search.old.path.items search.old.next.items search.old.order.items }
     requires empty { search.old.path.items ≡ [] }
@@ -43,7 +44,7 @@ pub fn visit(graph: &[List<u32>], search: &mut Search, node: u32) -> Result<Opti
             close(search, node)?;
         } else {
             search.next[top] = at;
-            let waiting = reads[at];
+            let waiting = read_at(reads, at);
             if search.fresh[waiting as usize] {
                 open(search, waiting)?;
             } else {
@@ -78,7 +79,7 @@ fn close(search: &mut Search, node: u32) -> Result<(), NoMemory>
 }
 
 /// The first of these reads, from a place on, that has no rank.
-fn first_waiting(reads: &[u32], rank: &[usize], from: usize) -> usize
+fn first_waiting(reads: &Row<u32>, rank: &[usize], from: usize) -> usize
     requires within { (i : ℕ) → i < length reads.now → slice_index reads.now i < length rank.now }
     requires from { from ≤ length reads.now }
     ensures within { result ≤ length reads.now }
@@ -87,16 +88,24 @@ fn first_waiting(reads: &[u32], rank: &[usize], from: usize) -> usize
     ensures waiting { result < length reads.now → slice_index rank.now (slice_index reads.now result) ≡ 0 }
 {
     let mut at = from;
-    while at < reads.len() && rank[reads[at] as usize] > 0 {
+    while at < reads.len() && rank[read_at(reads, at) as usize] > 0 {
         at += 1;
     }
     at
 }
 
 /// The nodes that a node reads.
-pub fn reads_at(graph: &[List<u32>], node: u32) -> &[u32]
+pub fn reads_at(graph: &[Row<u32>], node: u32) -> &Row<u32>
     requires node { node < length graph.now }
     ensures { result.now ≡ reads_of graph.now node }
 {
-    graph[node as usize].as_slice()
+    &graph[node as usize]
+}
+
+/// The node at a place among those that a node reads.
+pub fn read_at(reads: &Row<u32>, place: usize) -> u32
+    requires { place < length reads.now }
+    ensures { result ≡ slice_index reads.now place }
+{
+    reads.at(place)
 }

@@ -2,16 +2,15 @@
 use Rattle.std.proofs.Common.{◌≡◌, ℕ, zero, suc, ◌+◌, ◌<◌, ◌≤◌, ◌^◌, List, [], ◌∷◌, ◌++◌, length, set, get_or, Some, refl, sym, ◌∙◌, ap, subst, arith, ◌⊎◌, inl, inr, ⊎_elim}
 use Rattle.std.specs.Prelude.{slice_get}
 use Rattle.std.proofs.lemmas.Bool.{cases_lt, cases_eq}
-use Rattle.std.proofs.lemmas.List.{length-set}
+use Rattle.std.proofs.lemmas.List.{length-set, length_push}
 use Rattle.std.proofs.lemmas.Option.{slice_get_within, slice_get-get_or, get_or_from_slice_get}
 use Rattle.std.proofs.Math.ListN.{get_or-eq_default}
 use Rattle.rtl_ir.specs.declared.design.Module.{Module}
 use Rattle.rtl_ir.specs.declared.design.Assign.{Assign}
 use Rattle.rtl_ir.specs.declared.design.Instance.{Instance}
-use Rattle.rtl_check.specs.declared.paths.PortPath.{PortPath}
 use Rattle.rtl_ir.specs.Operands.{reads}
-use Rattle.rtl_check.specs.Paths.{Adds, IsSmall, IsAssigned, IsPassed, IsParted}
-use Rattle.rtl_check.proofs.Places.{at_set, beside_set, in_front, in_back, joined_at, some_is}
+use Rattle.rtl_check.specs.Paths.{AreJoined, Adds, IsSmall, IsAssigned, IsPassed, IsParted}
+use Rattle.rtl_check.proofs.Places.{at_set, beside_set, in_front, in_back, at_seam, pushed_at, joined_at, some_is}
 use Rattle.digraph.specs.Graph.{Reads}
 
 -- an edge, by the items of the lists
@@ -144,33 +143,64 @@ steps_assign m j x at =
 pub none_assigned : (m : Module) (a b : ℕ) → IsAssigned m 0 a b → ⊥
 none_assigned m a b e = omega (arith, e.2)
 
--- one more path
-pub steps_path : (i : Instance) (paths : List PortPath) (n from to : ℕ) (x : PortPath) → slice_get paths n ≡ Some x → slice_get i.nets x.input ≡ Some from → slice_get i.nets x.output ≡ Some to → Steps (IsPassed i paths n) (IsPassed i paths (n + 1)) to (from ∷ [])
-steps_path i paths n from to x at in_at out_at =
+-- the nets of one port more
+pub joined_more : (i : Instance) (ports nets : List ℕ) (count p x : ℕ) → slice_get ports count ≡ Some p → slice_get i.nets p ≡ Some x → x < 2 ^ 32 → AreJoined i ports count nets → AreJoined i ports (count + 1) (nets ++ x ∷ [])
+joined_more i ports nets count p x at joins small h =
     record {
-      kept = λ a b e. (e.0, e.1, omega (arith, e.2), e.3, e.4, e.5);
-      new = new;
-      only = λ a b f. by_place a b f (cases_lt f.0 n);
+      size = length_push nets x ∙ ap (λ (k : ℕ). k + 1) h.size;
+      small = λ n a is. ⊎_elim (λ old. h.small n a old) (λ new. last n a (λ (y : ℕ). y < 2 ^ 32) small new) (pushed_at nets n x a is);
+      sound = λ n a is. ⊎_elim (λ old. h.sound n a old) (λ new. (p, ap (slice_get ports) (new.0 ∙ h.size) ∙ at, joins ∙ ap (λ (y : ℕ). Some y) new.1)) (pushed_at nets n x a is);
+      whole = λ n q a lt q_at is. by_place n q a q_at is lt (cases_lt n count);
     }
   where
-    new : (k a : ℕ) → slice_get (from ∷ []) k ≡ Some a → IsPassed i paths (n + 1) a to
-    new zero a is = (n, x, omega arith, at, in_at ∙ is, out_at)
-    new (suc k) a is = absurd (cc)
+    last : (n a : ℕ) → (P : ℕ → Type 0) → P x → (n ≡ length nets) × (x ≡ a) → P a
+    last n a P px e = subst P e.1 px
 
-    by_place : (a b : ℕ) → (f : IsPassed i paths (n + 1) a b) → (f.0 < n) ⊎ (n ≤ f.0) → IsPassed i paths n a b ⊎ ((b ≡ to) × ((k : ℕ) × (slice_get (from ∷ []) k ≡ Some a)))
-    by_place a b f (inl lt) = inl (f.0, f.1, lt, f.3, f.4, f.5)
+    by_place : (n q a : ℕ) → slice_get ports n ≡ Some q → slice_get i.nets q ≡ Some a → n < count + 1 → (n < count) ⊎ (count ≤ n) → slice_get (nets ++ x ∷ []) n ≡ Some a
+    by_place n q a q_at is lt (inl less) = in_front nets (x ∷ []) n a (h.whole n q a less q_at is)
+    by_place n q a q_at is lt (inr ge) =
+        let e : n ≡ count = omega arith in
+        let same : q ≡ p = some_is (sym q_at ∙ ap (slice_get ports) e ∙ at) in
+        let value : x ≡ a = some_is (sym joins ∙ ap (slice_get i.nets) (sym same) ∙ is) in
+        ap (slice_get (nets ++ x ∷ [])) (e ∙ sym h.size) ∙ at_seam nets x [] ∙ ap (λ (y : ℕ). Some y) value
+
+pub none_joined : (i : Instance) (ports : List ℕ) → AreJoined i ports 0 []
+none_joined i ports = record { size = refl; small = λ n a is. absurd (cc); sound = λ n a is. absurd (cc); whole = λ n p a lt at is. absurd (omega (arith, lt)) }
+
+-- one more port, with all paths to it
+pub steps_row : (i : Instance) (table : List (List ℕ)) (n to : ℕ) (row nets : List ℕ) → slice_get table n ≡ Some row → slice_get i.nets n ≡ Some to → AreJoined i row (length row) nets → Steps (IsPassed i table n) (IsPassed i table (n + 1)) to nets
+steps_row i table n to row nets at out_at h =
+    record {
+      kept = λ a b e. (e.0, omega (arith, e.1), e.2, e.3, e.4);
+      new = λ k a is. let w = h.sound k a is in (record { input = w.0; output = n }, omega arith, (row, k, at, w.1), w.2, out_at);
+      only = λ a b f. by_place a b f (cases_lt f.0.output n);
+    }
+  where
+    by_place : (a b : ℕ) → (f : IsPassed i table (n + 1) a b) → (f.0.output < n) ⊎ (n ≤ f.0.output) → IsPassed i table n a b ⊎ ((b ≡ to) × ((k : ℕ) × (slice_get nets k ≡ Some a)))
+    by_place a b f (inl lt) = inl (f.0, lt, f.2, f.3, f.4)
     by_place a b f (inr ge) =
-        let q : f.0 ≡ n = omega (arith, f.2) in
-        let p : f.1 ≡ x = some_is (sym f.3 ∙ ap (slice_get paths) q ∙ at) in
-        let r : slice_get i.nets f.1.input ≡ slice_get i.nets x.input = ap (λ (y : PortPath). slice_get i.nets y.input) p in
-        let s : slice_get i.nets f.1.output ≡ slice_get i.nets x.output = ap (λ (y : PortPath). slice_get i.nets y.output) p in
-        inr (some_is (sym f.5 ∙ s ∙ out_at), (0, sym in_at ∙ sym r ∙ f.4))
+        let q : f.0.output ≡ n = omega (arith, f.1) in
+        let p : f.2.0 ≡ row = some_is (sym f.2.2 ∙ ap (slice_get table) q ∙ at) in
+        let r : slice_get row f.2.1 ≡ Some f.0.input = ap (λ (l : List ℕ). slice_get l f.2.1) (sym p) ∙ f.2.3 in
+        inr (some_is (sym f.4 ∙ ap (slice_get i.nets) q ∙ out_at), (f.2.1, h.whole f.2.1 f.0.input a (slice_get_within row f.2.1 f.0.input r) r f.3))
 
-pub none_passed : (i : Instance) (paths : List PortPath) (a b : ℕ) → IsPassed i paths 0 a b → ⊥
-none_passed i paths a b e = omega (arith, e.2)
+pub none_passed : (i : Instance) (table : List (List ℕ)) (a b : ℕ) → IsPassed i table 0 a b → ⊥
+none_passed i table a b e = omega (arith, e.1)
+
+-- a port without a path to it
+pub passed_same : (i : Instance) (table : List (List ℕ)) (n : ℕ) (row : List ℕ) (start g : List (List ℕ)) → slice_get table n ≡ Some row → length row ≡ 0 → Adds (IsPassed i table n) start g → Adds (IsPassed i table (n + 1)) start g
+passed_same i table n row start g at none h =
+    adds_same (IsPassed i table n) (IsPassed i table (n + 1)) start g (λ a b e. (e.0, omega (arith, e.1), e.2, e.3, e.4)) (λ a b f. (f.0, by_place a b f (cases_lt f.0.output n), f.2, f.3, f.4)) h
+  where
+    by_place : (a b : ℕ) → (f : IsPassed i table (n + 1) a b) → (f.0.output < n) ⊎ (n ≤ f.0.output) → f.0.output < n
+    by_place a b f (inl lt) = lt
+    by_place a b f (inr ge) =
+        let q : f.0.output ≡ n = omega (arith, f.1) in
+        let p : f.2.0 ≡ row = some_is (sym f.2.2 ∙ ap (slice_get table) q ∙ at) in
+        absurd (omega (arith, slice_get_within f.2.0 f.2.1 f.0.input f.2.3, ap length p, none))
 
 -- one more instance
-pub parted_more : (m : Module) (tables : List (List PortPath)) (k : ℕ) (i : Instance) (paths : List PortPath) (start mid new : List (List ℕ)) → slice_get m.instances k ≡ Some i → slice_get tables i.module ≡ Some paths → Adds (IsParted m tables k) start mid → Adds (IsPassed i paths (length paths)) mid new → Adds (IsParted m tables (k + 1)) start new
+pub parted_more : (m : Module) (tables : List (List (List ℕ))) (k : ℕ) (i : Instance) (paths : List (List ℕ)) (start mid new : List (List ℕ)) → slice_get m.instances k ≡ Some i → slice_get tables i.module ≡ Some paths → Adds (IsParted m tables k) start mid → Adds (IsPassed i paths (length paths)) mid new → Adds (IsParted m tables (k + 1)) start new
 parted_more m tables k i paths start mid new at table h g =
     adds_both (IsParted m tables k) (IsPassed i paths (length paths)) (IsParted m tables (k + 1)) start mid new
     (λ a b e. (e.0, e.1, e.2, omega (arith, e.3), e.4, e.5, e.6))
@@ -184,9 +214,9 @@ parted_more m tables k i paths start mid new at table h g =
         let q : p.0 ≡ k = omega (arith, p.3) in
         let r : p.1 ≡ i = some_is (sym p.4 ∙ ap (slice_get m.instances) q ∙ at) in
         let t : p.2 ≡ paths = some_is (sym p.5 ∙ ap (λ (y : Instance). slice_get tables y.module) r ∙ table) in
-        inr (subst (λ (y : Instance). IsPassed y paths (length paths) a b) r (subst (λ (ys : List PortPath). IsPassed p.1 ys (length ys) a b) t p.6))
+        inr (subst (λ (y : Instance). IsPassed y paths (length paths) a b) r (subst (λ (ys : List (List ℕ)). IsPassed p.1 ys (length ys) a b) t p.6))
 
-pub none_parted : (m : Module) (tables : List (List PortPath)) (a b : ℕ) → IsParted m tables 0 a b → ⊥
+pub none_parted : (m : Module) (tables : List (List (List ℕ))) (a b : ℕ) → IsParted m tables 0 a b → ⊥
 none_parted m tables a b e = omega (arith, e.3)
 
 -- a graph of empty lists

@@ -5,10 +5,9 @@ use Rattle.std.proofs.lemmas.Option.{get_or_from_slice_get, slice_get_within}
 use Rattle.rtl_ir.specs.declared.design.Design.{Design}
 use Rattle.rtl_ir.specs.declared.design.Module.{Module}
 use Rattle.rtl_ir.specs.declared.design.Instance.{Instance}
-use Rattle.rtl_check.specs.declared.paths.PortPath.{PortPath}
 use Rattle.rtl_ir.specs.Rules.{Connection, Feeds, by_assign, by_part, Way, stay, step, IsLevelled}
 use Rattle.rtl_ir.specs.Faults.{IsCombLoop}
-use Rattle.rtl_check.specs.Paths.{IsGraphOf, IsAssigned, IsParted, IsPath, ArePaths, ArePathsOf, IsInRange, HasEdges}
+use Rattle.rtl_check.specs.Paths.{PortPath, HasPath, IsGraphOf, IsAssigned, IsParted, IsPath, ArePaths, ArePathsOf, IsInRange, HasEdges}
 use Rattle.rtl_check.specs.Checked.{IsPart}
 use Rattle.rtl_check.proofs.Places.{some_is}
 use Rattle.rtl_check.proofs.Parted.{inner_is}
@@ -16,13 +15,13 @@ use Rattle.rtl_check.proofs.Marked.{item_of}
 use Rattle.rtl_check.proofs.Edges.{edge_from}
 use Rattle.digraph.specs.Graph.{Reads, IsGraph, IsRanked, IsClosedWalk, IsLeastFirst, Reaches, begin, on}
 
-pub is_graph : (m : Module) (tables : List (List PortPath)) (g : List (List ℕ)) → IsInRange m tables → HasEdges m tables g → IsGraph g
+pub is_graph : (m : Module) (tables : List (List (List ℕ))) (g : List (List ℕ)) → IsInRange m tables → HasEdges m tables g → IsGraph g
 is_graph m tables g r h b i lt =
     let a = get_or (get_or g b []) i 0 in
     let e : Reads g b a = (i, lt, refl) in
-    omega (arith, h.size, h.small a b e, ⊎_elim (λ (x : IsAssigned m (length m.assigns) a b). r.reads x.0 a x.1 x.3 x.4) (λ (x : IsParted m tables (length m.instances) a b). r.nets x.0 x.6.1.input a x.1 x.4 x.6.4) (h.only a b e))
+    omega (arith, h.size, h.small a b e, ⊎_elim (λ (x : IsAssigned m (length m.assigns) a b). r.reads x.0 a x.1 x.3 x.4) (λ (x : IsParted m tables (length m.instances) a b). r.nets x.0 x.6.0.input a x.1 x.4 x.6.3) (h.only a b e))
 
-pub graph_of : (d : Design) (m : Module) (tables : List (List PortPath)) (g : List (List ℕ)) → IsPart m tables d → HasEdges m tables g → IsGraphOf d m g
+pub graph_of : (d : Design) (m : Module) (tables : List (List (List ℕ))) (g : List (List ℕ)) → IsPart m tables d → HasEdges m tables g → IsGraphOf d m g
 graph_of d m tables g part h = record { fed = λ a b e. ⊎_elim (assigned a b) (parted a b) (h.only a b e); reads = λ a b f. reads a b f }
   where
     assigned : (a b : ℕ) → IsAssigned m (length m.assigns) a b → Feeds d m a b
@@ -34,10 +33,10 @@ graph_of d m tables g part h = record { fed = λ a b e. ⊎_elim (assigned a b) 
         let inner = item_of d.modules i.module ((part.0.instances x.0 i x.4).is_earlier) in
         let table = part.1 x.0 i inner.0 x.4 inner.1 in
         let same : x.2 ≡ table.0 = some_is (sym x.5 ∙ table.1) in
-        let n = x.6.0 in let p = x.6.1 in
-        let path = table.2.sound n p (ap (λ (l : List PortPath). slice_get l n) (sym same) ∙ x.6.3) in
-        let c : Connection d m x.0 p.input = record { part = i; of = x.4; inner = inner.0; is = inner.1; port = path.input; at = path.input_at; net = a; joins = x.6.4 } in
-        let e : Connection d m x.0 p.output = record { part = i; of = x.4; inner = inner.0; is = inner.1; port = path.output; at = path.output_at; net = b; joins = x.6.5 } in
+        let p = x.6.0 in
+        let path = table.2.sound p (subst (λ (l : List (List ℕ)). HasPath l p) same x.6.2) in
+        let c : Connection d m x.0 p.input = record { part = i; of = x.4; inner = inner.0; is = inner.1; port = path.input; at = path.input_at; net = a; joins = x.6.3 } in
+        let e : Connection d m x.0 p.output = record { part = i; of = x.4; inner = inner.0; is = inner.1; port = path.output; at = path.output_at; net = b; joins = x.6.4 } in
         by_part x.0 p.input p.output c e path.is_input path.is_output path.leads
 
     passes : (k j l : ℕ) (c : Connection d m k j) (e : Connection d m k l) → c.port.output ≡ false → e.port.output ≡ true → Way d e.inner c.port.net e.port.net → IsParted m tables (length m.instances) c.net e.net
@@ -50,7 +49,7 @@ graph_of d m tables g part h = record { fed = λ a b e. ⊎_elim (assigned a b) 
         let x : PortPath = record { input = j; output = l } in
         let path : IsPath (Way d c.inner) c.inner x = record { input = c.port; input_at = c.at; is_input = is_in; output = e.port; output_at = at; is_output = is_out; leads = subst (λ (y : Module). Way d y c.port.net e.port.net) w.1 way } in
         let found = table.2.whole x tt path in
-        (k, i, table.0, slice_get_within m.instances k i c.of, c.of, table.1, (found.0, x, slice_get_within table.0 found.0 x found.1, found.1, c.joins, joins))
+        (k, i, table.0, slice_get_within m.instances k i c.of, c.of, table.1, (x, slice_get_within table.0 l found.0 found.2, found, c.joins, joins))
 
     reads : (a b : ℕ) → Feeds d m a b → Reads g b a
     reads a b (by_assign j n x at r) = h.added a b (inl (j, x, slice_get_within m.assigns j x at, at, r, refl))
@@ -99,9 +98,9 @@ pub reaches : (d : Design) (m : Module) (g : List (List ℕ)) → IsGraphOf d m 
 reaches d m g h a b w = goes_on h w begin
 
 -- paths of the graph are those of the module
-pub paths_of : (d : Design) (m : Module) (g : List (List ℕ)) (paths : List PortPath) → IsGraphOf d m g → ArePaths (Reaches g) m (λ i o. Unit {0}) paths → ArePathsOf d m paths
+pub paths_of : (d : Design) (m : Module) (g : List (List ℕ)) (paths : List (List ℕ)) → IsGraphOf d m g → ArePaths (Reaches g) m (λ i o. Unit {0}) paths → ArePathsOf d m paths
 paths_of d m g paths h p =
     record {
-      sound = λ n x at. let q = p.sound n x at in record { input = q.input; input_at = q.input_at; is_input = q.is_input; output = q.output; output_at = q.output_at; is_output = q.is_output; leads = way d m g h q.input.net q.output.net q.leads };
+      sound = λ x at. let q = p.sound x at in record { input = q.input; input_at = q.input_at; is_input = q.is_input; output = q.output; output_at = q.output_at; is_output = q.is_output; leads = way d m g h q.input.net q.output.net q.leads };
       whole = λ x t q. p.whole x tt (record { input = q.input; input_at = q.input_at; is_input = q.is_input; output = q.output; output_at = q.output_at; is_output = q.is_output; leads = reaches d m g h q.input.net q.output.net q.leads });
     }

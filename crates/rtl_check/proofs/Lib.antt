@@ -9,3 +9,4 @@ pub mod Pathed
 pub mod OfKind
 pub mod Graphs
 pub mod Sound
+mod Picked

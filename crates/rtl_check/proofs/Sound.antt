@@ -7,7 +7,6 @@ use Rattle.std.proofs.lemmas.Option.{slice_get_within, slice_get-get_or, get_or_
 use Rattle.rtl_ir.specs.declared.design.Design.{Design}
 use Rattle.rtl_ir.specs.declared.design.Module.{Module}
 use Rattle.rtl_ir.specs.declared.design.Instance.{Instance}
-use Rattle.rtl_check.specs.declared.paths.PortPath.{PortPath}
 use Rattle.rtl_ir.specs.declared.error.RtlError.{RtlError}
 use Rattle.rtl_ir.specs.declared.error.RtlError.TheVariants.{Unknown, Width, TwoDrivers, CombLoop, NoDriver, SameName, NoMemory}
 use Rattle.rtl_ir.specs.Value.{is_reg}
@@ -17,7 +16,7 @@ use Rattle.rtl_ir.specs.Rules.{AllDiffer, names_of, HasDrivers, HasUpdates, HasW
 use Rattle.rtl_check.specs.FirstFault
 use Rattle.rtl_ir.specs.Faults.{Source, Wired, Updated, Gives, May, HasTwo, IsWrittenTwice}
 use Rattle.rtl_check.specs.FirstFault.{Lacks, IsNamedAgain, IsSameName, IsTwoDrivers, IsNoDriver, IsWidth, of_module, of_part, of_mem, of_assign, of_update, of_port, IsLoopOf, NoName, IsFaultOf, IsFirstFault}
-use Rattle.rtl_check.specs.Paths.{IsInRange, ArePathsOf}
+use Rattle.rtl_check.specs.Paths.{HasPath, IsInRange, ArePathsOf}
 use Rattle.rtl_check.specs.Checked.{IsPartFault, HasNoTwo, KeepsRules, IsPart}
 use Rattle.rtl_ir.proofs.Loops.{levelled_free}
 use Rattle.rtl_check.proofs.Again.{none_again, all_differ}
@@ -129,7 +128,7 @@ pub earlier_at : (d : Design) → IsFormed d.modules → (number : ℕ) (m : Mod
 earlier_at d f number m at k i is = omega (arith, ((f.each number m at).instances k i is).is_earlier, length-take number d.modules)
 
 -- what a module names is there
-pub in_range : (d : Design) (m : Module) (tables : List (List PortPath)) → IsPart m tables d → ((k : ℕ) (i : Instance) → slice_get m.instances k ≡ Some i → i.module < length tables) → IsInRange m tables
+pub in_range : (d : Design) (m : Module) (tables : List (List (List ℕ))) → IsPart m tables d → ((k : ℕ) (i : Instance) → slice_get m.instances k ≡ Some i → i.module < length tables) → IsInRange m tables
 in_range d m tables part earlier =
     let f = part.0 in
     record {
@@ -139,11 +138,11 @@ in_range d m tables part earlier =
       apart = f.apart;
       earlier = earlier;
       nets = λ k j n i at is. (f.instances k i at).nets j n is;
-      paths = λ k n i paths x at table is.
+      paths = λ k i paths x at table is.
           let inner = item_of d.modules i.module ((f.instances k i at).is_earlier) in
           let found = part.1 k i inner.0 at inner.1 in
           let same : paths ≡ found.0 = some_is (sym table ∙ found.1) in
-          let path = found.2.sound n x (ap (λ (l : List PortPath). slice_get l n) (sym same) ∙ is) in
+          let path = found.2.sound x (subst (λ (l : List (List ℕ)). HasPath l x) same is) in
           let size = (f.instances k i at).ports inner.0 inner.1 in
           (omega (arith, size, slice_get_within inner.0.ports x.input path.input path.input_at), omega (arith, size, slice_get_within inner.0.ports x.output path.output path.output_at));
     }
@@ -171,7 +170,7 @@ named_fault d again number m name b a is = first_fault d again number m (SameNam
 pub part_error : (d : Design) (again number : ℕ) (m : Module) (e : RtlError) → Before d again number m → (IsNamedAgain d number → ⊥) → (e ≡ NoMemory) ⊎ IsPartFault d m e → (e ≡ NoMemory) ⊎ IsFirstFault d e
 part_error d again number m e b fresh h = ⊎_elim (λ n. inl n) (λ f. inr (first_fault d again number m e b (part_fault d number m e fresh f))) h
 
-pub loop_error : (d : Design) (again number : ℕ) (m : Module) (tables : List (List PortPath)) (e : RtlError) → Before d again number m → (IsNamedAgain d number → ⊥) → KeepsRules d m → IsPart m tables d → (e ≡ NoMemory) ⊎ ((names : List (List ℕ)) × (e ≡ CombLoop names) × ((x : Design) → IsPart m tables x → IsLoopOf x m names)) → (e ≡ NoMemory) ⊎ IsFirstFault d e
+pub loop_error : (d : Design) (again number : ℕ) (m : Module) (tables : List (List (List ℕ))) (e : RtlError) → Before d again number m → (IsNamedAgain d number → ⊥) → KeepsRules d m → IsPart m tables d → (e ≡ NoMemory) ⊎ ((names : List (List ℕ)) × (e ≡ CombLoop names) × ((x : Design) → IsPart m tables x → IsLoopOf x m names)) → (e ≡ NoMemory) ⊎ IsFirstFault d e
 loop_error d again number m tables e b fresh keeps part h =
     ⊎_elim (λ n. inl n) (λ (w : (names : List (List ℕ)) × (e ≡ CombLoop names) × ((x : Design) → IsPart m tables x → IsLoopOf x m names)). inr (first_fault d again number m e b (subst (IsFaultOf d number m) (sym w.1) (loop_fault d number m w.0 fresh keeps (w.2 d part))))) h
 
@@ -179,10 +178,10 @@ pub accepted_error : (d : Design) → IsAccepted d → (e : RtlError) → (e ≡
 accepted_error d h e f = ⊎_elim (λ n. n) (λ g. absurd (accepted_free d h e g)) f
 
 -- the paths of the modules before one that others have instances of
-abbrev pub HasPaths : Design → List Bool → List (List PortPath) → ℕ → Type 0
+abbrev pub HasPaths : Design → List Bool → List (List (List ℕ)) → ℕ → Type 0
 HasPaths d wanted tables number =
     (k : ℕ) (m : Module) → k < number → slice_get d.modules k ≡ Some m → slice_get wanted k ≡ Some true
-    → (paths : List PortPath) × (slice_get tables k ≡ Some paths) × ArePathsOf d m paths
+    → (paths : List (List ℕ)) × (slice_get tables k ≡ Some paths) × ArePathsOf d m paths
 
 abbrev pub AreWanted : Design → List Bool → Type 0
 AreWanted d wanted =
@@ -191,17 +190,17 @@ AreWanted d wanted =
     → slice_get m.instances k ≡ Some i
     → slice_get wanted i.module ≡ Some true
 
-pub part_at : (d : Design) (number : ℕ) (m : Module) (wanted : List Bool) (tables : List (List PortPath)) → IsFormed d.modules → slice_get d.modules number ≡ Some m → AreWanted d wanted → HasPaths d wanted tables number → IsPart m tables d
+pub part_at : (d : Design) (number : ℕ) (m : Module) (wanted : List Bool) (tables : List (List (List ℕ))) → IsFormed d.modules → slice_get d.modules number ≡ Some m → AreWanted d wanted → HasPaths d wanted tables number → IsPart m tables d
 part_at d number m wanted tables f at marked paths =
     (formed_at d f number m at, λ k i inner at_i at_inner. paths i.module inner (earlier_at d f number m at k i at_i) at_inner (marked number k m i at at_i))
 
-pub range_at : (d : Design) (number : ℕ) (m : Module) (tables : List (List PortPath)) → IsFormed d.modules → slice_get d.modules number ≡ Some m → length tables ≡ number → IsPart m tables d → IsInRange m tables
+pub range_at : (d : Design) (number : ℕ) (m : Module) (tables : List (List (List ℕ))) → IsFormed d.modules → slice_get d.modules number ≡ Some m → length tables ≡ number → IsPart m tables d → IsInRange m tables
 range_at d number m tables f at count part = in_range d m tables part (λ k i at_i. omega (arith, count, earlier_at d f number m at k i at_i))
 
-pub tables_more : (d : Design) (wanted : List Bool) (tables : List (List PortPath)) (number : ℕ) (m : Module) (new : List PortPath) → slice_get d.modules number ≡ Some m → length tables ≡ number → (slice_get wanted number ≡ Some true → ArePathsOf d m new) → HasPaths d wanted tables number → HasPaths d wanted (tables ++ new ∷ []) (number + 1)
+pub tables_more : (d : Design) (wanted : List Bool) (tables : List (List (List ℕ))) (number : ℕ) (m : Module) (new : List (List ℕ)) → slice_get d.modules number ≡ Some m → length tables ≡ number → (slice_get wanted number ≡ Some true → ArePathsOf d m new) → HasPaths d wanted tables number → HasPaths d wanted (tables ++ new ∷ []) (number + 1)
 tables_more d wanted tables number m new at count here before k x lt is marked = by_place (cases_lt k number)
   where
-    by_place : (k < number) ⊎ (number ≤ k) → (paths : List PortPath) × (slice_get (tables ++ new ∷ []) k ≡ Some paths) × ArePathsOf d x paths
+    by_place : (k < number) ⊎ (number ≤ k) → (paths : List (List ℕ)) × (slice_get (tables ++ new ∷ []) k ≡ Some paths) × ArePathsOf d x paths
     by_place (inl less) = let w = before k x less is marked in (w.0, in_front tables (new ∷ []) k w.0 w.1, w.2)
     by_place (inr ge) =
         let e : k ≡ number = omega arith in

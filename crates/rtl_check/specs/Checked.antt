@@ -4,7 +4,6 @@ use Rattle.rtl_ir.specs.declared.design.Design.{Design}
 use Rattle.rtl_ir.specs.declared.design.Module.{Module}
 use Rattle.rtl_ir.specs.declared.design.Instance.{Instance}
 use Rattle.rtl_check.specs.declared.drivers.Drivers.{Drivers}
-use Rattle.rtl_check.specs.declared.paths.PortPath.{PortPath}
 use Rattle.rtl_ir.specs.declared.error.RtlError.{RtlError}
 use Rattle.rtl_ir.specs.declared.error.RtlError.TheVariants.{Unknown, Width, TwoDrivers, CombLoop, NoDriver, SameName, NoMemory}
 use Rattle.rtl_ir.specs.Formed.{IsFormedModule}
@@ -48,13 +47,13 @@ pub record KeepsRules (d : Design) (m : Module) : Type 0 where
   pub widths : HasWidths d m
 
 -- the paths of each module of which this one has an instance
-abbrev pub AreTables : Design → Module → List (List PortPath) → Type 0
+abbrev pub AreTables : Design → Module → List (List (List ℕ)) → Type 0
 AreTables d m tables =
     (k : ℕ) (i : Instance) (inner : Module)
     → slice_get m.instances k ≡ Some i
     → slice_get d.modules i.module ≡ Some inner
-    → (paths : List PortPath) × (slice_get tables i.module ≡ Some paths) × ArePathsOf d inner paths
+    → (paths : List (List ℕ)) × (slice_get tables i.module ≡ Some paths) × ArePathsOf d inner paths
 
 -- a module of some design, and the paths of the modules of its instances
-abbrev pub IsPart : Module → List (List PortPath) → Design → Type 0
+abbrev pub IsPart : Module → List (List (List ℕ)) → Design → Type 0
 IsPart m tables d = IsFormedModule d.modules m × AreTables d m tables

@@ -2,3 +2,6 @@ pub mod Fed
 pub mod Paths
 pub mod FirstFault
 pub mod Checked
+pub mod Lines
+pub mod Picked
+pub mod Inputs

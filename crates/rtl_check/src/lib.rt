@@ -2,11 +2,14 @@
 #![tactic(auto)]
 
 mod drivers;
+mod inputs;
 mod loops;
+mod many_inputs;
 mod module;
 mod names;
 mod parts;
 mod paths;
+mod refusal;
 mod widths;
 
 ghost use Rattle.std.specs.Prelude.{◌≡◌, ◌⊎◌, ℕ, IfErr, OnOk};
@@ -19,6 +22,7 @@ use module::test_parts;
 use mx_base::List;
 use names::module_again;
 use parts::instanced;
+pub use refusal::line_of;
 use rtl_ir::{Design, RtlError};
 use std::alloc::Global;
 
@@ -28,8 +32,9 @@ use std::alloc::Global;
 ///
 /// The error is the first fault of the first module that has one, by kinds in the order
 /// `SameName`, `TwoDrivers`, `NoDriver`, `Width`, `CombLoop`, and within a kind the first name. It
-/// takes time and memory in proportion to the design, beside one search of a module for each of
-/// its outputs where others have instances of it.
+/// takes time and memory in proportion to the design, beside what a module costs that others have
+/// instances of: a search for each of its outputs, and some bits for each pair of an input and an
+/// output.
 pub fn check(alloc: Global, design: &Design) -> Result<(), RtlError>
     requires { IsFormed design.now.modules }
     ensures ok { OnOk result (IsAccepted design.now) }

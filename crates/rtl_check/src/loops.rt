@@ -7,7 +7,7 @@ ghost use Rattle.rtl_check.specs.FirstFault.{IsLoopOf};
 ghost use Rattle.rtl_check.specs.Paths.{IsInRange, ArePathsOf};
 ghost use Rattle.rtl_check.specs.Checked.{IsPart};
 
-use crate::paths::{PortPath, feeding, port_paths};
+use crate::paths::{PathTable, feeding, port_paths};
 use crate::widths::net_name;
 use digraph::{Found, rank};
 use mx_base::{List as Items, NoMemory, Text};
@@ -32,9 +32,9 @@ fn net_names(alloc: Global, module: &Module, nets: &[u32]) -> Result<Items<Text>
 pub fn paths_or_loop(
     alloc: Global,
     module: &Module,
-    tables: &[Items<PortPath>],
+    tables: &[PathTable],
     wanted: bool,
-) -> Result<Items<PortPath>, RtlError>
+) -> Result<PathTable, RtlError>
     requires { IsInRange module.now tables.now }
     ensures levelled { OnOk result ((d : Design) → IsPart module.now tables.now d → IsLevelled d module.now) }
     ensures paths { IfOk result (λ paths. IsTrue wanted → (d : Design) → IsPart module.now tables.now d

@@ -1,26 +1,20 @@
 // What feeds each net of a module, and the ways from its inputs to its outputs.
-ghost use Rattle.std.specs.Prelude.{◌≡◌, ◌<◌, ◌≤◌, ◌+◌, ◌++◌, ◌⊎◌, ◌^◌, ℕ, false, true, List, min, length, slice_get, slice_index, Some, vec_len, IfOk, OnOk};
+ghost use Rattle.std.specs.Prelude.{◌≡◌, ◌<◌, ◌≤◌, ◌++◌, ◌⊎◌, ◌^◌, ℕ, List, min, length, slice_get, slice_index, Some, vec_len, IfOk, OnOk};
 ghost use Rattle.rtl_ir.specs.declared.design.Assign.{Assign};
 ghost use Rattle.rtl_ir.specs.declared.design.Instance.{Instance};
 ghost use Rattle.rtl_ir.specs.declared.design.Port.{Port};
-ghost use Rattle.rtl_check.specs.declared.paths.PortPath.{PortPath};
 ghost use Rattle.rtl_ir.specs.Operands.{reads};
-ghost use Rattle.rtl_check.specs.Paths.{Adds, IsSmall, IsAssigned, IsPassed, IsParted, IsInRange, HasEdges, ArePaths, ArePlaces, ArePortsApart};
+ghost use Rattle.rtl_check.specs.Paths.{PortPath, HasPath, AreJoined, AreAmong, Adds, IsSmall, IsAssigned, IsPassed, IsParted, IsInRange, HasEdges, ArePaths, ArePlaces, ArePortsApart};
 ghost use Rattle.digraph.specs.Graph.{Reads, IsGraph, Reaches};
-ghost use Rattle.digraph.specs.FanIn.{IsFanIn};
-ghost use Rattle.rtl_ir.specs.declared.design.Module.{Module as TheModule};
 
-use digraph::fan_in;
+use crate::inputs::{Inputs, all_nets};
+use digraph::{Row, fan_in};
 use mx_base::{List as Items, NoMemory};
 use rtl_ir::{Expr, Instance, Module};
 use std::alloc::Global;
 
-/// A way from an input of a module to an output, each by its place among the ports.
-#[derive(Clone, Copy, Debug, PartialEq, Eq)]
-pub struct PortPath {
-    pub input: usize,
-    pub output: usize,
-}
+/// For each port of a module, by its place, the inputs from which there is a way to it.
+pub type PathTable = Items<Inputs>;
 
 /// Adds the nets that an expression reads.
 fn push_reads(alloc: Global, nets: &mut Items<u32>, expr: Expr) -> Result<(), NoMemory>
@@ -35,19 +29,19 @@ fn push_reads(alloc: Global, nets: &mut Items<u32>, expr: Expr) -> Result<(), No
 }
 
 /// A graph of so many nodes without an edge.
-fn no_edges(alloc: Global, nodes: usize) -> Result<Vec<Items<u32>>, NoMemory>
+fn no_edges(alloc: Global, nodes: usize) -> Result<Vec<Row<u32>>, NoMemory>
     ensures size { IfOk result (λ graph. vec_len graph ≡ nodes) }
     ensures none { IfOk result (λ graph. (a b : ℕ) → Reads graph.items b a → ⊥) }
 {
     let mut graph = Vec::new(alloc);
     for _ in 0..nodes {
-        graph.push(Items::new(alloc))?;
+        graph.push(Row::own(Items::new(alloc)))?;
     }
     Ok(graph)
 }
 
 /// Adds an edge from each net that an assignment reads to its target.
-fn add_assigns(alloc: Global, module: &Module, graph: &mut [Items<u32>]) -> Result<(), NoMemory>
+fn add_assigns(alloc: Global, module: &Module, graph: &mut [Row<u32>]) -> Result<(), NoMemory>
     requires { (j : ℕ) (a : Assign) → slice_get module.now.assigns j ≡ Some a → a.target < 2 ^ 32
         → a.target < length graph.old }
     ensures added { OnOk result (Adds (IsAssigned module.now (length module.now.assigns)) graph.old graph.new) }
@@ -55,45 +49,52 @@ fn add_assigns(alloc: Global, module: &Module, graph: &mut [Items<u32>]) -> Resu
 {
     for place in 0..module.assigns.len() {
         let assign = module.assigns.at(place);
+        let mut reads = Items::new(alloc);
+        push_reads(alloc, &mut reads, assign.expr)?;
         let number = assign.target.index();
-        push_reads(alloc, &mut graph[number], assign.expr)?;
+        graph[number].join(alloc, Row::own(reads))?;
     }
     Ok(())
 }
 
 /// Adds an edge for each path of an instance's module.
 fn add_paths(
+    alloc: Global,
     instance: &Instance,
-    paths: &[PortPath],
-    graph: &mut [Items<u32>],
+    table: &[Inputs],
+    graph: &mut [Row<u32>],
 ) -> Result<(), NoMemory>
-    requires inputs { (n : ℕ) (x : PortPath) → slice_get paths.now n ≡ Some x → x.input < length instance.now.nets }
-    requires outputs { (n : ℕ) (x : PortPath) → slice_get paths.now n ≡ Some x → x.output < length instance.now.nets }
+    requires inputs { (x : PortPath) → HasPath table.now x → x.input < length instance.now.nets }
+    requires outputs { (x : PortPath) → HasPath table.now x → x.output < length instance.now.nets }
     requires nets { (j n : ℕ) → slice_get instance.now.nets j ≡ Some n → n < 2 ^ 32 → n < length graph.old }
-    ensures added { OnOk result (Adds (IsPassed instance.now paths.now (length paths.now)) graph.old graph.new) }
+    ensures added { OnOk result (Adds (IsPassed instance.now table.now (length table.now)) graph.old graph.new) }
     ensures small { OnOk result (IsSmall graph.old → IsSmall graph.new) }
 {
-    for place in 0..paths.len() {
-        let path = paths[place];
-        let from = *instance.nets.at(path.input);
-        let to = *instance.nets.at(path.output);
-        let number = to.index();
-        graph[number].push(from.index() as u32)?;
+    let nets = all_nets(alloc, instance)?;
+    for output in 0..table.len() {
+        let inputs = &table[output];
+        if inputs.len() == 0 {
+            continue;
+        }
+        let joined = inputs.joined(alloc, instance, &nets)?;
+        let number = instance.nets.at(output).index();
+        graph[number].join(alloc, joined)?;
     }
     Ok(())
 }
 
 /// Adds an edge for each path of each instance's module.
 fn add_instances(
+    alloc: Global,
     module: &Module,
-    tables: &[Items<PortPath>],
-    graph: &mut [Items<u32>],
+    tables: &[PathTable],
+    graph: &mut [Row<u32>],
 ) -> Result<(), NoMemory>
     requires earlier { (k : ℕ) (i : Instance) → slice_get module.now.instances k ≡ Some i
         → i.module < length tables.now }
-    requires ports { (k n : ℕ) (i : Instance) (paths : List PortPath) (x : PortPath)
-        → slice_get module.now.instances k ≡ Some i → slice_get tables.now i.module ≡ Some paths
-        → slice_get paths n ≡ Some x → (x.input < length i.nets) × (x.output < length i.nets) }
+    requires ports { (k : ℕ) (i : Instance) (table : List (List ℕ)) (x : PortPath)
+        → slice_get module.now.instances k ≡ Some i → slice_get tables.now i.module ≡ Some table
+        → HasPath table x → (x.input < length i.nets) × (x.output < length i.nets) }
     requires nets { (k j n : ℕ) (i : Instance) → slice_get module.now.instances k ≡ Some i
         → slice_get i.nets j ≡ Some n → n < 2 ^ 32 → n < length graph.old }
     ensures added { OnOk result
@@ -103,8 +104,8 @@ fn add_instances(
     for place in 0..module.instances.len() {
         let instance = module.instances.at(place);
         let number = instance.module.index();
-        let paths = tables[number].as_slice();
-        add_paths(instance, paths, graph)?;
+        let table = tables[number].as_slice();
+        add_paths(alloc, instance, table, graph)?;
     }
     Ok(())
 }
@@ -113,16 +114,16 @@ fn add_instances(
 fn add_edges(
     alloc: Global,
     module: &Module,
-    tables: &[Items<PortPath>],
-    graph: &mut [Items<u32>],
+    tables: &[PathTable],
+    graph: &mut [Row<u32>],
 ) -> Result<(), NoMemory>
     requires assigns { (j : ℕ) (a : Assign) → slice_get module.now.assigns j ≡ Some a → a.target < 2 ^ 32
         → a.target < length graph.old }
     requires earlier { (k : ℕ) (i : Instance) → slice_get module.now.instances k ≡ Some i
         → i.module < length tables.now }
-    requires ports { (k n : ℕ) (i : Instance) (paths : List PortPath) (x : PortPath)
-        → slice_get module.now.instances k ≡ Some i → slice_get tables.now i.module ≡ Some paths
-        → slice_get paths n ≡ Some x → (x.input < length i.nets) × (x.output < length i.nets) }
+    requires ports { (k : ℕ) (i : Instance) (table : List (List ℕ)) (x : PortPath)
+        → slice_get module.now.instances k ≡ Some i → slice_get tables.now i.module ≡ Some table
+        → HasPath table x → (x.input < length i.nets) × (x.output < length i.nets) }
     requires nets { (k j n : ℕ) (i : Instance) → slice_get module.now.instances k ≡ Some i
         → slice_get i.nets j ≡ Some n → n < 2 ^ 32 → n < length graph.old }
     ensures added { OnOk result (Adds (λ a b. IsAssigned module.now (length module.now.assigns) a b
@@ -130,7 +131,7 @@ fn add_edges(
     ensures small { OnOk result (IsSmall graph.old → IsSmall graph.new) }
 {
     add_assigns(alloc, module, graph)?;
-    add_instances(module, tables, graph)?;
+    add_instances(alloc, module, tables, graph)?;
     Ok(())
 }
 
@@ -139,8 +140,8 @@ fn add_edges(
 pub fn feeding(
     alloc: Global,
     module: &Module,
-    tables: &[Items<PortPath>],
-) -> Result<Vec<Items<u32>>, NoMemory>
+    tables: &[PathTable],
+) -> Result<Vec<Row<u32>>, NoMemory>
     requires { IsInRange module.now tables.now }
     ensures { IfOk result (λ graph. HasEdges module.now tables.now graph.items) }
 {
@@ -168,34 +169,27 @@ fn input_places(alloc: Global, module: &Module, nets: usize) -> Result<Vec<Optio
     Ok(places)
 }
 
-/// Adds the paths to an output from the inputs among these nets.
-fn push_inputs(
+/// The places of the inputs among these nets.
+fn inputs_among(
+    alloc: Global,
     places: &[Option<usize>],
     nodes: &[u32],
-    output: usize,
-    paths: &mut Items<PortPath>,
-) -> Result<(), NoMemory>
+) -> Result<Items<usize>, NoMemory>
     requires { (j : ℕ) → j < length nodes.now → slice_index nodes.now j < length places.now }
-    ensures { OnOk result ((m : TheModule) (g : List (List ℕ)) (p : Port) → slice_get m.ports output ≡ Some p
-        → p.output ≡ true → ArePlaces m (length m.ports) places.now → IsFanIn g p.net nodes.now
-        → ArePaths (Reaches g) m (λ i o. o < output) paths.old
-        → ArePaths (Reaches g) m (λ i o. o < output + 1) paths.new) }
+    ensures { IfOk result (AreAmong places.now nodes.now (length nodes.now)) }
 {
+    let mut inputs = Items::new(alloc);
     for place in 0..nodes.len() {
         match places[nodes[place] as usize] {
-            Some(input) => paths.push(PortPath { input, output })?,
+            Some(input) => inputs.push(input)?,
             None => {}
         }
     }
-    Ok(())
+    Ok(inputs)
 }
 
 /// The paths of a module, by the graph of what feeds its nets.
-pub fn port_paths(
-    alloc: Global,
-    module: &Module,
-    graph: &[Items<u32>],
-) -> Result<Items<PortPath>, NoMemory>
+pub fn port_paths(alloc: Global, module: &Module, graph: &[Row<u32>]) -> Result<PathTable, NoMemory>
     requires graph { IsGraph graph.now }
     requires nets { (j : ℕ) (p : Port) → slice_get module.now.ports j ≡ Some p → p.net < 2 ^ 32
         → p.net < length graph.now }
@@ -204,15 +198,17 @@ pub fn port_paths(
 {
     let places = input_places(alloc, module, graph.len())?;
     let mut seen = vec![in alloc; 0; graph.len()]?;
-    let mut paths = Items::new(alloc);
+    let mut table = Items::new(alloc);
     for output in 0..module.ports.len() {
         let port = module.ports.at(output);
         if !port.output {
+            table.push(Inputs::none(alloc))?;
             continue;
         }
         let end = port.net.index() as u32;
         let nodes = fan_in(alloc, graph, seen.as_mut_slice(), output + 1, end)?;
-        push_inputs(places.as_slice(), nodes.as_slice(), output, &mut paths)?;
+        let inputs = inputs_among(alloc, places.as_slice(), nodes.as_slice())?;
+        table.push(Inputs::of(alloc, inputs)?)?;
     }
-    Ok(paths)
+    Ok(table)
 }

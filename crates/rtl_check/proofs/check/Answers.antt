@@ -1,8 +1,7 @@
-use Rattle.std.proofs.Common.{◌≡◌, ◌+◌, ◌<◌, List, [], ◌∷◌, ◌++◌, length, true, inr, sym, ◌∙◌, ap, subst, arith}
+use Rattle.std.proofs.Common.{◌≡◌, ◌+◌, ◌<◌, ℕ, List, [], ◌∷◌, ◌++◌, length, true, inr, sym, ◌∙◌, ap, subst, arith}
 use Rattle.std.proofs.lemmas.List.{length_push}
 use Rattle.std.proofs.lemmas.Option.{get_or_from_slice_get}
 use Rattle.std.proofs.lemmas.Result.{err_from_is_err_and}
-use Rattle.rtl_check.specs.declared.paths.PortPath.{PortPath}
 use Rattle.rtl_ir.specs.declared.error.RtlError.TheVariants.{SameName}
 use Rattle.rtl_ir.specs.Rules.{IsSound}
 use Rattle.rtl_check.specs.FirstFault.{IsNamedAgain}
@@ -56,7 +55,7 @@ returns-in_err-paths-clause-err c =
     let d = c.args.design.now in let m = c.at-module.result.now in let n = c.loop-number.number in let again = c.in_ok-again.again in let tables = c.loop-number.tables in
     let before : Before d again n m = record { earlier = c.in_ok-again.ensures.earlier; upto = c.loop-number.invariant.fresh; sound = c.loop-number.invariant.sound; at = c.at-module.ensures } in
     let lt : n < again = omega (arith, c.loop-number.invariant.fresh, c.if-number-again.false) in
-    let part = subst (λ (t : List (List PortPath)). IsPart m t d) (sym c.as_slice.ensures) (part_at d n m c.in_ok-wanted.wanted.items tables c.requires c.at-module.ensures c.in_ok-wanted.ensures.marked c.loop-number.invariant.paths) in
+    let part = subst (λ (t : List (List (List ℕ))). IsPart m t d) (sym c.as_slice.ensures) (part_at d n m c.in_ok-wanted.wanted.items tables c.requires c.at-module.ensures c.in_ok-wanted.ensures.marked c.loop-number.invariant.paths) in
     let p = err_from_is_err_and c.from_residual-in_err-paths.result c.from_residual-in_err-paths.ensures.1 in
     rw (p.1, p.2) (loop_error d again n m c.as_slice.result.now _ before (c.in_ok-again.ensures.earlier n lt) c.in_ok-test_parts.ensures.ok part c.in_err-paths.ensures.err)
 
@@ -65,14 +64,14 @@ returns-in_err-paths-clause-accepted c = λ h.
     let d = c.args.design.now in let m = c.at-module.result.now in let n = c.loop-number.number in let again = c.in_ok-again.again in let tables = c.loop-number.tables in
     let before : Before d again n m = record { earlier = c.in_ok-again.ensures.earlier; upto = c.loop-number.invariant.fresh; sound = c.loop-number.invariant.sound; at = c.at-module.ensures } in
     let lt : n < again = omega (arith, c.loop-number.invariant.fresh, c.if-number-again.false) in
-    let part = subst (λ (t : List (List PortPath)). IsPart m t d) (sym c.as_slice.ensures) (part_at d n m c.in_ok-wanted.wanted.items tables c.requires c.at-module.ensures c.in_ok-wanted.ensures.marked c.loop-number.invariant.paths) in
+    let part = subst (λ (t : List (List (List ℕ))). IsPart m t d) (sym c.as_slice.ensures) (part_at d n m c.in_ok-wanted.wanted.items tables c.requires c.at-module.ensures c.in_ok-wanted.ensures.marked c.loop-number.invariant.paths) in
     let p = err_from_is_err_and c.from_residual-in_err-paths.result c.from_residual-in_err-paths.ensures.1 in
     rw (p.1, p.2) (accepted_error d h _ (loop_error d again n m c.as_slice.result.now _ before (c.in_ok-again.ensures.earlier n lt) c.in_ok-test_parts.ensures.ok part c.in_err-paths.ensures.err))
 
 pub loop-number-preserved : goal.loop-number-preserved
 loop-number-preserved c =
     let d = c.args.design.now in let m = c.at-module.result.now in let n = c.loop-number.number in let tables = c.loop-number.tables in
-    let part = subst (λ (t : List (List PortPath)). IsPart m t d) (sym c.as_slice.ensures) (part_at d n m c.in_ok-wanted.wanted.items tables c.requires c.at-module.ensures c.in_ok-wanted.ensures.marked c.loop-number.invariant.paths) in
+    let part = subst (λ (t : List (List (List ℕ))). IsPart m t d) (sym c.as_slice.ensures) (part_at d n m c.in_ok-wanted.wanted.items tables c.requires c.at-module.ensures c.in_ok-wanted.ensures.marked c.loop-number.invariant.paths) in
     let keeps = c.in_ok-test_parts.ensures.ok in
     let here : IsSound d m = record { names = keeps.names; driven = keeps.driven; updated = keeps.updated; widths = keeps.widths; levelled = c.in_ok-paths.ensures.levelled d part } in
     let is : c.push.new.self ≡ tables ++ c.in_ok-paths.paths ∷ [] = c.in_ok-push.ensures.ok in
@@ -81,7 +80,7 @@ loop-number-preserved c =
       fresh = omega (arith, c.loop-number.invariant.fresh, c.if-number-again.false);
       count = ap length is ∙ length_push tables c.in_ok-paths.paths ∙ ap (λ k. k + 1) c.loop-number.invariant.count;
       sound = more_hold (IsSound d) d.modules n m c.at-module.ensures here c.loop-number.invariant.sound;
-      paths = subst (λ (t : List (List PortPath)). HasPaths d c.in_ok-wanted.wanted.items t (n + 1)) (sym is) more;
+      paths = subst (λ (t : List (List (List ℕ))). HasPaths d c.in_ok-wanted.wanted.items t (n + 1)) (sym is) more;
     }
 
 pub returns-clause-ok : goal.returns-clause-ok

@@ -1,7 +1,6 @@
 use Rattle.std.proofs.Common.{◌≡◌, ◌<◌, ◌≤◌, ℕ, true, List, Some, length}
 use Rattle.std.specs.Prelude.{slice_get}
 use Rattle.rtl_ir.specs.declared.design.Module.{Module}
-use Rattle.rtl_check.specs.declared.paths.PortPath.{PortPath}
 use Rattle.rtl_ir.specs.Rules.{IsSound}
 use Rattle.rtl_check.specs.Paths.{ArePathsOf}
 use Rattle.rtl_check.proofs.check.Given as goal
@@ -12,5 +11,5 @@ invariant-loop-number l = record {
   count : length l.tables ≡ l.number;
   sound : (k : ℕ) (m : Module) → k < l.number → slice_get l.design.modules k ≡ Some m → IsSound l.design m;
   paths : (k : ℕ) (m : Module) → k < l.number → slice_get l.design.modules k ≡ Some m → slice_get l.wanted.items k ≡ Some true
-      → (paths : List PortPath) × (slice_get l.tables k ≡ Some paths) × ArePathsOf l.design m paths;
+      → (paths : List (List ℕ)) × (slice_get l.tables k ≡ Some paths) × ArePathsOf l.design m paths;
 }

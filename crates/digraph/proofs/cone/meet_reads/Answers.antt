@@ -14,7 +14,7 @@ loop-i-preserved c =
     let e : reads ≡ reads_of g node = c.reads_at-reads.ensures ∙ ap (λ n. reads_of g n) is_node in
     let lt : i < length (reads_of g node) = omega (arith, ap length e) in
     let is : get_or (reads_of g node) i 0 ≡ read = ap (λ l. get_or l i 0) (sym e) in
-    let met = c.in_ok-meet.ensures in
+    let met = rw c.read_at.ensures at c.in_ok-meet.ensures in
     record {
       size = met_size number read seen nodes marked listed met ∙ c.loop-i.invariant.size;
       left = left_same number read seen nodes marked listed (omega (arith, c.requires.graph node i lt, is, c.loop-i.invariant.size)) met ∙ c.loop-i.invariant.left;
