@@ -15,10 +15,10 @@ use Rattle.verilog_sim.specs.declared.offer.Offer.{Offer}
 use Rattle.verilog_sim.specs.declared.given.Counts.{Counts}
 use Rattle.verilog_sim.specs.Contents.{family_of, contents_of}
 use Rattle.verilog_sim.specs.Runnable.{IsRunnable, IsOrderOf, IsPartOf}
-use Rattle.verilog_sim.specs.Settled.{IsInOrder, AreWords, Settles}
+use Rattle.verilog_sim.specs.Settled.{IsInOrder, AreWords, Settles, Progress}
 use Rattle.verilog_sim.specs.Feeding.{is_marked, marked_of, AreMarkedFrom, IsFeeding}
 use Rattle.verilog_sim.specs.Simulates.{IsEvaluatedBy, IsAnswered}
-use Rattle.verilog_sim.proofs.InOrder.{Progress, at_start, one_more}
+use Rattle.verilog_sim.proofs.InOrder.{at_start, one_more}
 use Rattle.verilog_sim.proofs.Evaluated.{evaluated}
 
 module _ {A : Type 0} (p : A → Bool) where

@@ -1,10 +1,21 @@
--- The first bytes of the names of a shape's ports tell its counts.
+-- All shapes of a module have the same counts, which the first bytes of the names of its ports tell.
 use Rattle.std.proofs.Common.{◌≡◌, ℕ, suc, cond, ◌+◌, List, [], ◌∷◌, ◌++◌, Bool, true, false, length, map, refl, sym, ap, ◌∙◌, arith}
 use Rattle.std.proofs.lemmas.List.Sums.{sum_by-append}
-use Rattle.std.specs.Prelude.{count_by, codes}
+use Rattle.std.specs.Prelude.{count_by, codes, nat_eq, not, ◌&&◌}
 use Rattle.rtl_ir.specs.declared.design.Module.{Module}
 use Rattle.rtl_ir.specs.Ports.{Shape, PortView, HasShape, port_view, kernel_ports, scalar_ports, host_input_ports, host_output_ports, shape_ports}
-use Rattle.verilog_sim.specs.Names.{begins}
+use Rattle.verilog_sim.specs.declared.given.Counts.{Counts}
+use Rattle.verilog_sim.specs.Simulates.{AreCounts}
+
+-- whether a name begins with a byte
+abbrev starts : ℕ → List ℕ → Bool
+starts b [] = false
+starts b (x ∷ xs) = nat_eq x b
+
+-- whether a port has this direction and a name that begins with a byte
+abbrev begins : ℕ → Bool → PortView → Bool
+begins b true p = p.output && starts b p.name
+begins b false p = not p.output && starts b p.name
 
 abbrev done_port : PortView
 done_port = record { name = codes "done"; width = 1; output = true }
@@ -49,7 +60,7 @@ h_in_shape : (s : Shape) → tally (begins 104 false) (shape_ports s) ≡ length
 h_in_shape s =
     omega (arith, tally_append (begins 104 false) (kernel_ports s.kernels ++ scalar_ports s.scalars ++ host_input_ports s.inputs ++ host_output_ports s.outputs) (done_port ∷ []), tally_append (begins 104 false) (kernel_ports s.kernels ++ scalar_ports s.scalars ++ host_input_ports s.inputs) (host_output_ports s.outputs), tally_append (begins 104 false) (kernel_ports s.kernels ++ scalar_ports s.scalars) (host_input_ports s.inputs), tally_append (begins 104 false) (kernel_ports s.kernels) (scalar_ports s.scalars), h_in_kernels s.kernels, h_in_scalars s.scalars, h_in_inputs s.inputs, h_in_outputs s.outputs)
 
-pub kernels_counted : (m : Module) (s : Shape) → HasShape m s → count_by (λ p. begins 104 false (port_view m p)) m.ports ≡ length s.kernels
+kernels_counted : (m : Module) (s : Shape) → HasShape m s → count_by (λ p. begins 104 false (port_view m p)) m.ports ≡ length s.kernels
 kernels_counted m s h = tally_is (λ p. begins 104 false (port_view m p)) m.ports ∙ sym (tally_map (begins 104 false) (port_view m) m.ports) ∙ ap (tally (begins 104 false)) h ∙ h_in_shape s
 
 s_in_kernels : (xs : List (List ℕ)) → tally (begins 115 false) (kernel_ports xs) ≡ 0
@@ -72,7 +83,7 @@ s_in_shape : (s : Shape) → tally (begins 115 false) (shape_ports s) ≡ length
 s_in_shape s =
     omega (arith, tally_append (begins 115 false) (kernel_ports s.kernels ++ scalar_ports s.scalars ++ host_input_ports s.inputs ++ host_output_ports s.outputs) (done_port ∷ []), tally_append (begins 115 false) (kernel_ports s.kernels ++ scalar_ports s.scalars ++ host_input_ports s.inputs) (host_output_ports s.outputs), tally_append (begins 115 false) (kernel_ports s.kernels ++ scalar_ports s.scalars) (host_input_ports s.inputs), tally_append (begins 115 false) (kernel_ports s.kernels) (scalar_ports s.scalars), s_in_kernels s.kernels, s_in_scalars s.scalars, s_in_inputs s.inputs, s_in_outputs s.outputs)
 
-pub scalars_counted : (m : Module) (s : Shape) → HasShape m s → count_by (λ p. begins 115 false (port_view m p)) m.ports ≡ length s.scalars
+scalars_counted : (m : Module) (s : Shape) → HasShape m s → count_by (λ p. begins 115 false (port_view m p)) m.ports ≡ length s.scalars
 scalars_counted m s h = tally_is (λ p. begins 115 false (port_view m p)) m.ports ∙ sym (tally_map (begins 115 false) (port_view m) m.ports) ∙ ap (tally (begins 115 false)) h ∙ s_in_shape s
 
 i_in_kernels : (xs : List (List ℕ)) → tally (begins 105 true) (kernel_ports xs) ≡ 0
@@ -95,7 +106,7 @@ i_in_shape : (s : Shape) → tally (begins 105 true) (shape_ports s) ≡ length 
 i_in_shape s =
     omega (arith, tally_append (begins 105 true) (kernel_ports s.kernels ++ scalar_ports s.scalars ++ host_input_ports s.inputs ++ host_output_ports s.outputs) (done_port ∷ []), tally_append (begins 105 true) (kernel_ports s.kernels ++ scalar_ports s.scalars ++ host_input_ports s.inputs) (host_output_ports s.outputs), tally_append (begins 105 true) (kernel_ports s.kernels ++ scalar_ports s.scalars) (host_input_ports s.inputs), tally_append (begins 105 true) (kernel_ports s.kernels) (scalar_ports s.scalars), i_in_kernels s.kernels, i_in_scalars s.scalars, i_in_inputs s.inputs, i_in_outputs s.outputs)
 
-pub inputs_counted : (m : Module) (s : Shape) → HasShape m s → count_by (λ p. begins 105 true (port_view m p)) m.ports ≡ length s.inputs
+inputs_counted : (m : Module) (s : Shape) → HasShape m s → count_by (λ p. begins 105 true (port_view m p)) m.ports ≡ length s.inputs
 inputs_counted m s h = tally_is (λ p. begins 105 true (port_view m p)) m.ports ∙ sym (tally_map (begins 105 true) (port_view m) m.ports) ∙ ap (tally (begins 105 true)) h ∙ i_in_shape s
 
 o_in_kernels : (xs : List (List ℕ)) → tally (begins 111 false) (kernel_ports xs) ≡ 0
@@ -118,5 +129,14 @@ o_in_shape : (s : Shape) → tally (begins 111 false) (shape_ports s) ≡ length
 o_in_shape s =
     omega (arith, tally_append (begins 111 false) (kernel_ports s.kernels ++ scalar_ports s.scalars ++ host_input_ports s.inputs ++ host_output_ports s.outputs) (done_port ∷ []), tally_append (begins 111 false) (kernel_ports s.kernels ++ scalar_ports s.scalars ++ host_input_ports s.inputs) (host_output_ports s.outputs), tally_append (begins 111 false) (kernel_ports s.kernels ++ scalar_ports s.scalars) (host_input_ports s.inputs), tally_append (begins 111 false) (kernel_ports s.kernels) (scalar_ports s.scalars), o_in_kernels s.kernels, o_in_scalars s.scalars, o_in_inputs s.inputs, o_in_outputs s.outputs)
 
-pub outputs_counted : (m : Module) (s : Shape) → HasShape m s → count_by (λ p. begins 111 false (port_view m p)) m.ports ≡ length s.outputs
+outputs_counted : (m : Module) (s : Shape) → HasShape m s → count_by (λ p. begins 111 false (port_view m p)) m.ports ≡ length s.outputs
 outputs_counted m s h = tally_is (λ p. begins 111 false (port_view m p)) m.ports ∙ sym (tally_map (begins 111 false) (port_view m) m.ports) ∙ ap (tally (begins 111 false)) h ∙ o_in_shape s
+
+pub counts_same : (m : Module) (c : Counts) (s t : Shape) → HasShape m s → HasShape m t → AreCounts c s → AreCounts c t
+counts_same m c s t h g e =
+    record {
+      kernels = e.kernels ∙ sym (kernels_counted m s h) ∙ kernels_counted m t g;
+      scalars = e.scalars ∙ sym (scalars_counted m s h) ∙ scalars_counted m t g;
+      inputs = e.inputs ∙ sym (inputs_counted m s h) ∙ inputs_counted m t g;
+      outputs = e.outputs ∙ sym (outputs_counted m s h) ∙ outputs_counted m t g;
+    }

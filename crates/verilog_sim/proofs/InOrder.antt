@@ -1,9 +1,9 @@
 -- One line after another, the assignments come to hold.
-use Rattle.std.proofs.Common.{◌≡◌, ◌≢◌, Bool, true, false, ℕ, ◌+◌, ◌^◌, ◌<◌, ◌≤◌, ◌⊎◌, inl, inr, List, [], length, get_or, set, Some, refl, sym, ap, ◌∙◌, subst, ⊎_elim, arith, get_or-set_other, get_or-set_same}
+use Rattle.std.proofs.Common.{◌≡◌, ◌≢◌, Bool, true, false, ℕ, ◌+◌, ◌^◌, ◌<◌, ◌≤◌, ◌⊎◌, inl, inr, List, [], ◌++◌, length, length-append, get_or, set, Some, refl, sym, ap, ◌∙◌, subst, ⊎_elim, arith, get_or-set_other, get_or-set_same}
 use Rattle.std.specs.Prelude.{slice_get}
 use Rattle.std.proofs.lemmas.Bool.{cases_eq, cases_lt}
-use Rattle.std.proofs.lemmas.Option.{slice_get_within, slice_get-get_or}
-use Rattle.std.proofs.lemmas.List.{length-set}
+use Rattle.std.proofs.lemmas.Option.{slice_get_within, slice_get-get_or, get_or_from_slice_get}
+use Rattle.std.proofs.lemmas.List.{length-set, get_or_append_left, get_or-append-add}
 use Rattle.std.proofs.Math.Pow.{pow_mono}
 use Rattle.std.proofs.Math.Nat.{mod-eq_of_lt, mod-le}
 use Rattle.rtl_ir.specs.declared.design.Module.{Module}
@@ -16,19 +16,8 @@ use Rattle.verilog_sim.specs.declared.line.Line.{Line}
 use Rattle.verilog_sim.specs.Lines.{read_by, step_value}
 use Rattle.verilog_sim.specs.Contents.{family_of, contents_of}
 use Rattle.verilog_sim.specs.Compiled.{IsLineOf, AreLinesOf}
-use Rattle.verilog_sim.specs.Settled.{IsInOrder, AreWords, Settles}
+use Rattle.verilog_sim.specs.Settled.{IsInOrder, AreWords, Settles, Progress}
 use Rattle.verilog_sim.proofs.Step.{step_is}
-
--- the first so many assignments hold, and all nets but their targets have their old values
-pub record Progress (m : Module) (assigns : List Assign) (memories : List (List ℕ)) (old new : List ℕ) (i : ℕ) : Type 0 where
-  pub nets : length new ≡ length m.nets
-  pub words : (n : ℕ) → get_or new n 0 < 2 ^ width_of m n
-  pub assigned :
-      (j : ℕ) (a : Assign)
-      → j < i
-      → slice_get assigns j ≡ Some a
-      → get_or new a.target 0 ≡ value m (contents_of [] memories) (family_of new) (width_of m a.target) a.expr
-  pub others : (n : ℕ) → ((j : ℕ) (a : Assign) → j < i → slice_get assigns j ≡ Some a → a.target ≢ n) → get_or new n 0 ≡ get_or old n 0
 
 pub at_start : (m : Module) (assigns : List Assign) (memories : List (List ℕ)) (old : List ℕ) → AreWords m old memories → Progress m assigns memories old old 0
 at_start m assigns memories old h =
@@ -93,25 +82,84 @@ read_same m values words true n small =
     mod-eq_of_lt less
 read_same m values words false n small = refl
 
+-- the value of a line is that of its assignment, also from the low 64 bits of narrow nets
+line_value :
+    (m : Module) (ls : List ℕ) (assigns : List Assign) (memories : List (List ℕ)) (old new : List ℕ) (i : ℕ) (a : Assign) (l : Line) (half : Bool)
+    → (half ≡ true → l.narrow ≡ true)
+    → IsInOrder m assigns → AreWords m old memories → ((n : ℕ) → get_or new n 0 < 2 ^ width_of m n) → slice_get assigns i ≡ Some a → IsLineOf m ls a l → 1 ≤ l.width → l.width ≤ 128
+    → step_value ls memories (read_by half new) l.width l.step ≡ value m (contents_of [] memories) (family_of new) (width_of m a.target) a.expr
+line_value m ls assigns memories old new i a l half by o h words at r some most =
+    ap (λ k. step_value ls memories (read_by half new) k l.step) r.width
+    ∙ step_is m ls memories (read_by half new) (width_of m a.target) a.expr l.step (o.typed i a at) r.step (omega (arith, r.width)) (omega (arith, r.width)) (read_fits m new words half) h.depths
+    ∙ value_agrees m (contents_of [] memories) (read_by half new) (family_of new) (width_of m a.target) a.expr (λ n read. read_same m new words half n (λ e. (r.narrow (by e)).reads n read))
+
 pub one_line :
-    (m : Module) (ls : List ℕ) (assigns : List Assign) (memories : List (List ℕ)) (lines : List Line) (old new : List ℕ) (i : ℕ) (l : Line) (x : ℕ)
+    (m : Module) (ls : List ℕ) (assigns : List Assign) (memories : List (List ℕ)) (lines : List Line) (old new : List ℕ) (i : ℕ) (l : Line) (x : ℕ) (half : Bool)
+    → (half ≡ true → l.narrow ≡ true)
     → AreLinesOf m ls assigns lines → IsInOrder m assigns → AreWords m old memories → slice_get lines i ≡ Some l
     → l.target < length new → 1 ≤ l.width → l.width ≤ 128
-    → x ≡ step_value ls memories (read_by l.narrow new) l.width l.step
+    → ((half ≡ true → step_value ls memories (read_by half new) l.width l.step < 2 ^ 64) → x ≡ step_value ls memories (read_by half new) l.width l.step)
     → Progress m assigns memories old new i → Progress m assigns memories old (set new l.target x) (i + 1)
-one_line m ls assigns memories lines old new i l x are o h at lt some most is p =
+one_line m ls assigns memories lines old new i l x half by are o h at lt some most is p =
     let within : i < length assigns = omega (arith, slice_get_within lines i l at, are.size) in
     let none : Assign = record { target = 0; expr = Rattle.rtl_ir.specs.declared.design.Expr.TheVariants.Net 0 } in
     let a = get_or assigns i none in
     let at' : slice_get assigns i ≡ Some a = slice_get-get_or assigns i none within in
     let r : IsLineOf m ls a l = are.each i a l at' at in
-    let e : x ≡ value m (contents_of [] memories) (family_of new) (width_of m a.target) a.expr =
-    is
-    ∙ ap (λ k. step_value ls memories (read_by l.narrow new) k l.step) r.width
-    ∙ step_is m ls memories (read_by l.narrow new) (width_of m a.target) a.expr l.step (o.typed i a at') r.step (omega (arith, r.width)) (omega (arith, r.width)) (read_fits m new p.words l.narrow) h.depths
-    ∙ value_agrees m (contents_of [] memories) (read_by l.narrow new) (family_of new) (width_of m a.target) a.expr (λ n read. read_same m new p.words l.narrow n (λ narrow. (r.narrow narrow).reads n read)) in
+    let same = line_value m ls assigns memories old new i a l half by o h p.words at' r some most in
     let lt' : a.target < length new = omega (arith, r.target) in
-    subst (λ (t : ℕ). Progress m assigns memories old (set new t x) (i + 1)) (sym r.target) (one_more m assigns memories old new i a x o h at' lt' e p)
+    subst (λ (t : ℕ). Progress m assigns memories old (set new t x) (i + 1)) (sym r.target) (one_more m assigns memories old new i a x o h at' lt' (is (fits r same at') ∙ same) p)
+  where
+    fits :
+        {a : Assign} → IsLineOf m ls a l → step_value ls memories (read_by half new) l.width l.step ≡ value m (contents_of [] memories) (family_of new) (width_of m a.target) a.expr
+        → slice_get assigns i ≡ Some a → half ≡ true → step_value ls memories (read_by half new) l.width l.step < 2 ^ 64
+    fits {a} r same at' e =
+        let below = value_fits m (contents_of [] memories) (family_of new) (width_of m a.target) a.expr (o.typed i a at') p.words h.cells in
+        let most : 2 ^ width_of m a.target ≤ 2 ^ 64 = pow_mono ((r.narrow (by e)).target) in
+        omega (arith, same, below, most)
+
+-- an item of a list that stands between two others
+item_at : {A : Type 0} (before items rest : List A) (i : ℕ) (x : A) → slice_get items i ≡ Some x → slice_get ((before ++ items) ++ rest) (length before + i) ≡ Some x
+item_at before items rest i x e =
+    let lt = slice_get_within items i x e in
+    let within : length before + i < length (before ++ items) = omega (arith, length-append before items) in
+    slice_get-get_or ((before ++ items) ++ rest) (length before + i) x (omega (arith, length-append (before ++ items) rest))
+    ∙ ap (λ y. Some y) (get_or_append_left (before ++ items) rest x (length before + i) within ∙ get_or-append-add before items i x ∙ get_or_from_slice_get items i x x e)
+
+-- one line more of those that stand between others
+pub line_between :
+    (m : Module) (ls : List ℕ) (assigns : List Assign) (memories : List (List ℕ)) (before lines rest : List Line) (old new : List ℕ) (i : ℕ) (l : Line) (x : ℕ) (half : Bool)
+    → (half ≡ true → l.narrow ≡ true)
+    → AreLinesOf m ls assigns ((before ++ lines) ++ rest) → IsInOrder m assigns → AreWords m old memories → slice_get lines i ≡ Some l
+    → l.target < length new → 1 ≤ l.width → l.width ≤ 128
+    → ((half ≡ true → step_value ls memories (read_by half new) l.width l.step < 2 ^ 64) → x ≡ step_value ls memories (read_by half new) l.width l.step)
+    → Progress m assigns memories old new (length before + i) → Progress m assigns memories old (set new l.target x) (length before + (i + 1))
+line_between m ls assigns memories before lines rest old new i l x half by are o h at lt some most is p =
+    let next : length before + i + 1 ≡ length before + (i + 1) = omega arith in
+    subst (Progress m assigns memories old (set new l.target x)) next
+    (one_line m ls assigns memories ((before ++ lines) ++ rest) old new (length before + i) l x half by are o h (item_at before lines rest i l at) lt some most is p)
+
+-- the target of a narrow line has a value below 2^64
+pub target_below :
+    (m : Module) (ls : List ℕ) (assigns : List Assign) (memories : List (List ℕ)) (before lines rest : List Line) (old new : List ℕ) (i k : ℕ) (l : Line)
+    → AreLinesOf m ls assigns ((before ++ lines) ++ rest) → slice_get lines i ≡ Some l → l.narrow ≡ true → Progress m assigns memories old new k → get_or new l.target 0 < 2 ^ 64
+target_below m ls assigns memories before lines rest old new i k l are at narrow p =
+    let all = item_at before lines rest i l at in
+    let within : length before + i < length assigns = omega (arith, slice_get_within ((before ++ lines) ++ rest) (length before + i) l all, are.size) in
+    let none : Assign = record { target = 0; expr = Rattle.rtl_ir.specs.declared.design.Expr.TheVariants.Net 0 } in
+    let a = get_or assigns (length before + i) none in
+    let r : IsLineOf m ls a l = are.each (length before + i) a l (slice_get-get_or assigns (length before + i) none within) all in
+    let most : 2 ^ width_of m a.target ≤ 2 ^ 64 = pow_mono ((r.narrow narrow).target) in
+    let below = p.words a.target in
+    subst (λ (t : ℕ). get_or new t 0 < 2 ^ 64) (sym r.target) (omega (arith, below, most))
+
+-- the lines that stand between others are done
+pub lines_between :
+    (m : Module) (assigns : List Assign) (memories : List (List ℕ)) (before lines : List Line) (old new : List ℕ) (i : ℕ)
+    → i ≡ length lines → Progress m assigns memories old new (length before + i) → Progress m assigns memories old new (length (before ++ lines))
+lines_between m assigns memories before lines old new i e p =
+    let all : length before + i ≡ length (before ++ lines) = omega (arith, length-append before lines) in
+    subst (Progress m assigns memories old new) all p
 
 pub at_last : (m : Module) (ls : List ℕ) (assigns : List Assign) (memories : List (List ℕ)) (lines : List Line) (old new : List ℕ) (i : ℕ) → AreLinesOf m ls assigns lines → length lines ≤ i → Progress m assigns memories old new i → Settles m assigns memories old new
 at_last m ls assigns memories lines old new i are past p =

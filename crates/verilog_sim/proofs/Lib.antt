@@ -6,6 +6,8 @@ pub mod Gathering
 pub mod Ordering
 pub mod Driving
 pub mod Compiling
+pub mod Batching
+pub mod Levelling
 pub mod Driven
 pub mod Shapes
 pub mod Evaluated
@@ -35,3 +37,10 @@ pub mod CellTotals
 pub mod Flattening
 pub mod Fronts
 pub mod Halves
+pub mod HalfLists
+pub mod Written
+pub mod Rising
+pub mod Facing
+pub mod Told
+pub mod GiftSteps
+pub mod CellSums

@@ -29,3 +29,14 @@ pub record Settles (m : Module) (assigns : List Assign) (memories : List (List �
       → slice_get assigns i ≡ Some a
       → slice_index new a.target ≡ value m (contents_of [] memories) (family_of new) (width_of m a.target) a.expr
   pub others : (n : ℕ) → ((i : ℕ) (a : Assign) → slice_get assigns i ≡ Some a → a.target ≢ n) → slice_index new n ≡ slice_index old n
+
+-- the first so many assignments hold, and all nets but their targets have their old values
+pub record Progress (m : Module) (assigns : List Assign) (memories : List (List ℕ)) (old new : List ℕ) (i : ℕ) : Type 0 where
+  pub nets : length new ≡ length m.nets
+  pub words : (n : ℕ) → slice_index new n < 2 ^ width_of m n
+  pub assigned :
+      (j : ℕ) (a : Assign)
+      → j < i
+      → slice_get assigns j ≡ Some a
+      → slice_index new a.target ≡ value m (contents_of [] memories) (family_of new) (width_of m a.target) a.expr
+  pub others : (n : ℕ) → ((j : ℕ) (a : Assign) → j < i → slice_get assigns j ≡ Some a → a.target ≢ n) → slice_index new n ≡ slice_index old n

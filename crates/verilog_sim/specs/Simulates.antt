@@ -16,6 +16,7 @@ use Rattle.verilog_sim.specs.declared.given.Counts.{Counts}
 use Rattle.verilog_sim.specs.declared.compile.Program.{Program}
 use Rattle.verilog_sim.specs.Contents.{family_of, contents_of}
 use Rattle.verilog_sim.specs.Compiled.{AreLinesOf}
+use Rattle.verilog_sim.specs.Batches.{lines_of_all}
 use Rattle.verilog_sim.specs.Runnable.{IsRunnable, IsOrderOf}
 use Rattle.verilog_sim.specs.Feeding.{IsFeeding}
 use Rattle.verilog_sim.specs.Settled.{AreWords, Settles}
@@ -57,10 +58,10 @@ pub record IsSimulable (m : Module) (c : Counts) : Type 0 where
 pub record IsProgramOf (m : Module) (net : ℕ) (p : Program) : Type 0 where
   pub order : List Assign
   pub ordered : IsOrderOf m order
-  pub lines_are : AreLinesOf m p.literals.items order p.lines.items
+  pub lines_are : AreLinesOf m p.literals.items order (lines_of_all p.all.items)
   pub feeding : List Assign
   pub feeds : IsFeeding order feeding net
-  pub feeding_are : AreLinesOf m p.literals.items feeding p.feeding.items
+  pub feeding_are : AreLinesOf m p.literals.items feeding (lines_of_all p.feeding.items)
 
 -- the net of the last port
 abbrev pub last_net : List Port → ℕ

@@ -8,23 +8,24 @@ ghost use Rattle.verilog_sim.specs.Contents.{family_of, contents_of, HasDepths};
 ghost use Rattle.verilog_sim.specs.Updates.{IsUpdateSafe, IsLoadSafe, IsLoaded};
 
 use crate::memory::Memory;
+use crate::values::Values;
 use rtl_ir::{Target, Update};
 
 /// Gives each register the value that it holds.
-pub(crate) fn load(updates: &[Update], held: &[u128], values: &mut [u128])
+pub(crate) fn load(updates: &[Update], held: &[u128], values: &mut Values)
     requires safe { All (IsLoadSafe (length values.old)) updates.now }
     requires held { length held.now ≡ length values.old }
     ensures { IsLoaded updates.now held.now values.old values.new }
 {
     for update in updates {
         if let Target::Reg(net) = update.target {
-            values[net.index()] = held[net.index()];
+            values.set(net, held[net.index()]);
         }
     }
 }
 
 /// Writes what the updates write, with all values from before the edge.
-pub(crate) fn clock(updates: &[Update], values: &[u128], held: &mut [u128], memories: &mut [Memory])
+pub(crate) fn clock(updates: &[Update], values: &Values, held: &mut [u128], memories: &mut [Memory])
     requires safe { All (IsUpdateSafe (length values.now) (length memories.old)) updates.now }
     requires held { length held.old ≡ length values.now }
     ensures { (m : Module) → HasDepths m memories.old
@@ -38,7 +39,7 @@ pub(crate) fn clock(updates: &[Update], values: &[u128], held: &mut [u128], memo
 }
 
 /// Writes what one update writes.
-fn write(update: &Update, values: &[u128], held: &mut [u128], memories: &mut [Memory])
+fn write(update: &Update, values: &Values, held: &mut [u128], memories: &mut [Memory])
     requires safe { IsUpdateSafe (length values.now) (length memories.old) update.now }
     requires held { length held.old ≡ length values.now }
     ensures { (m : Module) → HasDepths m memories.old
@@ -46,12 +47,12 @@ fn write(update: &Update, values: &[u128], held: &mut [u128], memories: &mut [Me
         × (contents_of held.new memories.new
         ≡ updated m (family_of values.now) update.now (contents_of held.old memories.old)) }
 {
-    if values[update.enable.index()] == 1 {
-        let word = values[update.value.index()];
+    if values.get(update.enable) == 1 {
+        let word = values.get(update.value);
         match update.target {
             Target::Reg(net) => held[net.index()] = word,
             Target::Cell(k, address) => {
-                memories[k.index()].write(values[address.index()], word);
+                memories[k.index()].write(values.get(address), word);
             }
         }
     }

@@ -5,8 +5,10 @@ ghost use Rattle.rtl_ir.specs.Formed.{IsFormedExpr};
 ghost use Rattle.rtl_ir.specs.Value.{width_of};
 ghost use Rattle.verilog_sim.specs.Lines.{IsSafe};
 ghost use Rattle.verilog_sim.specs.Compiled.{IsBinary, AreLinesOf, HasStep, HasLines, IsAddedLiteral, IsNarrow};
+ghost use Rattle.verilog_sim.specs.Batches.{lines_of_all};
 ghost use Rattle.verilog_sim.specs.Runnable.{IsRunnable, IsPartOf};
 
+use crate::batch::{Batch, batches_of};
 use crate::line::{Line, Step};
 use crate::order::Orders;
 use mx_base::NoMemory;
@@ -17,8 +19,8 @@ use std::alloc::Global;
 /// the literals of both.
 #[derive(Drop)]
 pub(crate) struct Program {
-    pub(crate) lines: Vec<Line>,
-    pub(crate) feeding: Vec<Line>,
+    pub(crate) all: Vec<Batch>,
+    pub(crate) feeding: Vec<Batch>,
     pub(crate) literals: Vec<u128>,
 }
 
@@ -27,15 +29,15 @@ pub(crate) fn compile(alloc: Global, module: &Module, orders: &Orders) -> Result
     requires all { IsPartOf module.now orders.now.all.items }
     requires feeding { IsPartOf module.now orders.now.feeding.items }
     requires runnable { IsRunnable module.now }
-    ensures all { IfOk result (λ p. AreLinesOf module.now p.literals.items orders.now.all.items p.lines.items) }
-    ensures feeding { IfOk result (λ p. AreLinesOf module.now p.literals.items orders.now.feeding.items p.feeding.items) }
+    ensures all { IfOk result (λ p. AreLinesOf module.now p.literals.items orders.now.all.items (lines_of_all p.all.items)) }
+    ensures feeding { IfOk result (λ p. AreLinesOf module.now p.literals.items orders.now.feeding.items (lines_of_all p.feeding.items)) }
 {
     let mut literals = Vec::new(alloc);
     let lines = lines_of(alloc, module, orders.all.as_slice(), &mut literals)?;
     let feeding = lines_of(alloc, module, orders.feeding.as_slice(), &mut literals)?;
     Ok(Program {
-        lines,
-        feeding,
+        all: batches_of(alloc, lines.as_slice())?,
+        feeding: batches_of(alloc, feeding.as_slice())?,
         literals,
     })
 }
@@ -66,7 +68,7 @@ fn lines_of(
 }
 
 /// Whether an assignment gives a net of at most 64 bits its value, and reads such nets alone.
-fn is_narrow(alloc: Global, module: &Module, assign: &Assign) -> bool
+pub(crate) fn is_narrow(alloc: Global, module: &Module, assign: &Assign) -> bool
     ensures { result ≡ true → IsNarrow module.now assign.now }
 {
     let nets = assign.expr.operands(alloc);

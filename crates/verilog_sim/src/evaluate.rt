@@ -8,45 +8,47 @@ ghost use Rattle.verilog_sim.specs.declared.offer.Event.{Event};
 ghost use Rattle.verilog_sim.specs.Calls.{event_of};
 ghost use Rattle.verilog_sim.specs.Contents.{family_of};
 ghost use Rattle.verilog_sim.specs.Compiled.{AreLinesOf};
+ghost use Rattle.verilog_sim.specs.Batches.{lines_of_all};
 ghost use Rattle.verilog_sim.specs.Runnable.{IsPartOf};
 ghost use Rattle.verilog_sim.specs.Channels.{channel_of, first_channel};
 ghost use Rattle.verilog_sim.specs.Sources.{port_count};
 ghost use Rattle.verilog_sim.specs.Simulates.{AreKept, IsReady, IsProgramOf, IsEvaluatedBy, IsStepped, IsAnswered, last_net};
 
 use crate::Event;
+use crate::batch::Batch;
 use crate::clock::{clock, load};
 use crate::compile::Program;
 use crate::given::{Counts, Given, drive};
-use crate::line::Line;
 use crate::memory::Memory;
 use crate::settle::settle;
+use crate::values::Values;
 use rtl_ir::{NetId, Port, Update};
 
-/// Gives nets of a flat module their values: registers, inputs and the targets of these lines.
+/// Gives nets of a flat module their values: registers, inputs and the targets of these batches.
 pub(crate) fn evaluate(
     ports: &[Port],
     updates: &[Update],
     counts: Counts,
     literals: &[u128],
-    lines: &[Line],
+    batches: &[Batch],
     given: &Given<'_>,
     held: &[u128],
     memories: &[Memory],
-    values: &mut [u128],
+    values: &mut Values,
 )
     requires { (m : Module) × (assigns : List Assign)
         × IsReady m ports.now updates.now counts given.now.steady.now given.now.offers.now held.now values.old memories.now
-        × IsPartOf m assigns × AreLinesOf m literals.now assigns lines.now }
+        × IsPartOf m assigns × AreLinesOf m literals.now assigns (lines_of_all batches.now) }
     // each module for which all is there
     ensures { (m : Module) (assigns : List Assign)
         → IsReady m ports.now updates.now counts given.now.steady.now given.now.offers.now held.now values.old memories.now
-        → IsPartOf m assigns → AreLinesOf m literals.now assigns lines.now
+        → IsPartOf m assigns → AreLinesOf m literals.now assigns (lines_of_all batches.now)
         → IsEvaluatedBy m assigns counts given.now.reset given.now.steady.now given.now.offers.now
         given.now.accepts.now given.now.holds.now held.now memories.now values.new }
 {
     load(updates, held, values);
     drive(ports, counts, given, values);
-    settle(lines, literals, memories, values);
+    settle(batches, literals, memories, values);
 }
 
 /// One edge: gives each net its value, and writes registers and memories.
@@ -58,7 +60,7 @@ pub(crate) fn step(
     given: &Given<'_>,
     held: &mut [u128],
     memories: &mut [Memory],
-    values: &mut [u128],
+    values: &mut Values,
 )
     requires { (m : Module) × (net : ℕ)
         × IsReady m ports.now updates.now counts given.now.steady.now given.now.offers.now held.old values.old memories.old
@@ -71,10 +73,10 @@ pub(crate) fn step(
         × IsStepped m counts given.now.reset given.now.steady.now given.now.offers.now
         given.now.accepts.now given.now.holds.now held.old memories.old values.new held.new memories.new }
 {
-    let lines = program.lines.as_slice();
+    let batches = program.all.as_slice();
     let literals = program.literals.as_slice();
     evaluate(
-        ports, updates, counts, literals, lines, given, held, memories, values,
+        ports, updates, counts, literals, batches, given, held, memories, values,
     );
     clock(updates, values, held, memories);
 }
@@ -88,7 +90,7 @@ pub(crate) fn is_done(
     given: &Given<'_>,
     held: &[u128],
     memories: &[Memory],
-    values: &mut [u128],
+    values: &mut Values,
 ) -> bool
     requires { (m : Module)
         × IsReady m ports.now updates.now counts given.now.steady.now given.now.offers.now held.now values.old memories.now
@@ -100,16 +102,16 @@ pub(crate) fn is_done(
         → IsAnswered m (last_net ports.now) counts given.now.reset given.now.steady.now given.now.offers.now
         given.now.accepts.now given.now.holds.now held.now memories.now values.new result }
 {
-    let lines = program.feeding.as_slice();
+    let batches = program.feeding.as_slice();
     let literals = program.literals.as_slice();
     evaluate(
-        ports, updates, counts, literals, lines, given, held, memories, values,
+        ports, updates, counts, literals, batches, given, held, memories, values,
     );
     value_at(ports, values, ports.len() - 1) == 1
 }
 
 /// What happened at each host stream, the inputs first.
-pub(crate) fn tell(ports: &[Port], counts: Counts, values: &[u128], events: &mut [Event])
+pub(crate) fn tell(ports: &[Port], counts: Counts, values: &Values, events: &mut [Event])
     requires counted { port_count counts ≡ length ports.now }
     requires nets { (i : ℕ) (p : Port) → slice_get ports.now i ≡ Some p → p.net < length values.now }
     requires events { length events.old ≡ counts.inputs + counts.outputs }
@@ -123,7 +125,7 @@ pub(crate) fn tell(ports: &[Port], counts: Counts, values: &[u128], events: &mut
 }
 
 /// What happened at the stream whose first port has this number.
-fn event_at(ports: &[Port], values: &[u128], first: usize) -> Event
+fn event_at(ports: &[Port], values: &Values, first: usize) -> Event
     requires ports { first + 2 < length ports.now }
     requires nets { (i : ℕ) (p : Port) → slice_get ports.now i ≡ Some p → p.net < length values.now }
     ensures { result ≡ event_of (family_of values.now) (channel_of ports.now first) }
@@ -137,12 +139,12 @@ fn event_at(ports: &[Port], values: &[u128], first: usize) -> Event
 }
 
 /// The value of a port.
-fn value_at(ports: &[Port], values: &[u128], number: usize) -> u128
+fn value_at(ports: &[Port], values: &Values, number: usize) -> u128
     requires number { number < length ports.now }
     requires nets { (i : ℕ) (p : Port) → slice_get ports.now i ≡ Some p → p.net < length values.now }
     ensures { result ≡ family_of values.now (port_net (slice_get ports.now number)) }
 {
-    values[ports[number].net.index()]
+    values.get(ports[number].net)
 }
 
 /// The net of the last port.

@@ -1,11 +1,14 @@
 // The values that a call gives to the outer inputs of a design.
-ghost use Rattle.std.specs.Prelude.{◌≡◌, ℕ, ◌<◌, ◌^◌, false, length, Some, slice_get, slice_index_or};
+ghost use Rattle.std.specs.Prelude.{◌≡◌, ℕ, ◌+◌, ◌<◌, ◌^◌, false, length, Some, slice_get, slice_index_or};
 ghost use Rattle.rtl_ir.specs.declared.design.Port.{Port};
 ghost use Rattle.rtl_ir.specs.Value.{bit};
+ghost use Rattle.rtl_ir.specs.Interfaces.{shape_of};
+ghost use Rattle.verilog_sim.specs.Simulates.{AreCounts};
 ghost use Rattle.verilog_sim.specs.Sources.{IsSource, word_given, AreApart, AreDriven, port_count};
 
 use crate::Offer;
-use rtl_ir::Port;
+use crate::values::Values;
+use rtl_ir::{Interface, Port};
 
 /// How many kernels, scalars, host inputs and host outputs the outer ports are of.
 #[derive(Clone, Copy, Drop)]
@@ -14,6 +17,19 @@ pub(crate) struct Counts {
     pub(crate) scalars: usize,
     pub(crate) inputs: usize,
     pub(crate) outputs: usize,
+}
+
+/// How many ports of each kind a top module has.
+pub(crate) fn counts_of(interface: &Interface) -> Counts
+    ensures counts { AreCounts result (shape_of interface.now) }
+    ensures small { result.kernels + result.scalars < 2 ^ 63 }
+{
+    Counts {
+        kernels: interface.kernels.as_slice().len(),
+        scalars: interface.scalars.as_slice().len(),
+        inputs: interface.inputs.as_slice().len(),
+        outputs: interface.outputs.as_slice().len(),
+    }
 }
 
 /// What a call gives. Past the end of a list nothing is offered, accepted or held.
@@ -40,7 +56,7 @@ pub(crate) enum Source {
 }
 
 /// Gives each input among the ports its value.
-pub(crate) fn drive(ports: &[Port], counts: Counts, given: &Given<'_>, values: &mut [u128])
+pub(crate) fn drive(ports: &[Port], counts: Counts, given: &Given<'_>, values: &mut Values)
     requires counted { port_count counts ≡ length ports.now }
     requires nets { (i : ℕ) (p : Port) → slice_get ports.now i ≡ Some p → p.net < length values.old }
     requires apart { AreApart ports.now }
@@ -48,7 +64,7 @@ pub(crate) fn drive(ports: &[Port], counts: Counts, given: &Given<'_>, values: &
 {
     for (number, port) in ports.iter().enumerate() {
         if !port.output {
-            values[port.net.index()] = word_of(given, source_at(counts, number));
+            values.set(port.net, word_of(given, source_at(counts, number)));
         }
     }
 }
@@ -114,13 +130,13 @@ fn word_of(given: &Given<'_>, source: Source) -> u128
     }
 }
 
-fn bit_at(tests: &[bool], k: usize) -> u128
+pub(crate) fn bit_at(tests: &[bool], k: usize) -> u128
     ensures { result ≡ bit (slice_index_or tests.now k false) }
 {
     bit_of(k < tests.len() && tests[k])
 }
 
-fn bit_of(test: bool) -> u128
+pub(crate) fn bit_of(test: bool) -> u128
     ensures { result ≡ bit test }
 {
     if test { 1 } else { 0 }

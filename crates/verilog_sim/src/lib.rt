@@ -6,25 +6,32 @@
 //! (9.2.2). The meaning that the contracts speak of stands in the crate `rtl_ir`.
 #![tactic(auto)]
 
+mod batch;
 mod cells;
 mod clock;
 mod compile;
-mod counts;
+mod drive;
 mod error;
 mod evaluate;
 mod flatten;
 mod given;
+mod laws;
+mod level;
 mod line;
 mod memory;
 mod moved;
+mod narrow;
 mod offer;
+mod operations;
 mod order;
 mod parts;
 mod place;
 mod settle;
 mod sim;
 mod start;
+mod values;
 
 pub use error::SimError;
+pub use laws::cells_by_instances;
 pub use offer::{Event, Offer};
 pub use sim::Sim;

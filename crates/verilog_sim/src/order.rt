@@ -6,7 +6,8 @@ ghost use Rattle.verilog_sim.specs.Runnable.{IsRunnable, IsOrderOf};
 ghost use Rattle.verilog_sim.specs.Drivers.{AreDrivers, IsGathered};
 ghost use Rattle.verilog_sim.specs.Feeding.{AreMarkedFrom, AreReadsMarked, IsFeeding, marked_of};
 
-use digraph::{Found, rank};
+use crate::level::by_level;
+use digraph::{Found, Row, rank};
 use mx_base::{List, NoMemory};
 use rtl_ir::{Assign, Expr, Module, NetId};
 use std::alloc::Global;
@@ -14,7 +15,7 @@ use std::alloc::Global;
 /// Which nets each net reads, and the number of its assignment where it has one.
 #[derive(Drop)]
 struct Drivers {
-    graph: Vec<List<u32>>,
+    graph: Vec<Row<u32>>,
     by_net: Vec<Option<usize>>,
 }
 
@@ -33,7 +34,8 @@ pub(crate) fn both_orders(alloc: Global, module: &Module, net: NetId) -> Result<
     requires net { net < length module.now.nets }
     ensures { IfOk result (λ o. IsOrderOf module.now o.all.items × IsFeeding o.all.items o.feeding.items net) }
 {
-    let all = in_order(alloc, module)?;
+    let order = in_order(alloc, module)?;
+    let all = by_level(alloc, module, order.as_slice())?;
     let marks = marks_of(alloc, module, all.as_slice(), net)?;
     let feeding = marked(alloc, all.as_slice(), marks.as_slice())?;
     Ok(Orders { all, feeding })
@@ -67,19 +69,19 @@ fn drivers_of(alloc: Global, module: &Module) -> Result<Drivers, NoMemory>
     let mut by_net = undriven(alloc, module.nets.len())?;
     for (k, assign) in module.assigns.as_slice().iter().enumerate() {
         let reads = operands(alloc, &assign.expr)?;
-        graph[assign.target.index()] = reads;
+        graph[assign.target.index()] = Row::own(reads);
         by_net[assign.target.index()] = Some(k);
     }
     Ok(Drivers { graph, by_net })
 }
 
 /// The graph of so many nodes that read nothing.
-fn unread(alloc: Global, nodes: usize) -> Result<Vec<List<u32>>, NoMemory>
+fn unread(alloc: Global, nodes: usize) -> Result<Vec<Row<u32>>, NoMemory>
     ensures { IfOk result (λ g. g.items ≡ replicate nodes []) }
 {
     let mut graph = Vec::new(alloc);
     for _node in 0..nodes {
-        graph.push(List::new(alloc))?;
+        graph.push(Row::own(List::new(alloc)))?;
     }
     Ok(graph)
 }

@@ -4,20 +4,58 @@ ghost use Rattle.rtl_ir.specs.declared.design.Module.{Module};
 ghost use Rattle.rtl_ir.specs.declared.design.Assign.{Assign};
 ghost use Rattle.verilog_sim.specs.Lines.{IsSafe};
 ghost use Rattle.verilog_sim.specs.Compiled.{AreLinesOf};
+ghost use Rattle.verilog_sim.specs.Batches.{lines_in, lines_of_all, Advances};
 ghost use Rattle.verilog_sim.specs.Settled.{IsInOrder, AreWords, Settles};
 
+use crate::batch::Batch;
 use crate::line::{Line, value_of};
 use crate::memory::Memory;
+use crate::values::Values;
 
-/// Gives each target of the lines its value, in their order.
-pub(crate) fn settle(lines: &[Line], literals: &[u128], memories: &[Memory], values: &mut [u128])
-    requires safe { All (IsSafe (length values.old) (length memories.now) (length literals.now)) lines.now }
+/// Gives each target of the lines of these batches its value, in their order.
+pub(crate) fn settle(batches: &[Batch], literals: &[u128], memories: &[Memory], values: &mut Values)
+    requires safe { All (IsSafe (length values.old) (length memories.now) (length literals.now)) (lines_of_all batches.now) }
     // the assignments, in this order, of each module whose lines these are
-    ensures { (m : Module) (assigns : List Assign) → AreLinesOf m literals.now assigns lines.now → IsInOrder m assigns
+    ensures { (m : Module) (assigns : List Assign) → AreLinesOf m literals.now assigns (lines_of_all batches.now) → IsInOrder m assigns
         → AreWords m values.old memories.now → Settles m assigns memories.now values.old values.new }
+{
+    for batch in batches {
+        settle_batch(batch, literals, memories, values);
+    }
+}
+
+fn settle_batch(batch: &Batch, literals: &[u128], memories: &[Memory], values: &mut Values)
+    requires safe { All (IsSafe (length values.old) (length memories.now) (length literals.now)) (lines_in batch.now) }
+    ensures advances { Advances literals.now (lines_in batch.now) memories.now values.old values.new }
+    ensures size { length values.new ≡ length values.old }
+{
+    match batch {
+        Batch::General(lines) => settle_lines(lines.as_slice(), literals, memories, values),
+        Batch::Aliases(entries) => values.settle(entries.as_slice(), memories),
+        Batch::Complements(entries) => values.settle(entries.as_slice(), memories),
+        Batch::Sums(entries) => values.settle(entries.as_slice(), memories),
+        Batch::Differences(entries) => values.settle(entries.as_slice(), memories),
+        Batch::Products(entries) => values.settle(entries.as_slice(), memories),
+        Batch::Conjunctions(entries) => values.settle(entries.as_slice(), memories),
+        Batch::Disjunctions(entries) => values.settle(entries.as_slice(), memories),
+        Batch::ExclusiveOrs(entries) => values.settle(entries.as_slice(), memories),
+        Batch::Equalities(entries) => values.settle(entries.as_slice(), memories),
+        Batch::Orders(entries) => values.settle(entries.as_slice(), memories),
+        Batch::Concatenations(entries) => values.settle(entries.as_slice(), memories),
+        Batch::PartSelects(entries) => values.settle(entries.as_slice(), memories),
+        Batch::Choices(entries) => values.settle(entries.as_slice(), memories),
+        Batch::MemoryReads(entries) => values.settle(entries.as_slice(), memories),
+    }
+}
+
+/// Gives each target of these lines its value, in their order.
+fn settle_lines(lines: &[Line], literals: &[u128], memories: &[Memory], values: &mut Values)
+    requires safe { All (IsSafe (length values.old) (length memories.now) (length literals.now)) lines.now }
+    ensures advances { Advances literals.now lines.now memories.now values.old values.new }
+    ensures size { length values.new ≡ length values.old }
 {
     for line in lines {
         let value = value_of(*line, literals, memories, values);
-        values[line.target.index()] = value;
+        values.set(line.target, value);
     }
 }

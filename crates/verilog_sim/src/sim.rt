@@ -3,6 +3,7 @@ ghost use Rattle.std.specs.Prelude.{◌≡◌, ℕ, ◌+◌, ◌^◌, ◌<◌, �
 ghost use Rattle.rtl_ir.specs.declared.design.Module.{Module};
 ghost use Rattle.rtl_ir.specs.Value.{width_of};
 ghost use Rattle.rtl_ir.specs.Flat.{top_of};
+ghost use Rattle.rtl_ir.specs.Interfaces.{IsInterface, nets_of};
 ghost use Rattle.rtl_ir.specs.Ports.{Shape, HasShape, outer_of};
 ghost use Rattle.rtl_ir.specs.Rules.{IsAccepted, AllHold};
 ghost use Rattle.verilog_sim.specs.State.{contents};
@@ -12,17 +13,17 @@ ghost use Rattle.verilog_sim.specs.Start.{all_cells, IsFilled, IsRefusal, filled
 
 use crate::cells::count_cells;
 use crate::compile::{Program, compile};
-use crate::counts::counts_of;
 use crate::evaluate::{is_done, net_of_last, step, tell};
 use crate::flatten::{Flat, flatten};
-use crate::given::{Counts, Given};
+use crate::given::{Counts, Given, counts_of};
 use crate::memory::Memory;
 use crate::order::both_orders;
 use crate::place::Place;
 use crate::start::{memories, registers};
+use crate::values::Values;
 use crate::{Event, Offer, SimError};
 use mx_base::List;
-use rtl_ir::{Design, Update};
+use rtl_ir::{Design, Interface, Update};
 use std::alloc::Global;
 use std::marker::Model;
 
@@ -43,7 +44,7 @@ pub struct Sim<'a> {
     steady: Vec<u128>,
     held: Vec<u128>,
     memories: Vec<Memory>,
-    values: Vec<u128>,
+    values: Values,
 }
 
 impl<'a> Model for Sim<'a> {
@@ -63,11 +64,11 @@ impl<'a> Model for Sim<'a> {
       memories = a.memories.items;
     } };
 
-    ghost invariant = { λ a. Simulates a.design.now a.counts a.program a.updates a.places.items a.steady.items a.held.items a.values.items a.memories.items };
+    ghost invariant = { λ a. Simulates a.design.now a.counts a.program a.updates a.places.items a.steady.items a.held.items a.values a.memories.items };
 }
 
 impl<'a> Sim<'a> {
-    /// A simulator of an accepted design. Each register and each memory word holds the low bits of
+    /// A simulator of an accepted design, whose top module has these ports. Each register and each memory word holds the low bits of
     /// `fill`, and each port that keeps one value is 0.
     ///
     /// `TooManyCells` comes only where the design has more than 2^26 wires, registers and memory
@@ -75,10 +76,16 @@ impl<'a> Sim<'a> {
     /// `NoMemory` comes where there is no memory to count them, 8 bytes for a module, or for what the
     /// simulator holds: 16 bytes for a memory word, and some more for a net and for what gives it its
     /// value.
-    pub fn new(alloc: Global, design: &'a Design, fill: u128) -> Result<Self, SimError>
+    pub fn new(
+        alloc: Global,
+        design: &'a Design,
+        interface: &Interface,
+        fill: u128,
+    ) -> Result<Self, SimError>
         requires accepted { IsAccepted design.now }
-        requires shape { (m : Module) × (s : Shape) × (top_of design.now ≡ Some m) × HasShape m s }
+        requires ports { (m : Module) × (top_of design.now ≡ Some m) × IsInterface m interface.now }
         ensures design { IfOk result (λ sim. sim.design ≡ design.now) }
+        ensures nets { IfOk result (λ sim. sim.outer ≡ nets_of interface.now) }
         ensures outer { IfOk result (λ sim. (m : Module) (s : Shape) → top_of design.now ≡ Some m → HasShape m s → sim.outer ≡ outer_of s m) }
         ensures steady { IfOk result (λ sim. sim.steady ≡ map (λ n. 0) sim.outer.steady) }
         ensures filled { IfOk result (λ sim. (m : Module) → top_of design.now ≡ Some m → IsFilled m fill (contents sim [])) }
@@ -91,7 +98,7 @@ impl<'a> Sim<'a> {
         if cells > MOST_CELLS {
             return Err(SimError::TooManyCells(cells));
         }
-        let counts = counts_of(design.top());
+        let counts = counts_of(interface);
         let Flat { module, places } = flatten(alloc, design)?;
         let done = net_of_last(module.ports.as_slice());
         let orders = both_orders(alloc, &module, done)?;
@@ -103,7 +110,7 @@ impl<'a> Sim<'a> {
             steady: vec![in alloc; 0; counts.kernels + counts.scalars]?,
             held: registers(alloc, &module, fill)?,
             memories: memories(alloc, &module, fill)?,
-            values: vec![in alloc; 0; module.nets.len()]?,
+            values: Values::zeros(alloc, module.nets.len())?,
             updates: module.updates,
         })
     }
@@ -140,7 +147,7 @@ impl<'a> Sim<'a> {
             &given,
             self.held.as_mut_slice(),
             self.memories.as_mut_slice(),
-            self.values.as_mut_slice(),
+            &mut self.values,
         );
     }
 
@@ -165,7 +172,7 @@ impl<'a> Sim<'a> {
             &given,
             self.held.as_slice(),
             self.memories.as_slice(),
-            self.values.as_mut_slice(),
+            &mut self.values,
         )
     }
 
@@ -199,8 +206,8 @@ impl<'a> Sim<'a> {
             &given,
             self.held.as_mut_slice(),
             self.memories.as_mut_slice(),
-            self.values.as_mut_slice(),
+            &mut self.values,
         );
-        tell(ports, self.counts, self.values.as_slice(), events);
+        tell(ports, self.counts, &self.values, events);
     }
 }

@@ -1,4 +1,4 @@
-use Rattle.std.proofs.Common.{◌≡◌, ℕ, subst, length, get_or, ap, arith}
+use Rattle.std.proofs.Common.{◌≡◌, ◌∙◌, sym, subst, length, get_or, ap, arith}
 use Rattle.verilog_sim.specs.Contents.{family_of}
 use Rattle.verilog_sim.specs.Updates.{IsTargetSafe}
 use Rattle.verilog_sim.proofs.Writes.{memory_written}
@@ -7,9 +7,7 @@ use Rattle.verilog_sim.proofs.clock.write.Goals as goal
 pub returns-in-Cell : goal.returns-in-Cell
 returns-in-Cell c =
     let safe = subst (IsTargetSafe (length c.args.values.now) (length c.args.memories.now)) c.in-Cell.is c.requires.safe.target in
-    let on : get_or c.args.values.now c.args.update.now.enable 0 ≡ 1 = subst (λ (n : ℕ). get_or c.args.values.now n 0 ≡ 1) c.index.ensures.number c.if-values-index-eq1.true in
+    let on : get_or c.args.values.now c.args.update.now.enable 0 ≡ 1 = sym c.get.ensures ∙ c.if-get-eq1.true in
     let mem : c.index-in-Cell.result ≡ c.in-Cell.k = c.index-in-Cell.ensures.number in
-    let place : c.index-in-Cell-2.result ≡ c.in-Cell.address = c.index-in-Cell-2.ensures.number in
-    let word : c.index-then-values-index-eq1.result ≡ c.args.update.now.value = c.index-then-values-index-eq1.ensures.number in
-    rw (on, c.in-Cell.is, ← mem, ← place, ← word)
-    (λ m depths. memory_written m (family_of c.args.values.now) c.args.held.now c.args.memories.now c.index-in-Cell.result (get_or c.args.values.now c.index-in-Cell-2.result 0) (get_or c.args.values.now c.index-then-values-index-eq1.result 0) (get_or c.args.memories.now c.index-in-Cell.result c.index-memories-index.result) c.write.new.self (omega (arith, mem, safe.0)) (ap (get_or c.args.memories.now c.index-in-Cell.result) c.index-memories-index.is) c.write.ensures depths)
+    rw (on, c.in-Cell.is, ← mem, ← c.get-in-Cell.ensures, ← c.get-word.ensures)
+    (λ m depths. memory_written m (family_of c.args.values.now) c.args.held.now c.args.memories.now c.index-in-Cell.result c.get-in-Cell.result c.get-word.result (get_or c.args.memories.now c.index-in-Cell.result c.index-memories-index.result) c.write.new.self (omega (arith, mem, safe.0)) (ap (get_or c.args.memories.now c.index-in-Cell.result) c.index-memories-index.is) c.write.ensures depths)

@@ -10,6 +10,7 @@ use Rattle.verilog_sim.proofs.Updating.{load_safe}
 use Rattle.verilog_sim.proofs.Compiling.{lines_safe}
 use Rattle.verilog_sim.proofs.Outer.{outer_same, given_fits}
 use Rattle.verilog_sim.proofs.Evaluated.{loaded_words, driven_words, by_lines}
+use Rattle.verilog_sim.specs.Batches.{lines_of_all}
 use Rattle.verilog_sim.proofs.evaluate.evaluate.Goals as goal
 
 pub load-requires : goal.load-requires
@@ -37,7 +38,7 @@ settle-requires c =
     let p = r.simulable in
     let nets : length c.drive.new.values ≡ length c.requires.0.nets = c.drive.ensures.size ∙ c.load.ensures.size ∙ r.kept.words.nets in
     rw (nets, r.kept.blocks)
-    (record { safe = lines_safe c.requires.0 c.args.literals.now c.requires.1 c.args.lines.now p.runnable c.requires.3 c.requires.4 })
+    (record { safe = lines_safe c.requires.0 c.args.literals.now c.requires.1 (lines_of_all c.args.batches.now) p.runnable c.requires.3 c.requires.4 })
 
 pub returns : goal.returns
 returns c = λ m assigns r part lines.

@@ -1,20 +1,56 @@
-use Rattle.std.proofs.Common.{◌≡◌, Some, length, refl, sym, subst, arith}
+use Rattle.std.proofs.Common.{◌≡◌, ◌+◌, ◌++◌, ◌<◌, List, Some, [], ◌∷◌, length, length-append, take, get_or, refl, sym, ap, subst, ◌∙◌, arith}
 use Rattle.std.specs.Prelude.{slice_get}
+use Rattle.std.specs.List.{All}
 use Rattle.std.proofs.lemmas.Option.{slice_get_read}
+use Rattle.std.proofs.lemmas.List.{take_more, take_all, get_or_append_left, get_or-append-add}
+use Rattle.verilog_sim.specs.declared.batch.Batch.{Batch}
+use Rattle.verilog_sim.specs.declared.line.Line.{Line}
 use Rattle.verilog_sim.specs.Lines.{IsSafe}
-use Rattle.verilog_sim.proofs.InOrder.{at_start, one_line, at_last}
+use Rattle.verilog_sim.specs.Compiled.{AreLinesOf}
+use Rattle.verilog_sim.specs.Batches.{lines_in, lines_of_all}
+use Rattle.verilog_sim.specs.Settled.{Progress}
+use Rattle.verilog_sim.proofs.Batching.{lines_around, lines_more}
+use Rattle.verilog_sim.proofs.InOrder.{at_start, at_last}
 use Rattle.verilog_sim.proofs.settle.settle.Goals as goal
 
-pub loop-line-init : goal.loop-line-init
-loop-line-init c = λ m assigns are o h. at_start m assigns c.args.memories.now c.args.values.now h
+-- the middle of what holds of all items
+middle : {A : Type 0} (P : A → Type 0) (xs ys zs : List A) → All P ((xs ++ ys) ++ zs) → All P ys
+middle P xs ys zs h k d lt =
+    let within : length xs + k < length (xs ++ ys) = omega (arith, length-append xs ys) in
+    let e : get_or ((xs ++ ys) ++ zs) (length xs + k) d ≡ get_or ys k d = get_or_append_left (xs ++ ys) zs d (length xs + k) within ∙ get_or-append-add xs ys k d in
+    subst P e (h (length xs + k) d (omega (arith, length-append (xs ++ ys) zs)))
 
-pub loop-line-preserved : goal.loop-line-preserved
-loop-line-preserved c =
-    let l = c.line-item.result in
-    let i = c.loop-line.line-index in
-    let at : slice_get c.args.lines.now i ≡ Some l = slice_get_read c.args.lines.now (length c.args.lines.now) i l refl c.loop-line-test.true c.line-item.is in
-    let safe = subst (IsSafe (length c.args.values.now) (length c.args.memories.now) (length c.args.literals.now)) (sym c.line-item.is) (c.requires.safe i l c.loop-line-test.true) in
-    λ m assigns are o h. rw c.index.ensures.number (one_line m c.args.literals.now assigns c.args.memories.now c.args.lines.now c.args.values.now c.loop-line.values i l c.value_of-value.result are o h at (omega (arith, safe.target)) safe.some safe.at_most c.value_of-value.ensures (c.loop-line.invariant m assigns are o h))
+pub settle_batch-requires : goal.settle_batch-requires
+settle_batch-requires c =
+    let batches = c.args.batches.now in
+    let i = c.loop-batch.batch-index in
+    let b = c.batch-item.result in
+    let at : slice_get batches i ≡ Some b = slice_get_read batches (length batches) i b refl c.loop-batch-test.true c.batch-item.is in
+    let around = lines_around batches i b at in
+    rw c.loop-batch.invariant.0
+    (record { safe = middle (IsSafe (length c.args.values.now) (length c.args.memories.now) (length c.args.literals.now)) (lines_of_all (take i batches)) (lines_in b) around.0 (subst (All (IsSafe (length c.args.values.now) (length c.args.memories.now) (length c.args.literals.now))) around.1 c.requires.safe) })
+
+pub loop-batch-init : goal.loop-batch-init
+loop-batch-init c = (refl, λ m assigns are o h. at_start m assigns c.args.memories.now c.args.values.now h)
+
+pub loop-batch-preserved : goal.loop-batch-preserved
+loop-batch-preserved c = (
+  c.settle_batch.ensures.size ∙ c.loop-batch.invariant.0,
+  λ m assigns are o h.
+      let batches = c.args.batches.now in
+      let i = c.loop-batch.batch-index in
+      let b = c.batch-item.result in
+      let at : slice_get batches i ≡ Some b = slice_get_read batches (length batches) i b refl c.loop-batch-test.true c.batch-item.is in
+      let around = lines_around batches i b at in
+      let parts = subst (AreLinesOf m c.args.literals.now assigns) around.1 are in
+      let more : lines_of_all (take (i + 1) batches) ≡ lines_of_all (take i batches) ++ lines_in b = ap lines_of_all (take_more batches i b c.loop-batch-test.true ∙ ap (λ (x : Batch). take i batches ++ x ∷ []) (sym c.batch-item.is)) ∙ lines_more (take i batches) b in
+      let done = c.settle_batch.ensures.advances m assigns c.args.values.now (lines_of_all (take i batches)) around.0 parts o h (c.loop-batch.invariant.1 m assigns are o h) in
+      subst (λ (ls : List Line). Progress m assigns c.args.memories.now c.args.values.now c.settle_batch.new.values (length ls)) (sym more) done,
+)
 
 pub returns : goal.returns
-returns c = λ m assigns are o h. at_last m c.args.literals.now assigns c.args.memories.now c.args.lines.now c.args.values.now c.loop-line.values c.loop-line.line-index are (omega arith) (c.loop-line.invariant m assigns are o h)
+returns c = λ m assigns are o h.
+    let batches = c.args.batches.now in
+    let all : lines_of_all batches ≡ lines_of_all (take c.loop-batch.batch-index batches) = ap lines_of_all (sym (take_all c.loop-batch.batch-index batches c.loop-batch-test.false)) in
+    let size = ap length all in
+    at_last m c.args.literals.now assigns c.args.memories.now (lines_of_all batches) c.args.values.now c.loop-batch.values (length (lines_of_all (take c.loop-batch.batch-index batches))) are (omega (arith, size)) (c.loop-batch.invariant.1 m assigns are o h)

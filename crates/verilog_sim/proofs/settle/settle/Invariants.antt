@@ -1,10 +1,10 @@
-use Rattle.std.proofs.Common.{List}
+use Rattle.std.proofs.Common.{◌≡◌, List, length, take}
 use Rattle.rtl_ir.specs.declared.design.Module.{Module}
 use Rattle.rtl_ir.specs.declared.design.Assign.{Assign}
 use Rattle.verilog_sim.specs.Compiled.{AreLinesOf}
-use Rattle.verilog_sim.specs.Settled.{IsInOrder, AreWords}
-use Rattle.verilog_sim.proofs.InOrder.{Progress}
+use Rattle.verilog_sim.specs.Batches.{lines_of_all}
+use Rattle.verilog_sim.specs.Settled.{IsInOrder, AreWords, Progress}
 use Rattle.verilog_sim.proofs.settle.settle.Given as goal
 
-abbrev pub invariant-loop-line : goal.invariant-loop-line
-invariant-loop-line l = (m : Module) (assigns : List Assign) → AreLinesOf m l.literals assigns l.lines → IsInOrder m assigns → AreWords m l.fn.values l.memories → Progress m assigns l.memories l.fn.values l.values l.line-index
+abbrev pub invariant-loop-batch : goal.invariant-loop-batch
+invariant-loop-batch l = (length l.values ≡ length l.fn.values) × ((m : Module) (assigns : List Assign) → AreLinesOf m l.literals assigns (lines_of_all l.batches) → IsInOrder m assigns → AreWords m l.fn.values l.memories → Progress m assigns l.memories l.fn.values l.values (length (lines_of_all (take l.batch-index l.batches))))

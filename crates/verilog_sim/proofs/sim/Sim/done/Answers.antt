@@ -1,5 +1,4 @@
 use Rattle.std.proofs.Common.{◌≡◌, ℕ, false, eqb, List, [], Some, get_or, refl, subst, sym, ap, ◌∙◌}
-use Rattle.std.specs.Vec.{with_items}
 use Rattle.rtl_ir.specs.declared.design.Module.{Module}
 use Rattle.rtl_ir.specs.declared.design.Port.{Port}
 use Rattle.rtl_ir.specs.Flat.{top_of}
@@ -7,14 +6,14 @@ use Rattle.verilog_sim.specs.State.{State}
 use Rattle.verilog_sim.specs.Calls.{IsDone}
 use Rattle.verilog_sim.specs.Simulates.{IsEvaluated, IsProgramOf, last_net}
 use Rattle.verilog_sim.specs.Settled.{AreWords}
-use Rattle.verilog_sim.proofs.Edges.{outer_top, back, kept_back, none_offered, ready_at, kept_on, done_is}
+use Rattle.verilog_sim.proofs.Edges.{outer_top, kept_back, none_offered, ready_at, kept_on, done_is}
 use Rattle.verilog_sim.proofs.sim.Sim.done.Goals as goal
 
 pub is_done-requires : goal.is_done-requires
 is_done-requires c =
     let x = c.self.inside in
     let s = c.self.invariant in
-    let r = ready_at s c.as_slice-ports.result.now c.as_slice-2.result.now c.as_slice.result.now c.as_slice-3.result.now c.as_mut_slice.result.now c.as_slice-4.result.now [] c.top.result.now c.top.ensures c.as_slice-ports.ensures c.as_slice-2.ensures c.as_slice.ensures.value c.as_slice-3.ensures.value c.as_mut_slice.ensures.value c.as_slice-4.ensures.value (none_offered c.top.result.now (outer_top x.design.now x.counts)) in
+    let r = ready_at s c.as_slice-ports.result.now c.as_slice-2.result.now c.as_slice.result.now c.as_slice-3.result.now x.values c.as_slice-4.result.now [] c.top.result.now c.top.ensures c.as_slice-ports.ensures c.as_slice-2.ensures c.as_slice.ensures.value c.as_slice-3.ensures.value refl c.as_slice-4.ensures.value (none_offered c.top.result.now (outer_top x.design.now x.counts)) in
     let program = subst (λ (l : List Port). IsProgramOf s.flat (last_net l) x.program) (sym r.ports_are) s.program in
     (s.flat, r, program)
 
@@ -22,21 +21,21 @@ pub invariant_of-self : goal.invariant_of-self
 invariant_of-self c =
     let x = c.self.inside in
     let s = c.self.invariant in
-    let r = ready_at s c.as_slice-ports.result.now c.as_slice-2.result.now c.as_slice.result.now c.as_slice-3.result.now c.as_mut_slice.result.now c.as_slice-4.result.now [] c.top.result.now c.top.ensures c.as_slice-ports.ensures c.as_slice-2.ensures c.as_slice.ensures.value c.as_slice-3.ensures.value c.as_mut_slice.ensures.value c.as_slice-4.ensures.value (none_offered c.top.result.now (outer_top x.design.now x.counts)) in
+    let r = ready_at s c.as_slice-ports.result.now c.as_slice-2.result.now c.as_slice.result.now c.as_slice-3.result.now x.values c.as_slice-4.result.now [] c.top.result.now c.top.ensures c.as_slice-ports.ensures c.as_slice-2.ensures c.as_slice.ensures.value c.as_slice-3.ensures.value refl c.as_slice-4.ensures.value (none_offered c.top.result.now (outer_top x.design.now x.counts)) in
     let program = subst (λ (l : List Port). IsProgramOf s.flat (last_net l) x.program) (sym r.ports_are) s.program in
     let done = c.is_done.ensures s.flat r program in
     let k = s.kept in
-    let values : c.is_done.new.values ≡ (with_items x.values c.is_done.new.values).items = sym (back x.values c.is_done.new.values c.as_mut_slice.result.now c.is_done.auto.values c.as_mut_slice.ensures.value) in
+    let values : c.is_done.new.values ≡ c.is_done.new.values = refl in
     let memories : c.as_slice-4.result.now ≡ x.memories.items = c.as_slice-4.ensures.value in
-    kept_on s x.steady.items x.held.items (with_items x.values c.is_done.new.values).items x.memories.items
-    (kept_back s.flat x.counts x.steady.items x.steady.items x.held.items x.held.items c.is_done.new.values (with_items x.values c.is_done.new.values).items x.memories.items x.memories.items
+    kept_on s x.steady.items x.held.items c.is_done.new.values x.memories.items
+    (kept_back s.flat x.counts x.steady.items x.steady.items x.held.items x.held.items c.is_done.new.values c.is_done.new.values x.memories.items x.memories.items
     (record { blocks = k.blocks; words = subst (AreWords s.flat c.is_done.new.values) memories done.words; held_nets = k.held_nets; held_words = k.held_words; steady_ports = k.steady_ports; steady_words = k.steady_words }) refl refl values refl)
 
 pub returns-clause-done : goal.returns-clause-done
 returns-clause-done c = λ m e.
     let x = c.self.inside in
     let s = c.self.invariant in
-    let r = ready_at s c.as_slice-ports.result.now c.as_slice-2.result.now c.as_slice.result.now c.as_slice-3.result.now c.as_mut_slice.result.now c.as_slice-4.result.now [] c.top.result.now c.top.ensures c.as_slice-ports.ensures c.as_slice-2.ensures c.as_slice.ensures.value c.as_slice-3.ensures.value c.as_mut_slice.ensures.value c.as_slice-4.ensures.value (none_offered c.top.result.now (outer_top x.design.now x.counts)) in
+    let r = ready_at s c.as_slice-ports.result.now c.as_slice-2.result.now c.as_slice.result.now c.as_slice-3.result.now x.values c.as_slice-4.result.now [] c.top.result.now c.top.ensures c.as_slice-ports.ensures c.as_slice-2.ensures c.as_slice.ensures.value c.as_slice-3.ensures.value refl c.as_slice-4.ensures.value (none_offered c.top.result.now (outer_top x.design.now x.counts)) in
     let program = subst (λ (l : List Port). IsProgramOf s.flat (last_net l) x.program) (sym r.ports_are) s.program in
     let done = c.is_done.ensures s.flat r program in
     let top : top_of x.design.now ≡ Some m = subst (λ (st : State). top_of st.design ≡ Some m) (sym c.self.view_is) e in

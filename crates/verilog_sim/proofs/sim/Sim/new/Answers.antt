@@ -4,6 +4,8 @@ use Rattle.rtl_ir.specs.Flat.{top_of, AllContents}
 use Rattle.std.proofs.lemmas.List.{length-map}
 use Rattle.std.specs.Prelude.{slice_get}
 use Rattle.std.proofs.lemmas.Option.{slice_get-get_or}
+use Rattle.rtl_ir.specs.Interfaces.{shape_of}
+use Rattle.verilog_sim.proofs.Counting.{counts_same}
 use Rattle.rtl_ir.specs.Ports.{HasShape, port_view, port_net}
 use Rattle.verilog_sim.specs.Feeding.{IsFeeding}
 use Rattle.verilog_sim.specs.Simulates.{last_net}
@@ -26,9 +28,6 @@ use Rattle.verilog_sim.proofs.sim.Sim.new.Goals as goal
 small_of : (cells all : ℕ) → cells ≤ 2 ^ 26 → cells ≡ min all (2 ^ 64 - 1) → all ≤ 2 ^ 26
 small_of cells all le e = omega (arith, le, e)
 
-pub counts_of-counts-requires : goal.counts_of-counts-requires
-counts_of-counts-requires c = λ i p at. (((c.requires.accepted.formed.each (length c.args.design.now.modules - 1) c.top.result.now c.top.ensures).ports i p at).net)
-
 pub both_orders-requires-clause-runnable : goal.both_orders-requires-clause-runnable
 both_orders-requires-clause-runnable c = runnable_of c.args.design.now c.in_ok-module.field-0.«module» (placed_flat c.args.design.now c.requires.accepted c.in_ok-module.ensures)
 
@@ -39,9 +38,9 @@ pub net_of_last-done-requires : goal.net_of_last-done-requires
 net_of_last-done-requires c =
     let d = c.args.design.now in
     let f = c.in_ok-module.ensures in
-    let shape = c.requires.shape.1 in
-    let to_flat : c.requires.shape.0 ≡ f.top = (let e = c.requires.shape.2 in let g = f.is_top in cc) in
-    let has_flat : HasShape f.top shape = subst (λ (x : Module). HasShape x shape) to_flat c.requires.shape.3 in
+    let shape = (shape_of c.args.interface.now) in
+    let to_flat : c.requires.ports.0 ≡ f.top = (let e = c.requires.ports.1 in let g = f.is_top in cc) in
+    let has_flat : HasShape f.top shape = subst (λ (x : Module). HasShape x shape) to_flat c.requires.ports.2.shape in
     omega (arith, length-map f.top.ports (port_view f.top), ap length has_flat, length_shape shape, ap length (ports_flat d c.requires.accepted f), ap length c.as_slice.ensures)
 
 pub both_orders-requires-clause-net : goal.both_orders-requires-clause-net
@@ -50,9 +49,9 @@ both_orders-requires-clause-net c =
     let placed = placed_flat c.args.design.now c.requires.accepted f in
     let ports = c.in_ok-module.field-0.«module».ports in
     let last = length ports - 1 in
-    let some : 0 < length ports = (let d = c.args.design.now in let shape = c.requires.shape.1 in
-    let to_flat : c.requires.shape.0 ≡ f.top = (let e = c.requires.shape.2 in let g = f.is_top in cc) in
-    let has_flat : HasShape f.top shape = subst (λ (x : Module). HasShape x shape) to_flat c.requires.shape.3 in
+    let some : 0 < length ports = (let d = c.args.design.now in let shape = (shape_of c.args.interface.now) in
+    let to_flat : c.requires.ports.0 ≡ f.top = (let e = c.requires.ports.1 in let g = f.is_top in cc) in
+    let has_flat : HasShape f.top shape = subst (λ (x : Module). HasShape x shape) to_flat c.requires.ports.2.shape in
     omega (arith, length-map f.top.ports (port_view f.top), ap length has_flat, length_shape shape, ap length (ports_flat d c.requires.accepted f))) in
     let at : slice_get ports last ≡ Some (get_or ports last (record { net = 0; output = false })) = slice_get-get_or ports last (record { net = 0; output = false }) (omega (arith, some)) in
     let lt = (placed.ports last _ at).net in
@@ -80,14 +79,12 @@ invariant_of-result c =
     let n = c.in_ok-module.field-0.«module» in
     let f = c.in_ok-module.ensures in
     let placed = placed_flat d c.requires.accepted f in
-    let shape = c.requires.shape.1 in
-    let at_top : c.requires.shape.0 ≡ c.top.result.now = (let e = c.requires.shape.2 in let g = c.top.ensures in cc) in
-    let to_flat : c.top.result.now ≡ f.top = (let e = c.top.ensures in let g = f.is_top in cc) in
-    let has : HasShape c.top.result.now shape = subst (λ (x : Module). HasShape x shape) at_top c.requires.shape.3 in
-    let has_flat : HasShape f.top shape = subst (λ (x : Module). HasShape x shape) to_flat has in
-    let counts = c.counts_of-counts.ensures.counts shape has in
+    let shape = (shape_of c.args.interface.now) in
+    let to_flat : c.requires.ports.0 ≡ f.top = (let e = c.requires.ports.1 in let g = f.is_top in cc) in
+    let has_flat : HasShape f.top shape = subst (λ (x : Module). HasShape x shape) to_flat c.requires.ports.2.shape in
+    let counts = c.counts_of-counts.ensures.counts in
     let steady : c.in_ok-vec.field-0.items ≡ replicate (c.counts_of-counts.result.kernels + c.counts_of-counts.result.scalars) 0 = search rules in
-    let values : c.in_ok-vec-2.field-0.items ≡ replicate (length c.in_ok-module.field-0.«module».nets) 0 = (let z : c.in_ok-vec-2.field-0.items ≡ replicate c.len.result 0 = search rules in z ∙ ap (λ k. replicate k 0) c.len.ensures) in
+    let values : c.in_ok-zeros.field-0 ≡ replicate (length c.in_ok-module.field-0.«module».nets) 0 = c.in_ok-zeros.ensures ∙ ap (λ k. replicate k 0) c.len.ensures in
     record {
       accepted = c.requires.accepted;
       flat = n;
@@ -110,23 +107,26 @@ invariant_of-result c =
       };
       updates_are = refl;
       has = has_flat;
-      kept = start_kept c.in_ok-module.field-0.«module» c.counts_of-counts.result c.args.fill c.in_ok-vec.field-0.items c.in_ok-registers.field-0.items c.in_ok-vec-2.field-0.items c.in_ok-memories.field-0.items c.in_ok-registers.ensures c.in_ok-memories.ensures values steady;
+      kept = start_kept c.in_ok-module.field-0.«module» c.counts_of-counts.result c.args.fill c.in_ok-vec.field-0.items c.in_ok-registers.field-0.items c.in_ok-zeros.field-0 c.in_ok-memories.field-0.items c.in_ok-registers.ensures c.in_ok-memories.ensures values steady;
     }
 
 pub returns-clause-outer : goal.returns-clause-outer
 returns-clause-outer c = λ m s e h.
-    let same : c.top.result.now ≡ m = (let f = c.top.ensures in cc) in
-    sym (top_outer c.args.design.now m c.counts_of-counts.result s e (c.counts_of-counts.ensures.counts s (subst (λ (x : Module). HasShape x s) (sym same) h)))
+    let same : c.requires.ports.0 ≡ m = (let f = c.requires.ports.1 in cc) in
+    sym (top_outer c.args.design.now m c.counts_of-counts.result s e (counts_same m c.counts_of-counts.result (shape_of c.args.interface.now) s (subst (λ (x : Module). HasShape x (shape_of c.args.interface.now)) same c.requires.ports.2.shape) h c.counts_of-counts.ensures.counts))
+
+pub returns-clause-nets : goal.returns-clause-nets
+returns-clause-nets c =
+    let nets = c.requires.ports.2.nets in
+    sym (nets ∙ top_outer c.args.design.now c.requires.ports.0 c.counts_of-counts.result (shape_of c.args.interface.now) c.requires.ports.1 c.counts_of-counts.ensures.counts)
 
 pub returns-clause-steady : goal.returns-clause-steady
 returns-clause-steady c =
-    let m = c.top.result.now in
-    let same : c.requires.shape.0 ≡ c.top.result.now = (let e = c.requires.shape.2 in let f = c.top.ensures in cc) in
-    let has : HasShape c.top.result.now c.requires.shape.1 = subst (λ (x : Module). HasShape x c.requires.shape.1) same c.requires.shape.3 in
-    let counts = c.counts_of-counts.ensures.counts c.requires.shape.1 has in
+    let m = c.requires.ports.0 in
+    let counts = c.counts_of-counts.ensures.counts in
     let steady : c.in_ok-vec.field-0.items ≡ replicate (c.counts_of-counts.result.kernels + c.counts_of-counts.result.scalars) 0 = search rules in
     let size : c.counts_of-counts.result.kernels + c.counts_of-counts.result.scalars ≡ length (outer_top c.args.design.now c.counts_of-counts.result).steady =
-    subst (λ (o : Outer). c.counts_of-counts.result.kernels + c.counts_of-counts.result.scalars ≡ length o.steady) (top_outer c.args.design.now m c.counts_of-counts.result c.requires.shape.1 c.top.ensures counts) (omega (arith, length_steady m c.requires.shape.1, counts.kernels, counts.scalars)) in
+    subst (λ (o : Outer). c.counts_of-counts.result.kernels + c.counts_of-counts.result.scalars ≡ length o.steady) (top_outer c.args.design.now m c.counts_of-counts.result (shape_of c.args.interface.now) c.requires.ports.1 counts) (omega (arith, length_steady m (shape_of c.args.interface.now), counts.kernels, counts.scalars)) in
     steady ∙ ap (λ n. replicate n 0) size ∙ sym (map_zero (outer_top c.args.design.now c.counts_of-counts.result).steady)
 
 pub returns-clause-filled : goal.returns-clause-filled

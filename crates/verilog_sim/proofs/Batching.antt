@@ -1,0 +1,59 @@
+-- One more line behind those of a batch.
+use Rattle.std.proofs.Common.{◌≡◌, ℕ, zero, suc, true, List, [], ◌∷◌, ◌++◌, map, take, Some, sym, ap, ◌∙◌, subst, append_assoc, append-nil}
+use Rattle.std.specs.Prelude.{slice_get}
+use Rattle.std.specs.List.{All}
+use Rattle.std.proofs.lemmas.Option.{slice_get_within, get_or_from_slice_get}
+use Rattle.std.proofs.lemmas.List.{map-append}
+use Rattle.verilog_sim.specs.declared.line.Step.{Step}
+use Rattle.verilog_sim.specs.declared.line.Line.{Line}
+use Rattle.verilog_sim.specs.declared.batch.Entry.{Entry}
+use Rattle.verilog_sim.specs.declared.batch.Batch.{Batch}
+use Rattle.verilog_sim.specs.Batches.{line_of, lines_in, lines_of_all, Advances}
+use Rattle.verilog_sim.specs.Lines.{IsSafe}
+
+-- an entry of a line says what the line says
+entry_line : {R : Type 0} (step : R → Step) (e : Entry R) (r : R) (l : Line) → e ≡ record { target = l.target; width = l.width; reads = r } → l.narrow ≡ true → l.step ≡ step r → line_of step e ≡ l
+entry_line step e r l is narrow same = ap (line_of step) is ∙ ap (λ b. record { target = l.target; width = l.width; narrow = b; step = step r }) (sym narrow) ∙ ap (λ s. record { target = l.target; width = l.width; narrow = l.narrow; step = s }) (sym same)
+
+pub entry_added :
+    {R : Type 0} (step : R → Step) (b : Batch) (entries more : List (Entry R)) (e : Entry R) (r : R) (l : Line)
+    → lines_in b ≡ map (line_of step) entries → more ≡ entries ++ e ∷ [] → e ≡ record { target = l.target; width = l.width; reads = r } → l.narrow ≡ true → l.step ≡ step r
+    → map (line_of step) more ≡ lines_in b ++ l ∷ []
+entry_added step b entries more e r l was now is narrow same =
+    ap (map (line_of step)) now
+    ∙ map-append (line_of step) entries (e ∷ [])
+    ∙ ap (λ x. map (line_of step) entries ++ x ∷ []) (entry_line step e r l is narrow same)
+    ∙ ap (λ x. x ++ l ∷ []) (sym was)
+
+-- the lines of one more batch
+pub lines_more : (bs : List Batch) (b : Batch) → lines_of_all (bs ++ b ∷ []) ≡ lines_of_all bs ++ lines_in b
+lines_more [] b = append-nil (lines_in b)
+lines_more (c ∷ bs) b = ap (λ x. lines_in c ++ x) (lines_more bs b) ∙ sym (append_assoc (lines_in c) (lines_of_all bs) (lines_in b))
+
+-- all lines are those of the batches before one, its own and those behind it
+pub lines_around : (bs : List Batch) (i : ℕ) (b : Batch) → slice_get bs i ≡ Some b → (rest : List Line) × (lines_of_all bs ≡ (lines_of_all (take i bs) ++ lines_in b) ++ rest)
+lines_around [] i b e = absurd (cc)
+lines_around (c ∷ bs) zero b e = let same : c ≡ b = cc in (lines_of_all bs, ap (λ x. lines_in x ++ lines_of_all bs) same)
+lines_around (c ∷ bs) (suc i) b e =
+    let r = lines_around bs i b e in
+    (r.0, ap (λ x. lines_in c ++ x) r.1 ∙ sym (append_assoc (lines_in c) (lines_of_all (take i bs) ++ lines_in b) r.0) ∙ ap (λ x. x ++ r.0) (sym (append_assoc (lines_in c) (lines_of_all (take i bs)) (lines_in b))))
+
+-- the lines of a batch are safe where those of its entries are
+pub batch_safe :
+    {R : Type 0} (step : R → Step) (n k l : ℕ) (b : Batch) (items entries : List (Entry R))
+    → lines_in b ≡ map (line_of step) items → entries ≡ items → All (IsSafe n k l) (lines_in b) → All (IsSafe n k l) (map (line_of step) entries)
+batch_safe step n k l b items entries is same = subst (All (IsSafe n k l)) (is ∙ ap (map (line_of step)) (sym same))
+
+pub batch_advances :
+    {R : Type 0} (step : R → Step) (ls : List ℕ) (memories : List (List ℕ)) (old new : List ℕ) (b : Batch) (items entries : List (Entry R))
+    → lines_in b ≡ map (line_of step) items → entries ≡ items → Advances ls (map (line_of step) entries) memories old new → Advances ls (lines_in b) memories old new
+batch_advances step ls memories old new b items entries is same = subst (λ (lines : List Line). Advances ls lines memories old new) (ap (map (line_of step)) same ∙ sym is)
+
+-- what holds of all items holds of one
+pub one_of_all : {A : Type 0} (P : A → Type 0) (xs : List A) (i : ℕ) (x : A) → All P xs → slice_get xs i ≡ Some x → P x
+one_of_all P xs i x h e = subst P (get_or_from_slice_get xs i x x e) (h i x (slice_get_within xs i x e))
+
+pub mapped_at : {A B : Type 0} (f : A → B) (xs : List A) (i : ℕ) (x : A) → slice_get xs i ≡ Some x → slice_get (map f xs) i ≡ Some (f x)
+mapped_at f [] i x e = absurd (cc)
+mapped_at f (y ∷ ys) zero x e = let same : y ≡ x = cc in ap (λ z. Some (f z)) same
+mapped_at f (y ∷ ys) (suc i) x e = mapped_at f ys i x e

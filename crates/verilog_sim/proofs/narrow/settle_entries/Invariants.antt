@@ -1,0 +1,20 @@
+use Rattle.std.proofs.Common.{◌≡◌, ℕ, ◌+◌, ◌++◌, List, length, map}
+use Rattle.rtl_ir.specs.declared.design.Module.{Module}
+use Rattle.rtl_ir.specs.declared.design.Assign.{Assign}
+use Rattle.verilog_sim.specs.declared.line.Line.{Line}
+use Rattle.verilog_sim.specs.Compiled.{AreLinesOf}
+use Rattle.verilog_sim.specs.Batches.{line_of}
+use Rattle.verilog_sim.specs.Halves.{words}
+use Rattle.verilog_sim.specs.Settled.{IsInOrder, AreWords, Progress}
+use Rattle.verilog_sim.proofs.narrow.settle_entries.Given as goal
+
+abbrev pub invariant-loop-entry : goal.invariant-loop-entry
+invariant-loop-entry g l =
+    (ls high : List ℕ)
+    → length l.fn.low ≡ length high
+    → (m : Module) (order : List Assign) (old : List ℕ) (before rest : List Line)
+    → AreLinesOf m ls order ((before ++ map (line_of g.R.Operation.step) l.entries) ++ rest)
+    → IsInOrder m order
+    → AreWords m old l.memories
+    → Progress m order l.memories old (words l.fn.low high) (length before)
+    → Progress m order l.memories old (words l.low high) (length before + l.entry-index)

@@ -1,0 +1,91 @@
+// The values that a call gives to the ports of an interface.
+ghost use Rattle.std.specs.Prelude.{◌≡◌, ℕ, ◌<◌, ◌+◌, length, Some, slice_get, slice_index, slice_index_or};
+ghost use Rattle.rtl_ir.specs.declared.interface.KernelPorts.{KernelPorts};
+ghost use Rattle.rtl_ir.specs.declared.interface.ScalarPort.{ScalarPort};
+ghost use Rattle.rtl_ir.specs.declared.interface.StreamPorts.{StreamPorts};
+ghost use Rattle.verilog_sim.specs.Calls.{nothing};
+ghost use Rattle.verilog_sim.specs.Gifts.{Every, gifts, kernel_gifts, scalar_gifts, input_gifts, output_gifts, written};
+
+use crate::Offer;
+use crate::given::{Given, bit_at, bit_of};
+use rtl_ir::{Interface, KernelPorts, ScalarPort, StreamPorts};
+
+/// Whether each kernel is held, and its ticks.
+fn drive_kernels(kernels: &[KernelPorts], given: &Given<'_>, values: &mut [u128])
+    requires nets { (k : ℕ) (x : KernelPorts) → slice_get kernels.now k ≡ Some x → (x.hold < length values.old) × (x.ticks < length values.old) }
+    ensures { values.new ≡ written values.old (kernel_gifts given.now.steady.now given.now.holds.now 0 kernels.now) }
+{
+    for (k, kernel) in kernels.iter().enumerate() {
+        values[kernel.hold.index()] = bit_at(given.holds, k);
+        values[kernel.ticks.index()] = word_at(given.steady, k);
+    }
+}
+
+/// The scalars, which stand behind the ticks of the kernels.
+fn drive_scalars(scalars: &[ScalarPort], kernels: usize, given: &Given<'_>, values: &mut [u128])
+    requires nets { (k : ℕ) (x : ScalarPort) → slice_get scalars.now k ≡ Some x → x.net < length values.old }
+    requires many { kernels + length scalars.now ≡ length given.now.steady.now }
+    ensures { values.new ≡ written values.old (scalar_gifts given.now.steady.now kernels scalars.now) }
+{
+    for (k, scalar) in scalars.iter().enumerate() {
+        values[scalar.net.index()] = word_at(given.steady, kernels + k);
+    }
+}
+
+/// What is offered at each host input.
+fn drive_inputs(inputs: &[StreamPorts], given: &Given<'_>, values: &mut [u128])
+    requires nets { (k : ℕ) (x : StreamPorts) → slice_get inputs.now k ≡ Some x → (x.word < length values.old) × (x.valid < length values.old) }
+    ensures { values.new ≡ written values.old (input_gifts given.now.offers.now 0 inputs.now) }
+{
+    for (k, input) in inputs.iter().enumerate() {
+        let offer = offer_at(given.offers, k);
+        values[input.word.index()] = offer.word;
+        values[input.valid.index()] = bit_of(offer.valid);
+    }
+}
+
+/// Whether each host output is accepted.
+fn drive_outputs(outputs: &[StreamPorts], given: &Given<'_>, values: &mut [u128])
+    requires nets { (k : ℕ) (x : StreamPorts) → slice_get outputs.now k ≡ Some x → x.ready < length values.old }
+    ensures { values.new ≡ written values.old (output_gifts given.now.accepts.now 0 outputs.now) }
+{
+    for (k, output) in outputs.iter().enumerate() {
+        values[output.ready.index()] = bit_at(given.accepts, k);
+    }
+}
+
+/// The word at a place, and 0 past the end.
+fn word_at(words: &[u128], k: usize) -> u128
+    ensures { result ≡ slice_index words.now k }
+{
+    if k < words.len() { words[k] } else { 0 }
+}
+
+/// The offer at a place, and none past the end.
+fn offer_at(offers: &[Offer], k: usize) -> Offer
+    ensures { result ≡ slice_index_or offers.now k nothing }
+{
+    if k < offers.len() {
+        offers[k]
+    } else {
+        Offer {
+            valid: false,
+            word: 0,
+        }
+    }
+}
+
+/// Gives each input of the interface its value.
+pub(crate) fn drive_ports(interface: &Interface, given: &Given<'_>, values: &mut [u128])
+    requires nets { Every (λ (g : ℕ × ℕ). g.0 < length values.old) (gifts interface.now given.now.reset given.now.steady.now given.now.offers.now given.now.accepts.now given.now.holds.now) }
+    requires many { length interface.now.kernels + length interface.now.scalars ≡ length given.now.steady.now }
+    ensures { values.new ≡ written values.old (gifts interface.now given.now.reset given.now.steady.now given.now.offers.now given.now.accepts.now given.now.holds.now) }
+{
+    values[interface.clock.index()] = 0;
+    values[interface.reset.index()] = bit_of(given.reset);
+    let kernels = interface.kernels.as_slice();
+    drive_kernels(kernels, given, values);
+    drive_scalars(interface.scalars.as_slice(), kernels.len(), given, values);
+    drive_inputs(interface.inputs.as_slice(), given, values);
+    drive_outputs(interface.outputs.as_slice(), given, values);
+}
