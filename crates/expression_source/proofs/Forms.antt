@@ -4,7 +4,7 @@ use Rattle.std.specs.Prelude.{codes, slice_get, slice_index_or}
 use Rattle.mx_base.specs.declared.span.Span.{Span}
 use Rattle.mx_bits.specs.declared.op.Op.{Op}
 use Rattle.mx_bits.specs.declared.op.Op.TheVariants.{Add, Sub, Mul, Div, And, Or, Xor}
-use Rattle.maxj_syntax.specs.declared.tree.Node.{Node as Cell}
+use Rattle.maxj_syntax.specs.Cells.{Cell}
 use Rattle.maxj_syntax.specs.declared.tree.NodeKind.TheVariants as N
 use Rattle.maxj_syntax.specs.Tree.{Tree, Node, Nil, one, two, IsAt}
 use Rattle.expression_source.specs.Source.{Name, Expression, Variable, Turned, Joined, IsExpression, IsLeaf, op_of}

@@ -1,7 +1,7 @@
 -- The statements of kernels, and kernels.
 use Rattle.std.proofs.Common.{◌≡◌, ◌∙◌, ℕ, false, List, [], ◌∷◌, ◌++◌, Some, Contains, length, refl, sym, ap, subst, arith}
 use Rattle.std.specs.Prelude.{codes, slice_get, slice_index_or}
-use Rattle.maxj_syntax.specs.declared.tree.Node.{Node as Cell}
+use Rattle.maxj_syntax.specs.Cells.{Cell}
 use Rattle.maxj_syntax.specs.declared.tree.NodeKind.TheVariants as N
 use Rattle.maxj_syntax.specs.declared.tree.Class.{Class}
 use Rattle.maxj_syntax.specs.declared.tree.Program.{Program}
@@ -318,17 +318,17 @@ abbrev pub NoSource : Program → Type 0
 NoSource program = (classes : List ClassTree) → ProgramIs program classes → (s : Source) → IsSource classes s → ⊥
 
 pub no_kernel : (program : Program) → ((c : Class) → program.classes ≡ c ∷ [] → c.manager ≡ false → ⊥) → NoSource program
-no_kernel program none classes is s h = let k = source_class program.nodes program.classes classes s is h in none k.class k.only (k.is.manager ∙ k.kernel.kernel)
+no_kernel program none classes is s h = let k = source_class program.tree program.classes classes s is h in none k.class k.only (k.is.manager ∙ k.kernel.kernel)
 
 -- the class that is known is that of the source
-known_class : (program : Program) (nodes : List Cell) (c : Class) (classes : List ClassTree) (s : Source) → nodes ≡ program.nodes → program.classes ≡ c ∷ [] → ProgramIs program classes → IsSource classes s → (t : ClassTree) × ClassIs nodes c t × IsKernel s t
+known_class : (program : Program) (nodes : List Cell) (c : Class) (classes : List ClassTree) (s : Source) → nodes ≡ program.tree → program.classes ≡ c ∷ [] → ProgramIs program classes → IsSource classes s → (t : ClassTree) × ClassIs nodes c t × IsKernel s t
 known_class program nodes c classes s q e is h =
     let k = source_class nodes program.classes classes s (subst (λ m. ClassesAre m program.classes classes) (sym q) is) h in
     let f = k.only in
     let same : k.class ≡ c = cc in
     (k.tree, subst (λ x. ClassIs nodes x k.tree) same k.is, k.kernel)
 
-pub no_head : (program : Program) (nodes : List Cell) (c : Class) (name : Name) → nodes ≡ program.nodes → program.classes ≡ c ∷ [] → name ≡ c.name → ((parameter : Name) (ts : Trees) → SomeAt nodes c.node (IsHead name parameter ts) → ⊥) → NoSource program
+pub no_head : (program : Program) (nodes : List Cell) (c : Class) (name : Name) → nodes ≡ program.tree → program.classes ≡ c ∷ [] → name ≡ c.name → ((parameter : Name) (ts : Trees) → SomeAt nodes c.node (IsHead name parameter ts) → ⊥) → NoSource program
 no_head program nodes c name q e f none classes is s h =
     let (t, i, k) = known_class program nodes c classes s q e is h in
     let same : s.name ≡ name = sym (f ∙ i.name ∙ k.name) in
@@ -339,7 +339,7 @@ abbrev pub IsHeadAt : List Cell → ℕ → Name → Name → List ℕ → Type 
 IsHeadAt nodes n name parameter statements = EachAt nodes n (λ t. (ts : Trees) × StandAt nodes statements ts × IsHead name parameter ts t)
 
 -- a source, where the head is known
-known_head : (program : Program) (nodes : List Cell) (c : Class) (name parameter : Name) (statements : List ℕ) (classes : List ClassTree) (s : Source) → nodes ≡ program.nodes → program.classes ≡ c ∷ [] → name ≡ c.name
+known_head : (program : Program) (nodes : List Cell) (c : Class) (name parameter : Name) (statements : List ℕ) (classes : List ClassTree) (s : Source) → nodes ≡ program.tree → program.classes ≡ c ∷ [] → name ≡ c.name
     → IsHeadAt nodes c.node name parameter statements → ProgramIs program classes → IsSource classes s → (ts : Trees) × (s.name ≡ name) × (s.parameter ≡ parameter) × StandAt nodes statements ts × AreStatements s ts
 known_head program nodes c name parameter statements classes s q e f head is h =
     let (t, i, k) = known_class program nodes c classes s q e is h in
@@ -347,14 +347,14 @@ known_head program nodes c name parameter statements classes s q e f head is h =
     let (p, same) = same_head k.head own in
     (ts, sym (f ∙ i.name ∙ k.name), p, st, subst (λ us. AreStatements s us) same k.are)
 
-pub no_body : (program : Program) (nodes : List Cell) (c : Class) (name parameter : Name) (statements : List ℕ) → nodes ≡ program.nodes → program.classes ≡ c ∷ [] → name ≡ c.name → IsHeadAt nodes c.node name parameter statements
+pub no_body : (program : Program) (nodes : List Cell) (c : Class) (name parameter : Name) (statements : List ℕ) → nodes ≡ program.tree → program.classes ≡ c ∷ [] → name ≡ c.name → IsHeadAt nodes c.node name parameter statements
     → NoStatements nodes statements → NoSource program
 no_body program nodes c name parameter statements q e f head none classes is s h =
     let (ts, n, p, st, a) = known_head program nodes c name parameter statements classes s q e f head is h in
     none s h.allowed ts st a
 
 -- the names of a source are allowed
-pub no_names : (program : Program) (nodes : List Cell) (c : Class) (name parameter : Name) (statements : List ℕ) (b : Body) → nodes ≡ program.nodes → program.classes ≡ c ∷ [] → name ≡ c.name
+pub no_names : (program : Program) (nodes : List Cell) (c : Class) (name parameter : Name) (statements : List ℕ) (b : Body) → nodes ≡ program.tree → program.classes ≡ c ∷ [] → name ≡ c.name
     → IsHeadAt nodes c.node name parameter statements → ((ts : Trees) → StandAt nodes statements ts → IsBody nodes b ts) → (AreAllowed name parameter b.input.variable.now → ⊥) → NoSource program
 no_names program nodes c name parameter statements b q e f head body none classes is s h =
     let (ts, n, p, st, a) = known_head program nodes c name parameter statements classes s q e f head is h in
@@ -362,9 +362,9 @@ no_names program nodes c name parameter statements b q e f head body none classe
     let apart : b.input.variable.now ≡ parameter → ⊥ = λ same. h.allowed.apart.0 (contains_first s.parameter s.variable _ (v ∙ same ∙ sym p)) in
     none (subst (λ x. IsKernelName x) n h.allowed.name, subst (λ x. IsVariable x) p h.allowed.parameter, apart)
 
-pub frame_is : (program : Program) (nodes : List Cell) (c : Class) (f : Frame) (statements : List ℕ) → nodes ≡ program.nodes → program.classes ≡ c ∷ [] → f.name.now ≡ c.name → c.manager ≡ false
+pub frame_is : (program : Program) (nodes : List Cell) (c : Class) (f : Frame) (statements : List ℕ) → nodes ≡ program.tree → program.classes ≡ c ∷ [] → f.name.now ≡ c.name → c.manager ≡ false
     → IsHeadAt nodes c.node f.name.now f.parameter.now statements → ((ts : Trees) → StandAt nodes statements ts → IsBody nodes f.body ts)
-    → (classes : List ClassTree) → ProgramIs program classes → (t : ClassTree) × (classes ≡ t ∷ []) × IsFrame program.nodes f t
+    → (classes : List ClassTree) → ProgramIs program classes → (t : ClassTree) × (classes ≡ t ∷ []) × IsFrame program.tree f t
 frame_is program nodes c f statements q e n m head body classes is =
     let (t, only, i) = only_class nodes program.classes c classes e (subst (λ k. ClassesAre k program.classes classes) (sym q) is) in
     let (ts, st, own) = head t.tree i.node in

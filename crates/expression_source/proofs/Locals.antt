@@ -3,7 +3,7 @@ use Rattle.std.proofs.Common.{◌≡◌, ◌∙◌, ◌≤◌, ◌<◌, ◌+◌,
 use Rattle.std.proofs.lemmas.List.Elements.{Contains-append_right, Contains-append_cases, Contains-push_cases}
 use Rattle.std.proofs.lemmas.List.Sums.{sum_by-append}
 use Rattle.std.specs.Str.{bytes_eq}
-use Rattle.maxj_syntax.specs.declared.tree.Node.{Node as Cell}
+use Rattle.maxj_syntax.specs.Cells.{Cell}
 use Rattle.maxj_syntax.specs.Tree.{Tree, Trees, Nil, Cons, IsAt, AreAt}
 use Rattle.expression_source.specs.declared.project.Step.{Step}
 use Rattle.expression_source.specs.Source.{Name, Expression, Variable, Turned, Joined, Local, Value, IsExpression, IsDeclaration, IsLocal, AreLocals, IsClosed, operators_of, expression_value}

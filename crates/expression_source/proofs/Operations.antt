@@ -4,7 +4,7 @@ use Rattle.std.proofs.lemmas.List.{get_or_append_left, get_or_at, length_push}
 use Rattle.std.proofs.lemmas.List.Elements.{All-push}
 use Rattle.std.specs.Prelude.{slice_index_or}
 use Rattle.mx_bits.specs.declared.op.Op.{Op}
-use Rattle.maxj_syntax.specs.declared.tree.Node.{Node as Cell}
+use Rattle.maxj_syntax.specs.Cells.{Cell}
 use Rattle.expression_source.specs.declared.project.Step.{Step}
 use Rattle.expression_source.specs.declared.project.Step.TheVariants as S
 use Rattle.expression_source.specs.declared.stop.Stop.{Stop}

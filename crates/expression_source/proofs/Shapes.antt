@@ -1,7 +1,7 @@
 -- The shapes of nodes that stand for parts of a kernel.
 use Rattle.std.proofs.Common.{◌≡◌, ◌∙◌, ℕ, List, [], ◌∷◌, Option, Some, None, IfSome, IfNone, length, sym, ap, subst}
 use Rattle.std.specs.Prelude.{codes, slice_get, slice_index_or}
-use Rattle.maxj_syntax.specs.declared.tree.Node.{Node as Cell}
+use Rattle.maxj_syntax.specs.Cells.{Cell}
 use Rattle.maxj_syntax.specs.declared.tree.NodeKind.TheVariants as N
 use Rattle.maxj_syntax.specs.Tree.{Tree, Node, Trees, two, IsAt, AreAt}
 use Rattle.expression_source.specs.Source.{Name, IsLeaf, IsPlain, IsDeclaration, IsParameter, IsCtor, IsHead, IsIoCall, IsWidth}

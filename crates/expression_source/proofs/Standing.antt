@@ -1,7 +1,7 @@
 -- What the node of a tree's number says of the tree.
 use Rattle.std.proofs.Common.{◌≡◌, ◌∙◌, ◌<◌, ◌≤◌, ℕ, List, [], ◌∷◌, Some, length, drop, refl, sym, ap, subst, arith, length-drop}
 use Rattle.std.specs.Prelude.{slice_get, slice_index_or}
-use Rattle.maxj_syntax.specs.declared.tree.Node.{Node as Cell}
+use Rattle.maxj_syntax.specs.Cells.{Cell}
 use Rattle.maxj_syntax.specs.declared.tree.NodeKind.{NodeKind}
 use Rattle.maxj_syntax.specs.Tree.{Tree, Node, Trees, Nil, Cons, one, two, IsAt, AreAt}
 use Rattle.expression_source.specs.Source.{IsLeaf}

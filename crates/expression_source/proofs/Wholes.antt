@@ -3,7 +3,7 @@ use Rattle.std.proofs.Common.{◌≡◌, ◌∙◌, ◌≤◌, ◌+◌, inl, inr
 use Rattle.std.specs.Str.{bytes_eq}
 use Rattle.std.proofs.lemmas.List.Elements.{All-nil}
 use Rattle.grammar.specs.Bytes.{decimal_value}
-use Rattle.maxj_syntax.specs.declared.tree.Node.{Node as Cell}
+use Rattle.maxj_syntax.specs.Cells.{Cell}
 use Rattle.maxj_syntax.specs.declared.tree.Program.{Program}
 use Rattle.maxj_syntax.specs.Tree.{ClassTree, ProgramIs}
 use Rattle.expression_source.specs.Source.{Name, Source, Expression, Local, Value, IsKernel, AreStatements, IsSource, IsAllowed, AreVariables, AreApart, AreClosed, IsClosed, names_after, values_after, operators_of}
@@ -126,7 +126,7 @@ pub record IsRead (program : Program) (nodes : List Cell) (f : Frame) (none numb
   pub locals : LocalsAre nodes f.parameter.now (first_stage f.body.input.variable.now numbers steps f.body.locals.now) to ls
 
 -- the frame at the nodes that the program lends
-pub frame_at : (program : Program) (nodes : List Cell) (f : Frame) → nodes ≡ program.nodes → ((classes : List ClassTree) → ProgramIs program classes → (c : ClassTree) × (classes ≡ c ∷ []) × IsFrame program.nodes f c)
+pub frame_at : (program : Program) (nodes : List Cell) (f : Frame) → nodes ≡ program.tree → ((classes : List ClassTree) → ProgramIs program classes → (c : ClassTree) × (classes ≡ c ∷ []) × IsFrame program.tree f c)
     → (classes : List ClassTree) → ProgramIs program classes → (c : ClassTree) × (classes ≡ c ∷ []) × IsFrame nodes f c
 frame_at program nodes f q h classes is = let (c, only, fr) = h classes is in (c, only, subst (λ m. IsFrame m f c) (sym q) fr)
 

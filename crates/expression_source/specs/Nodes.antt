@@ -1,6 +1,6 @@
 -- What a node of a list of nodes stands for.
 use Rattle.std.specs.Prelude.{ℕ, List}
-use Rattle.maxj_syntax.specs.declared.tree.Node.{Node as Cell}
+use Rattle.maxj_syntax.specs.Cells.{Cell}
 use Rattle.maxj_syntax.specs.Tree.{Tree, Trees, IsAt, AreAt}
 
 -- whichever tree stands at the node, this holds of it

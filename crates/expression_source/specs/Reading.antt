@@ -1,7 +1,7 @@
 -- What the readers of a kernel's parts say of one another.
 use Rattle.std.specs.Prelude.{◌≡◌, ◌≤◌, ◌<◌, ◌+◌, ℕ, false, List, [], ◌∷◌, ◌++◌, Option, Some, None, IsSome, Contains, length, sum_by, slice_index_or, All}
 use Rattle.mx_bits.specs.declared.op.Op.{Op}
-use Rattle.maxj_syntax.specs.declared.tree.Node.{Node as Cell}
+use Rattle.maxj_syntax.specs.Cells.{Cell}
 use Rattle.maxj_syntax.specs.Tree.{Tree, Trees, Cons, join, one, ClassTree, IsAt}
 use Rattle.expression_source.specs.Source.{Name, Expression, Variable, Turned, Joined, Local, Value, IsExpression, IsLocal, AreLocals, IsHead, IsInput, IsOutput, IsKernelName, IsVariable, IsPortName, IsAllowedWidth, IsClosed, operators_of, names_after, values_after, value_in, expression_value}
 use Rattle.expression_source.specs.Steps.{InOrder, HasSign, IsArithmetic, values_of}

@@ -10,7 +10,7 @@ use crate::nodes::{leaf_word, node_of};
 use crate::project::Step;
 use crate::scope::Scope;
 use crate::stop::Stop;
-use maxj_syntax::{Node, NodeKind};
+use maxj_syntax::{NodeId, NodeKind, SyntaxTree};
 use mx_bits::Op;
 
 /// The most operators of a source.
@@ -23,8 +23,8 @@ pub const DEEPEST: u16 = 511;
 #[derive(Clone, Copy)]
 enum Form<'a> {
     Variable(&'a [u8]),
-    Turned { operand: u32 },
-    Joined { op: Op, left: u32, right: u32 },
+    Turned { operand: NodeId },
+    Joined { op: Op, left: NodeId, right: NodeId },
 }
 
 /// The operation of a sign between two operands.
@@ -44,29 +44,25 @@ fn operation(sign: &[u8]) -> Option<Op>
 }
 
 /// The number of the operand's node, where the node is `~` before an operand.
-fn read_turned(nodes: &[Node], number: u32) -> Option<u32>
+fn read_turned(nodes: &SyntaxTree<'_>, number: NodeId) -> Option<NodeId>
     ensures some { IfSome result (λ operand. IsTurnedAt nodes.now number operand) }
     ensures none { IfNone result ((e : Expression) → Stands nodes.now number (Turned e) → ⊥) }
 {
     let node = node_of(nodes, number, NodeKind::Prefix)?;
-    let [operand] = node.children.as_slice() else {
+    let [operand] = node.children else {
         return None;
     };
-    if node.word.is(b"~") {
-        Some(*operand)
-    } else {
-        None
-    }
+    if node.is(b"~") { Some(*operand) } else { None }
 }
 
 /// The operation and the numbers of its operands' nodes, where the node is a sign between operands.
-fn read_joined(nodes: &[Node], number: u32) -> Option<Form<'_>>
+fn read_joined<'a>(nodes: &'a SyntaxTree<'_>, number: NodeId) -> Option<Form<'a>>
     ensures some { IfSome result (IsForm nodes.now number) }
     ensures none { IfNone result ((op : TheOp) (a b : Expression) → Stands nodes.now number (Joined op a b) → ⊥) }
 {
     let node = node_of(nodes, number, NodeKind::Binary)?;
-    let op = operation(node.word.as_bytes())?;
-    let [left, right] = node.children.as_slice() else {
+    let op = operation(node.word)?;
+    let [left, right] = node.children else {
         return None;
     };
     Some(Form::Joined {
@@ -77,7 +73,7 @@ fn read_joined(nodes: &[Node], number: u32) -> Option<Form<'_>>
 }
 
 /// What the node is in an expression.
-fn form_of(nodes: &[Node], number: u32) -> Option<Form<'_>>
+fn form_of<'a>(nodes: &'a SyntaxTree<'_>, number: NodeId) -> Option<Form<'a>>
     ensures some { IfSome result (IsForm nodes.now number) }
     ensures none { IfNone result ((e : Expression) → Stands nodes.now number e → ⊥) }
 {
@@ -106,8 +102,8 @@ fn add_step(steps: &mut Vec<Step>, step: Step) -> Result<u32, Stop>
 /// The number of the value that an expression is. Its operations are added to the steps. An
 /// expression of `depth` operators or more may be refused, so that calls stand no deeper than that.
 pub fn read_expression(
-    nodes: &[Node],
-    number: u32,
+    nodes: &SyntaxTree<'_>,
+    number: NodeId,
     depth: u16,
     scope: &Scope<'_>,
     steps: &mut Vec<Step>,

@@ -9,7 +9,7 @@ ghost use Rattle.expression_source.specs.Nodes.{EachAt, SomeAt, StandAt};
 
 use crate::names::is_port_name;
 use crate::nodes::{is_leaf, leaf_word, node_of};
-use maxj_syntax::{Node, NodeKind};
+use maxj_syntax::{NodeId, NodeKind, SyntaxTree};
 use text_scan::is_digit;
 
 /// The most bits of a word.
@@ -27,7 +27,7 @@ fn unquoted(text: &[u8]) -> Option<&[u8]>
 }
 
 /// The name of a port, where the node is a string that says one.
-pub fn read_port(nodes: &[Node], number: u32) -> Option<&[u8]>
+pub fn read_port<'a>(nodes: &'a SyntaxTree<'_>, number: NodeId) -> Option<&'a [u8]>
     ensures some { IfSome result (λ name. EachAt nodes.now number (IsPort name.now)) }
     ensures name { IfSome result (λ name. IsPortName name.now) }
     ensures none { IfNone result ((name : Name) → IsPortName name → SomeAt nodes.now number (IsPort name) → ⊥) }
@@ -77,18 +77,18 @@ fn bits(digits: &[u8]) -> Option<u8>
 }
 
 /// The width, where the node is `dfeUInt(WIDTH)`.
-pub fn read_width(nodes: &[Node], number: u32) -> Option<Width<'_>>
+pub fn read_width<'a>(nodes: &'a SyntaxTree<'_>, number: NodeId) -> Option<Width<'a>>
     ensures some { IfSome result (λ w. EachAt nodes.now number (IsWidth w.digits.now)) }
     ensures allowed { IfSome result (λ w. IsAllowedWidth w.digits.now) }
     ensures bits { IfSome result (λ w. w.bits ≡ decimal_value w.digits.now) }
     ensures none { IfNone result ((digits : List ℕ) → IsAllowedWidth digits → SomeAt nodes.now number (IsWidth digits) → ⊥) }
 {
     let call = node_of(nodes, number, NodeKind::Call)?;
-    let [whole] = call.children.as_slice() else {
+    let [whole] = call.children else {
         return None;
     };
     let digits = leaf_word(nodes, *whole, NodeKind::Whole)?;
-    if call.word.is(b"dfeUInt") && is_decimal(digits) {
+    if call.is(b"dfeUInt") && is_decimal(digits) {
         Some(Width {
             digits,
             bits: bits(digits)?,
@@ -99,14 +99,18 @@ pub fn read_width(nodes: &[Node], number: u32) -> Option<Width<'_>>
 }
 
 /// The numbers of the arguments, where the node is `io.METHOD(ARGUMENTS)`.
-pub fn io_arguments<'a>(nodes: &'a [Node], number: u32, method: &[u8]) -> Option<&'a [u32]>
+pub fn io_arguments<'a>(
+    nodes: &'a SyntaxTree<'_>,
+    number: NodeId,
+    method: &[u8],
+) -> Option<&'a [NodeId]>
     ensures some { IfSome result (λ numbers.
         EachAt nodes.now number (λ t. (ts : Trees) × StandAt nodes.now numbers.now ts × IsIoCall method.now ts t)) }
     ensures none { IfNone result ((ts : Trees) → SomeAt nodes.now number (IsIoCall method.now ts) → ⊥) }
 {
     let call = node_of(nodes, number, NodeKind::DotCall)?;
-    let (io, arguments) = call.children.as_slice().split_first()?;
-    if call.word.is(method) && is_leaf(nodes, *io, NodeKind::Name, b"io") {
+    let (io, arguments) = call.children.split_first()?;
+    if call.is(method) && is_leaf(nodes, *io, NodeKind::Name, b"io") {
         Some(arguments)
     } else {
         None
@@ -117,22 +121,22 @@ pub fn io_arguments<'a>(nodes: &'a [Node], number: u32, method: &[u8]) -> Option
 #[derive(Clone, Copy)]
 pub struct Declaration<'a> {
     pub variable: &'a [u8],
-    pub value: u32,
+    pub value: NodeId,
 }
 
 /// The variable and its value, where the node is `DFEVar VARIABLE = VALUE;`.
-pub fn read_declaration(nodes: &[Node], number: u32) -> Option<Declaration<'_>>
+pub fn read_declaration<'a>(nodes: &'a SyntaxTree<'_>, number: NodeId) -> Option<Declaration<'a>>
     ensures some { IfSome result (λ d.
         EachAt nodes.now number (λ t. (value : Tree) × IsAt nodes.now d.value value × IsDeclaration d.variable.now value t)) }
     ensures none { IfNone result ((variable : Name) (value : Tree) → SomeAt nodes.now number (IsDeclaration variable value) → ⊥) }
 {
     let local = node_of(nodes, number, NodeKind::Local)?;
-    let [plain, value] = local.children.as_slice() else {
+    let [plain, value] = local.children else {
         return None;
     };
     if is_leaf(nodes, *plain, NodeKind::Plain, b"DFEVar") {
         Some(Declaration {
-            variable: local.word.as_bytes(),
+            variable: local.word,
             value: *value,
         })
     } else {

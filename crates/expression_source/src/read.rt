@@ -16,21 +16,21 @@ use crate::project::Project;
 use crate::scope::Scope;
 use crate::statements::{Body, read_body, read_locals};
 use crate::stop::Stop;
-use maxj_syntax::{Class, Node, NodeKind, Program};
+use maxj_syntax::{Class, NodeId, NodeKind, Program, SyntaxTree};
 use mx_base::{List, NoMemory, Text};
 use std::alloc::Global;
 
 /// The name of the parameter, where the node is `KernelParameters PARAMETER`.
-fn read_parameter(nodes: &[Node], number: u32) -> Option<&[u8]>
+fn read_parameter<'a>(nodes: &'a SyntaxTree<'_>, number: NodeId) -> Option<&'a [u8]>
     ensures some { IfSome result (λ name. EachAt nodes.now number (IsParameter name.now)) }
     ensures none { IfNone result ((name : Name) → SomeAt nodes.now number (IsParameter name) → ⊥) }
 {
     let parameter = node_of(nodes, number, NodeKind::Param)?;
-    let [plain] = parameter.children.as_slice() else {
+    let [plain] = parameter.children else {
         return None;
     };
     if is_leaf(nodes, *plain, NodeKind::Plain, b"KernelParameters") {
-        Some(parameter.word.as_bytes())
+        Some(parameter.word)
     } else {
         None
     }
@@ -40,25 +40,25 @@ fn read_parameter(nodes: &[Node], number: u32) -> Option<&[u8]>
 #[derive(Clone, Copy)]
 struct Ctor<'a> {
     parameter: &'a [u8],
-    statements: &'a [u32],
+    statements: &'a [NodeId],
 }
 
 /// The constructor, where the node is one of this name.
-fn read_ctor<'a>(nodes: &'a [Node], number: u32, name: &[u8]) -> Option<Ctor<'a>>
+fn read_ctor<'a>(nodes: &'a SyntaxTree<'_>, number: NodeId, name: &[u8]) -> Option<Ctor<'a>>
     ensures some { IfSome result (λ c. EachAt nodes.now number (λ t.
         (ts : Trees) × StandAt nodes.now c.statements.now ts × IsCtor name.now c.parameter.now ts t)) }
     ensures none { IfNone result ((parameter : Name) (ts : Trees) → SomeAt nodes.now number (IsCtor name.now parameter ts) → ⊥) }
 {
     let ctor = node_of(nodes, number, NodeKind::Ctor)?;
-    let [parameter, block] = ctor.children.as_slice() else {
+    let [parameter, block] = ctor.children else {
         return None;
     };
     let parameter = read_parameter(nodes, *parameter)?;
     let block = node_of(nodes, *block, NodeKind::Block)?;
-    if ctor.word.is(name) && block.word.is(b"") {
+    if ctor.is(name) && block.is(b"") {
         Some(Ctor {
             parameter,
-            statements: block.children.as_slice(),
+            statements: block.children,
         })
     } else {
         None
@@ -66,16 +66,16 @@ fn read_ctor<'a>(nodes: &'a [Node], number: u32, name: &[u8]) -> Option<Ctor<'a>
 }
 
 /// The constructor, where the node is a class of this name with its constructor alone.
-fn read_head<'a>(nodes: &'a [Node], number: u32, name: &[u8]) -> Option<Ctor<'a>>
+fn read_head<'a>(nodes: &'a SyntaxTree<'_>, number: NodeId, name: &[u8]) -> Option<Ctor<'a>>
     ensures some { IfSome result (λ c. EachAt nodes.now number (λ t.
         (ts : Trees) × StandAt nodes.now c.statements.now ts × IsHead name.now c.parameter.now ts t)) }
     ensures none { IfNone result ((parameter : Name) (ts : Trees) → SomeAt nodes.now number (IsHead name.now parameter ts) → ⊥) }
 {
     let class = node_of(nodes, number, NodeKind::Class)?;
-    let [ctor] = class.children.as_slice() else {
+    let [ctor] = class.children else {
         return None;
     };
-    if class.word.is(name) {
+    if class.is(name) {
         read_ctor(nodes, *ctor, name)
     } else {
         None
@@ -83,7 +83,7 @@ fn read_head<'a>(nodes: &'a [Node], number: u32, name: &[u8]) -> Option<Ctor<'a>
 }
 
 /// The one class of a program, if it is a kernel.
-fn only_kernel(program: &Program) -> Option<&Class>
+fn only_kernel<'a>(program: &'a Program<'_>) -> Option<&'a Class>
     ensures some { IfSome result (λ c. (program.now.classes ≡ c.now ∷ []) × (c.now.manager ≡ false)) }
     ensures none { IfNone result ((c : TheClass) → program.now.classes ≡ c ∷ [] → c.manager ≡ false → ⊥) }
 {
@@ -113,15 +113,15 @@ fn are_allowed(name: &[u8], parameter: &[u8], variable: &[u8]) -> bool
 }
 
 /// The frame of the kernel that a program is.
-fn read_frame(program: &Program) -> Option<Frame<'_>>
+fn read_frame<'a>(program: &'a Program<'_>) -> Option<Frame<'a>>
     ensures some { IfSome result (λ f. (classes : List ClassTree) → ProgramIs program.now classes
-        → (c : ClassTree) × (classes ≡ c ∷ []) × IsFrame program.now.nodes f c) }
+        → (c : ClassTree) × (classes ≡ c ∷ []) × IsFrame program.now.tree f c) }
     ensures allowed { IfSome result (λ f. IsAllowedBody f.body × AreAllowed f.name.now f.parameter.now f.body.input.variable.now) }
     ensures bits { IfSome result (λ f. f.body.input.width.bits ≡ decimal_value f.body.input.width.digits.now) }
     ensures none { IfNone result ((classes : List ClassTree) → ProgramIs program.now classes
         → (s : Source) → IsSource classes s → ⊥) }
 {
-    let nodes = program.nodes.as_slice();
+    let nodes = &program.tree;
     let class = only_kernel(program)?;
     let name = class.name.as_bytes();
     let ctor = read_head(nodes, class.node, name)?;
@@ -138,7 +138,7 @@ fn read_frame(program: &Program) -> Option<Frame<'_>>
 }
 
 /// The kernel that a program is.
-fn read_project(alloc: Global, program: &Program) -> Result<Project, Stop>
+fn read_project(alloc: Global, program: &Program<'_>) -> Result<Project, Stop>
     ensures some { IfOk result (λ p. (classes : List ClassTree) → ProgramIs program.now classes → IsProject classes p) }
     ensures none { result ≡ Err NoSource → (classes : List ClassTree) → ProgramIs program.now classes
         → (s : Source) → IsSource classes s → ⊥ }
@@ -147,7 +147,7 @@ fn read_project(alloc: Global, program: &Program) -> Result<Project, Stop>
         return Err(Stop::NoSource);
     };
     let body = frame.body;
-    let nodes = program.nodes.as_slice();
+    let nodes = &program.tree;
     let mut scope = Scope::new(alloc);
     scope.declare(body.input.variable, 0)?;
     let mut steps = Vec::new(alloc);
@@ -167,7 +167,7 @@ fn read_project(alloc: Global, program: &Program) -> Result<Project, Stop>
 /// as `class K extends Kernel { K(KernelParameters p) { super(p);
 /// DFEVar a = io.input("a", dfeUInt(8)); .. io.output("b", ~a + a, dfeUInt(8)); } }`, of at most 510
 /// operators. `None`: the program is no such kernel.
-pub fn read_kernel(alloc: Global, program: &Program) -> Result<Option<Project>, NoMemory>
+pub fn read_kernel(alloc: Global, program: &Program<'_>) -> Result<Option<Project>, NoMemory>
     ensures some { IfOk result (λ found. IfSome found (λ p.
         (classes : List ClassTree) → ProgramIs program.now classes → IsProject classes p)) }
     ensures none { IfOk result (λ found. IfNone found ((classes : List ClassTree) → ProgramIs program.now classes

@@ -15,7 +15,7 @@ use crate::pieces::{Width, io_arguments, read_declaration, read_port, read_width
 use crate::project::Step;
 use crate::scope::Scope;
 use crate::stop::Stop;
-use maxj_syntax::{Node, NodeKind};
+use maxj_syntax::{NodeId, NodeKind, SyntaxTree};
 
 /// The input's variable, port and width.
 #[derive(Clone, Copy)]
@@ -26,7 +26,7 @@ pub struct Input<'a> {
 }
 
 /// The input, where the node is `DFEVar VARIABLE = io.input("PORT", dfeUInt(WIDTH));`.
-pub fn read_input(nodes: &[Node], number: u32) -> Option<Input<'_>>
+pub fn read_input<'a>(nodes: &'a SyntaxTree<'_>, number: NodeId) -> Option<Input<'a>>
     ensures some { IfSome result (λ i. EachAt nodes.now number (IsInput i.variable.now i.port.now i.width.digits.now)) }
     ensures allowed { IfSome result (λ i. IsVariable i.variable.now × IsPortName i.port.now × IsAllowedWidth i.width.digits.now) }
     ensures bits { IfSome result (λ i. i.width.bits ≡ decimal_value i.width.digits.now) }
@@ -55,11 +55,15 @@ pub fn read_input(nodes: &[Node], number: u32) -> Option<Input<'_>>
 #[derive(Clone, Copy)]
 pub struct Output<'a> {
     pub port: &'a [u8],
-    pub value: u32,
+    pub value: NodeId,
 }
 
 /// The output, where the node is `io.output("PORT", VALUE, dfeUInt(WIDTH));` with this width.
-pub fn read_output<'a>(nodes: &'a [Node], number: u32, digits: &[u8]) -> Option<Output<'a>>
+pub fn read_output<'a>(
+    nodes: &'a SyntaxTree<'_>,
+    number: NodeId,
+    digits: &[u8],
+) -> Option<Output<'a>>
     requires { IsAllowedWidth digits.now }
     ensures some { IfSome result (λ o. EachAt nodes.now number (λ t.
         (value : Tree) × IsAt nodes.now o.value value × IsOutput o.port.now value digits.now t)) }
@@ -68,7 +72,7 @@ pub fn read_output<'a>(nodes: &'a [Node], number: u32, digits: &[u8]) -> Option<
         → SomeAt nodes.now number (IsOutput port value digits.now) → ⊥) }
 {
     let statement = node_of(nodes, number, NodeKind::Run)?;
-    let [call] = statement.children.as_slice() else {
+    let [call] = statement.children else {
         return None;
     };
     let [port, value, width] = io_arguments(nodes, *call, b"output")? else {
@@ -76,7 +80,7 @@ pub fn read_output<'a>(nodes: &'a [Node], number: u32, digits: &[u8]) -> Option<
     };
     let port = read_port(nodes, *port)?;
     let width = read_width(nodes, *width)?;
-    if statement.word.is(b"") && width.digits == digits {
+    if statement.is(b"") && width.digits == digits {
         Some(Output {
             port,
             value: *value,
@@ -91,13 +95,13 @@ pub fn read_output<'a>(nodes: &'a [Node], number: u32, digits: &[u8]) -> Option<
 #[derive(Clone, Copy)]
 pub struct Body<'a> {
     pub input: Input<'a>,
-    pub locals: &'a [u32],
-    pub result: u32,
+    pub locals: &'a [NodeId],
+    pub result: NodeId,
     pub output: &'a [u8],
 }
 
 /// The body, where the nodes are an input, then others, and then an output of the input's width.
-pub fn read_body<'a>(nodes: &'a [Node], statements: &'a [u32]) -> Option<Body<'a>>
+pub fn read_body<'a>(nodes: &'a SyntaxTree<'_>, statements: &'a [NodeId]) -> Option<Body<'a>>
     ensures some { IfSome result (λ b. (ts : Trees) → StandAt nodes.now statements.now ts → IsBody nodes.now b ts) }
     ensures allowed { IfSome result IsAllowedBody }
     ensures bits { IfSome result (λ b. b.input.width.bits ≡ decimal_value b.input.width.digits.now) }
@@ -128,8 +132,8 @@ fn is_free(name: &[u8], parameter: &[u8], scope: &Scope<'_>) -> bool
 
 /// Declares the variable of a node `DFEVar VARIABLE = EXPRESSION;`.
 fn read_local<'a>(
-    nodes: &'a [Node],
-    number: u32,
+    nodes: &'a SyntaxTree<'_>,
+    number: NodeId,
     parameter: &[u8],
     scope: &mut Scope<'a>,
     steps: &mut Vec<Step>,
@@ -155,8 +159,8 @@ fn read_local<'a>(
 
 /// Declares the variables of these nodes, one by one.
 pub fn read_locals<'a>(
-    nodes: &'a [Node],
-    numbers: &[u32],
+    nodes: &'a SyntaxTree<'_>,
+    numbers: &[NodeId],
     parameter: &[u8],
     scope: &mut Scope<'a>,
     steps: &mut Vec<Step>,

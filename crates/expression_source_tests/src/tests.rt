@@ -1,76 +1,9 @@
 use expression_source::{Project, Step, read_kernel};
-use maxj_syntax::{Class, Node, NodeKind, Program};
-use mx_base::{List, Span, Text};
+use maxj_syntax::{SourceError, parse};
+use mx_base::Text;
 use mx_bits::Op;
 use std::alloc::Global;
 use std::test::Fail;
-
-/// Nodes, each with a greater number than those below it.
-#[derive(Drop)]
-struct Arena {
-    alloc: Global,
-    nodes: List<Node>,
-}
-
-impl Arena {
-    fn add(&mut self, kind: NodeKind, word: &[u8], children: &[u32]) -> Result<u32, Fail> {
-        let number = u32::try_from(self.nodes.len())?;
-        self.nodes.push(Node {
-            kind,
-            word: Text::from_vec(word.to_vec(self.alloc)?),
-            span: Span { from: 0, to: 0 },
-            children: List::from_vec(children.to_vec(self.alloc)?),
-        })?;
-        Ok(number)
-    }
-
-    /// An expression whose operators stand behind their operands. Names are single letters.
-    fn expression(&mut self, text: &[u8]) -> Result<u32, Fail> {
-        let mut values = Vec::new(self.alloc);
-        for symbol in text {
-            let word = [*symbol];
-            let node = if symbol.is_ascii_alphabetic() {
-                self.add(NodeKind::Name, &word, &[])?
-            } else {
-                let right = values.pop().ok_or("no operand")?;
-                if *symbol == b'~' || *symbol == b'!' {
-                    self.add(NodeKind::Prefix, &word, &[right])?
-                } else {
-                    let left = values.pop().ok_or("one operand")?;
-                    self.add(NodeKind::Binary, &word, &[left, right])?
-                }
-            };
-            values.push(node)?;
-        }
-        Ok(values.pop().ok_or("no expression")?)
-    }
-
-    fn width(&mut self, digits: &[u8]) -> Result<u32, Fail> {
-        let digits = self.add(NodeKind::Whole, digits, &[])?;
-        self.add(NodeKind::Call, b"dfeUInt", &[digits])
-    }
-
-    /// `io.METHOD(PORT, BETWEEN, dfeUInt(DIGITS))`.
-    fn io_call(
-        &mut self,
-        method: &[u8],
-        port: &[u8],
-        between: &[u32],
-        digits: &[u8],
-    ) -> Result<u32, Fail> {
-        let mut children = Vec::new(self.alloc);
-        children.push(self.add(NodeKind::Name, b"io", &[])?)?;
-        children.push(self.add(NodeKind::Str, port, &[])?)?;
-        children.extend_from_slice(between)?;
-        children.push(self.width(digits)?)?;
-        self.add(NodeKind::DotCall, method, children.as_slice())
-    }
-
-    fn declaration(&mut self, variable: &[u8], value: u32) -> Result<u32, Fail> {
-        let plain = self.add(NodeKind::Plain, b"DFEVar", &[])?;
-        self.add(NodeKind::Local, variable, &[plain, value])
-    }
-}
 
 /// What varies from kernel to kernel.
 #[derive(Clone, Copy)]
@@ -94,48 +27,74 @@ const SKETCH: Sketch<'static> = Sketch {
     manager: false,
 };
 
-/// The input, which is the variable `a`, the locals and the output.
-fn statements(arena: &mut Arena, sketch: &Sketch<'_>) -> Result<Vec<u32>, Fail> {
-    let mut statements = Vec::new(arena.alloc);
-    let input = arena.io_call(b"input", sketch.port, &[], sketch.width)?;
-    statements.push(arena.declaration(b"a", input)?)?;
-    for (variable, value) in sketch.locals {
-        let value = arena.expression(*value)?;
-        statements.push(arena.declaration(*variable, value)?)?;
+fn put(out: &mut Text, pieces: &[&[u8]]) -> Result<(), Fail> {
+    for piece in pieces {
+        out.append(*piece)?;
     }
-    let value = arena.expression(sketch.result)?;
-    let output = arena.io_call(b"output", b"\"y\"", &[value], sketch.last_width)?;
-    statements.push(arena.add(NodeKind::Run, b"", &[output])?)?;
-    Ok(statements)
+    Ok(())
 }
 
-/// A kernel `K` whose parameter is `p`.
-fn program(alloc: Global, sketch: &Sketch<'_>) -> Result<Program, Fail> {
-    let mut arena = Arena {
-        alloc,
-        nodes: List::new(alloc),
-    };
-    let statements = statements(&mut arena, sketch)?;
-    let plain = arena.add(NodeKind::Plain, b"KernelParameters", &[])?;
-    let parameter = arena.add(NodeKind::Param, b"p", &[plain])?;
-    let block = arena.add(NodeKind::Block, b"", statements.as_slice())?;
-    let ctor = arena.add(NodeKind::Ctor, b"K", &[parameter, block])?;
-    let members = vec![in alloc; ctor; sketch.members]?;
-    let node = arena.add(NodeKind::Class, b"K", members.as_slice())?;
-    let mut classes = List::new(alloc);
-    classes.push(Class {
-        name: Text::from_vec(b"K".to_vec(alloc)?),
-        manager: sketch.manager,
-        node,
-    })?;
-    Ok(Program {
-        classes,
-        nodes: arena.nodes,
-    })
+/// The input, which is the variable `a`, the locals and the output.
+fn put_statements(out: &mut Text, sketch: &Sketch<'_>) -> Result<(), Fail> {
+    put(
+        out,
+        &[
+            b"DFEVar a = io.input(",
+            sketch.port,
+            b", dfeUInt(",
+            sketch.width,
+            b"));",
+        ],
+    )?;
+    for (variable, value) in sketch.locals {
+        put(out, &[b"DFEVar ", *variable, b" = ", *value, b";"])?;
+    }
+    put(
+        out,
+        &[
+            b"io.output(\"y\", ",
+            sketch.result,
+            b", dfeUInt(",
+            sketch.last_width,
+            b"));",
+        ],
+    )
 }
 
+/// A class `K` whose constructor's parameter is `p`.
+fn source_of(alloc: Global, sketch: &Sketch<'_>) -> Result<Text, Fail> {
+    let mut out = Text::from_vec(Vec::new(alloc));
+    if sketch.manager {
+        put(
+            &mut out,
+            &[b"class K extends CustomManager { K(EngineParameters p) { super(p);"],
+        )?;
+    } else {
+        put(
+            &mut out,
+            &[b"class K extends Kernel { K(KernelParameters p) { super(p);"],
+        )?;
+    }
+    put_statements(&mut out, sketch)?;
+    put(&mut out, &[b"}"])?;
+    for _ in 1..sketch.members {
+        put(&mut out, &[b"void f() {}"])?;
+    }
+    put(&mut out, &[b"}"])?;
+    Ok(out)
+}
+
+/// The kernel, if the sketch is a source and that is one.
 fn read(alloc: Global, sketch: &Sketch<'_>) -> Result<Option<Project>, Fail> {
-    Ok(read_kernel(alloc, &program(alloc, sketch)?)?)
+    let source = source_of(alloc, sketch)?;
+    if source.len() >= 100000 {
+        return Err("a long source".into());
+    }
+    match parse(alloc, source.as_bytes()) {
+        Ok(program) => Ok(read_kernel(alloc, &program)?),
+        Err(SourceError::NoMemory) => Err("no memory".into()),
+        Err(_fault) => Ok(None),
+    }
 }
 
 /// The number of operators, if the sketch is a kernel of expressions.
@@ -145,10 +104,10 @@ fn operators(alloc: Global, sketch: &Sketch<'_>) -> Result<Option<usize>, Fail> 
 
 #[test]
 fn a_kernel_is_read(rt: HostRuntime) -> Result<(), Fail> {
-    let locals: [(&[u8], &[u8]); 1] = [(b"b", b"aa^")];
+    let locals: [(&[u8], &[u8]); 1] = [(b"b", b"a ^ a")];
     let sketch = Sketch {
         locals: &locals,
-        result: b"ab+a~*",
+        result: b"(a + b) * ~a",
         ..SKETCH
     };
     let project = read(rt.alloc(), &sketch)?.ok_or("no kernel")?;
@@ -180,11 +139,11 @@ fn a_kernel_is_read(rt: HostRuntime) -> Result<(), Fail> {
 fn locals_and_expressions(rt: HostRuntime) -> Result<(), Fail> {
     let rows: [(&[(&[u8], &[u8])], &[u8], Option<usize>); 11] = [
         (&[], b"a", Some(0)),
-        (&[], b"aa-a/a&a|", Some(4)),
-        (&[], b"aa%", None),
-        (&[], b"a!", None),
-        (&[], b"ab+", None),
-        (&[(b"b", b"a"), (b"c", b"ab+")], b"cb*", Some(2)),
+        (&[], b"(a - a) / a & a | a", Some(4)),
+        (&[], b"a % a", None),
+        (&[], b"!a", None),
+        (&[], b"a + b", None),
+        (&[(b"b", b"a"), (b"c", b"a + b")], b"c * b", Some(2)),
         (&[(b"b", b"c"), (b"c", b"a")], b"b", None),
         (&[(b"b", b"b")], b"a", None),
         (&[(b"a", b"a")], b"a", None),
@@ -233,16 +192,17 @@ fn widths_ports_and_classes(rt: HostRuntime) -> Result<(), Fail> {
     Ok(())
 }
 
-/// The number of operators of a text, and the same with `~` before it.
-fn one_more(alloc: Global, mut text: Vec<u8>) -> Result<[Option<usize>; 2], Fail> {
+/// The number of operators of an expression, and the same with `~` before it.
+fn one_more(alloc: Global, text: &Text) -> Result<[Option<usize>; 2], Fail> {
     let most = Sketch {
-        result: text.as_slice(),
+        result: text.as_bytes(),
         ..SKETCH
     };
     let most = operators(alloc, &most)?;
-    text.push(b'~')?;
+    let mut longer = Text::from_vec(Vec::new(alloc));
+    put(&mut longer, &[b"~(", text.as_bytes(), b")"])?;
     let more = Sketch {
-        result: text.as_slice(),
+        result: longer.as_bytes(),
         ..SKETCH
     };
     Ok([most, operators(alloc, &more)?])
@@ -251,13 +211,15 @@ fn one_more(alloc: Global, mut text: Vec<u8>) -> Result<[Option<usize>; 2], Fail
 #[test]
 fn at_most_510_operators(rt: HostRuntime) -> Result<(), Fail> {
     let alloc = rt.alloc();
-    let mut deep = b"a".to_vec(alloc)?;
-    let mut wide = b"a".to_vec(alloc)?;
+    let mut deep = Text::from_vec(Vec::new(alloc));
+    let mut wide = Text::from_vec(Vec::new(alloc));
     for _ in 0..510 {
-        deep.push(b'~')?;
-        wide.extend_from_slice(b"a+")?;
+        deep.append(b"~")?;
+        wide.append(b"a + ")?;
     }
-    assert_eq!(rt; one_more(alloc, deep)?, [Some(510), None]);
-    assert_eq!(rt; one_more(alloc, wide)?, [Some(510), None]);
+    deep.append(b"a")?;
+    wide.append(b"a")?;
+    assert_eq!(rt; one_more(alloc, &deep)?, [Some(510), None]);
+    assert_eq!(rt; one_more(alloc, &wide)?, [Some(510), None]);
     Ok(())
 }

@@ -1,12 +1,11 @@
 -- The exits of the parser.
-use Rattle.std.proofs.Common.{◌≡◌, ℕ, zero, suc, ◌+◌, ◌<◌, ◌≤◌, ◌-◌, List, [], ◌∷◌, Bool, true, false, Option, Some, refl, sym, ap, subst, ◌∙◌, length, arith, reverse, drop, get_or, drop-cons, add-one, ◌==◌}
+use Rattle.std.proofs.Common.{◌≡◌, ℕ, zero, suc, ◌+◌, ◌<◌, ◌≤◌, ◌-◌, List, [], ◌∷◌, Bool, true, false, Option, Some, refl, sym, ap, subst, ◌∙◌, length, arith, reverse, drop, get_or, drop-cons, add-one, ◌==◌, slice_get}
 use Rattle.std.proofs.lemmas.List.{length-drop}
 use Rattle.std.proofs.Math.Seq.{drop-length}
-use Rattle.std.proofs.Math.ListN.{length-map, get_or-map}
+use Rattle.std.proofs.lemmas.Option.{get_or_from_slice_get, slice_get_within}
 use Rattle.grammar.specs.Stack.{head_of}
-use Rattle.maxj_syntax.specs.declared.tree.Node.{Node as Cell}
+use Rattle.maxj_syntax.specs.Cells.{Cell, cells_of, word_in}
 use Rattle.maxj_syntax.specs.declared.tree.Class.{Class}
-use Rattle.maxj_syntax.specs.declared.tree.Program.{Program}
 use Rattle.maxj_syntax.specs.declared.build.Unfinished.{Unfinished}
 use Rattle.maxj_syntax.specs.declared.build.Builder.{Builder}
 use Rattle.maxj_syntax.specs.declared.kind.Kind.{Kind}
@@ -25,11 +24,9 @@ use Rattle.maxj_syntax.specs.TokenClasses.{class_has}
 use Rattle.maxj_syntax.specs.Choosing.{admits}
 use Rattle.text_scan.proofs.ByteTests.{clash}
 use Rattle.maxj_syntax.proofs.ClassLemmas.{accepts, accepted}
-use Rattle.maxj_tokens.specs.declared.token.Placed.{Placed}
 use Rattle.maxj_syntax.specs.declared.parser.Settled.{Settled}
 use Rattle.maxj_syntax.specs.declared.parser.Settled.TheVariants as T
 use Rattle.maxj_tokens.specs.Scanning.{PlacedToken}
-use Rattle.maxj_tokens.specs.Reading.{placed_view, token_view}
 use Rattle.maxj_syntax.specs.Tree.{ClassTree, ClassesAre}
 use Rattle.maxj_syntax.specs.TokenClasses.{Accepts}
 use Rattle.maxj_syntax.specs.Productions.{is_name}
@@ -37,14 +34,14 @@ use Rattle.maxj_syntax.specs.Faults.{IsFirstMisplaced, IsMisplaced, place_of}
 use Rattle.maxj_syntax.specs.Symbols.{Symbol, Mark, Name, Sub, fixed_view}
 use Rattle.maxj_syntax.specs.Choosing.{Is, Choice, choose, chain}
 use Rattle.maxj_syntax.specs.Steps.{Entry, Ground}
-use Rattle.maxj_syntax.specs.Building.{IsBottom, AreBottom, Holds, Takes, Reached, bottom, todo, Settles, IsTheFile, AreOpen, IsTaken, IsRefused, IsRule, IsExpanded, view_of}
+use Rattle.maxj_syntax.specs.Building.{IsBottom, AreBottom, Holds, Takes, Reached, bottom, todo, Settles, IsTheFileOf, AreOpen, IsTaken, IsRefused, IsRule, IsExpanded}
 use Rattle.maxj_syntax.proofs.Predict.{leads_stay}
 use Rattle.maxj_syntax.proofs.Machine.{step_rule, stuck_rule, rule_less, stuck_mark, stuck_name, stuck_end, step_mark, step_name}
 use Rattle.maxj_syntax.proofs.Judge.{bad_place, whole_file}
 
 bottom_open : (tokens : List PlacedToken) (nodes : List Cell) (classes : List Class) (os : List Unfinished) → AreBottom (length tokens) os → classes ≡ [] → AreOpen nodes classes tokens (reverse os) bottom (Ground [])
 bottom_open tokens nodes classes [] a e = absurd a
-bottom_open tokens nodes classes (o ∷ []) a e = ((sym (ap (λ n. drop n tokens) a.0 ∙ drop-length tokens), a.1, a.2, a.3, a.4), subst (λ l. ClassesAre nodes l []) (sym e) tt)
+bottom_open tokens nodes classes (o ∷ []) a e = ((sym (ap (λ n. drop n tokens) a.0 ∙ drop-length tokens), a.1, ap (word_in tokens) a.2, a.3, a.4), subst (λ l. ClassesAre nodes l []) (sym e) tt)
 bottom_open tokens nodes classes (o ∷ p ∷ os) a e = absurd a
 
 pub start_reached : (tokens : List PlacedToken) (stack : List SymbolOf) (builder : Builder) → todo stack ≡ Sub Rule.File ∷ [] → IsBottom (length tokens) builder → Reached tokens tokens (todo stack) builder
@@ -53,7 +50,7 @@ start_reached tokens stack builder e f = subst (λ l. Reached tokens tokens l bu
   (λ t p. refl, tt),
   bottom,
   Ground [],
-  bottom_open tokens builder.nodes builder.classes builder.unfinished.items f.0 f.1,
+  bottom_open tokens (cells_of tokens builder.nodes) builder.classes builder.unfinished.items f.0 f.1,
   λ c q x. x,
   λ c q x. x,
 )
@@ -115,26 +112,26 @@ grounded nodes classes tokens [] b cs a = absurd a
 grounded nodes classes tokens (o ∷ []) b cs a = a.1
 grounded nodes classes tokens (o ∷ p ∷ os) b cs a = absurd a.1
 
-pub finished : (tokens ys : List PlacedToken) (builder : Builder) (p : Program) → ys ≡ [] → p.nodes ≡ builder.nodes → p.classes ≡ builder.classes → Reached tokens ys [] builder → IsTheFile tokens p
-finished tokens ys builder p z f g r =
+pub finished : (tokens ys : List PlacedToken) (builder : Builder) → ys ≡ [] → Reached tokens ys [] builder → IsTheFileOf tokens (cells_of tokens builder.nodes) builder.classes
+finished tokens ys builder z r =
     let q : Reached tokens [] [] builder = subst (λ l. Reached tokens l [] builder) z r in
     let w = whole_file tokens builder q in
     let h : Holds tokens builder q.2 (Ground w.0) = subst (λ s. Holds tokens builder q.2 s) w.2 q.4 in
-    let a = grounded builder.nodes builder.classes tokens (reverse builder.unfinished.items) q.2 w.0 h in
+    let a = grounded (cells_of tokens builder.nodes) builder.classes tokens (reverse builder.unfinished.items) q.2 w.0 h in
     record {
       classes = w.0;
       file = w.3;
       only = w.4;
-      program = subst (λ l. ClassesAre l p.classes w.0) (sym f) (subst (λ l. ClassesAre builder.nodes l w.0) (sym g) a);
+      program = a;
     }
 
 -- the place of a token, or the size
-pub token_place : (ts : List Placed) (size n : ℕ) (d : Placed) → n < length ts → (get_or ts n d).at ≡ place_of (view_of ts) size n
-token_place [] size n d h = absurd (omega (arith, h))
-token_place (t ∷ ts) size zero d h = refl
-token_place (t ∷ ts) size (suc n) d h = token_place ts size n d (omega (arith, h))
+token_place : (ts : List PlacedToken) (size n : ℕ) (t : PlacedToken) → slice_get ts n ≡ Some t → t.place ≡ place_of ts size n
+token_place [] size n t e = absurd (cc)
+token_place (u ∷ ts) size zero t e = let same : u ≡ t = cc in ap (λ x. x.place) (sym same)
+token_place (u ∷ ts) size (suc n) t e = token_place ts size n t e
 
-pub end_place : (ts : List Placed) (size n : ℕ) → n ≡ length (view_of ts) → size ≡ place_of (view_of ts) size n
+end_place : (ts : List PlacedToken) (size n : ℕ) → n ≡ length ts → size ≡ place_of ts size n
 end_place [] size n h = refl
 end_place (t ∷ ts) size zero h = absurd (omega (arith, h))
 end_place (t ∷ ts) size (suc n) h = end_place ts size n (omega (arith, h))
@@ -165,41 +162,31 @@ taken_token s k e t j b f g h i = subst (λ x. IsTaken x t e) (sym f) (accepts k
 pub refused_token : (s : Settled) (k : TokenClass) (e : Effect) (t : Token) (j : Kind) (b : Bool) → s ≡ T.Token k e → b ≡ class_has k j → j ≡ kind_of t → b ≡ false → IsRefused s t
 refused_token s k e t j b f g h i = subst (λ x. IsRefused x t) (sym f) (λ a. clash (accepted k t a) (ap (λ x. class_has k x) (sym h) ∙ sym g ∙ i))
 
--- the same of the tokens that the code has
-view_at : (ts : List Placed) (n : ℕ) (d : Placed) → get_or (view_of ts) n (placed_view d) ≡ placed_view (get_or ts n d)
-view_at ts n d = get_or-map placed_view ts n d
+-- the same of tokens by their numbers
+pub start_file : (ts : List PlacedToken) (stack : List SymbolOf) (builder : Builder) (n : ℕ) → todo stack ≡ Sub Rule.File ∷ [] → n ≡ length ts → IsBottom n builder → Reached ts ts (todo stack) builder
+start_file ts stack builder n e f g = start_reached ts stack builder e (subst (λ m. IsBottom m builder) f g)
 
-view_length : (ts : List Placed) → length (view_of ts) ≡ length ts
-view_length ts = length-map ts placed_view
+pub misplaced_token : (ts : List PlacedToken) (size at : ℕ) (t : PlacedToken) (s : Settled) (after : List Symbol) (builder : Builder) → slice_get ts at ≡ Some t → IsRefused s t.token → Settles s ts (drop at ts) after builder → IsMisplaced ts size t.place
+misplaced_token ts size at t s after builder e never r = record {
+  number = at;
+  bad = bad_taken ts at t s after builder (slice_get_within ts at t e) (subst (λ u. IsRefused s u.token) (sym (get_or_from_slice_get ts at t t e)) never) r;
+  at = token_place ts size at t e;
+}
 
-pub start_file : (ts : List Placed) (stack : List SymbolOf) (builder : Builder) (n : ℕ) → todo stack ≡ Sub Rule.File ∷ [] → n ≡ length ts → IsBottom n builder → Reached (view_of ts) (view_of ts) (todo stack) builder
-start_file ts stack builder n e f g = start_reached (view_of ts) stack builder e (subst (λ m. IsBottom m builder) (f ∙ sym (view_length ts)) g)
-
-pub misplaced_token : (ts : List Placed) (size at : ℕ) (d : Placed) (s : Settled) (after : List Symbol) (builder : Builder) → at < length ts → IsRefused s (token_view (get_or ts at d).token) → Settles s (view_of ts) (drop at (view_of ts)) after builder → IsMisplaced (view_of ts) size (get_or ts at d).at
-misplaced_token ts size at d s after builder h never r =
-    let l : at < length (view_of ts) = (let m = view_length ts in omega (arith, h, m)) in
-    record {
-      number = at;
-      bad = bad_taken (view_of ts) at (placed_view d) s after builder l (subst (λ t. IsRefused s t.token) (sym (view_at ts at d)) never) r;
-      at = token_place ts size at d h;
-    }
-
-pub misplaced_end : (ts : List Placed) (size n : ℕ) (s : Settled) (after : List Symbol) (builder : Builder) → n ≡ length ts → (s ≡ T.Empty → ⊥) → Settles s (view_of ts) (drop n (view_of ts)) after builder → IsMisplaced (view_of ts) size size
+pub misplaced_end : (ts : List PlacedToken) (size n : ℕ) (s : Settled) (after : List Symbol) (builder : Builder) → n ≡ length ts → (s ≡ T.Empty → ⊥) → Settles s ts (drop n ts) after builder → IsMisplaced ts size size
 misplaced_end ts size n s after builder h never r =
-    let z : drop n (view_of ts) ≡ [] = ap (λ m. drop m (view_of ts)) (h ∙ sym (view_length ts)) ∙ drop-length (view_of ts) in
-    record { number = length (view_of ts); bad = bad_end (view_of ts) (drop n (view_of ts)) s after builder z never r; at = end_place ts size (length (view_of ts)) refl }
+    let z : drop n ts ≡ [] = ap (λ m. drop m ts) h ∙ drop-length ts in
+    record { number = length ts; bad = bad_end ts (drop n ts) s after builder z never r; at = end_place ts size (length ts) refl }
 
-pub read_token : (ts : List Placed) (at : ℕ) (d : Placed) (s : Settled) (f : Effect) (after : List Symbol) (old new : Builder) → at < length ts → IsTaken s (token_view (get_or ts at d).token) f → Takes (view_of ts) f (token_view (get_or ts at d).token) (drop at (view_of ts)) (drop (at + 1) (view_of ts)) old new
-    → Settles s (view_of ts) (drop at (view_of ts)) after old → Reached (view_of ts) (drop (at + 1) (view_of ts)) after new
-read_token ts at d s f after old new h i t r =
-    let l : at < length (view_of ts) = (let m = view_length ts in omega (arith, h, m)) in
-    let e = sym (view_at ts at d) in
-    read_on (view_of ts) at (placed_view d) s f after old new l (subst (λ u. IsTaken s u.token f) e i) (subst (λ u. Takes (view_of ts) f u.token (drop at (view_of ts)) (drop (at + 1) (view_of ts)) old new) e t) r
+pub read_token : (ts : List PlacedToken) (at : ℕ) (t : PlacedToken) (s : Settled) (f : Effect) (after : List Symbol) (old new : Builder) → slice_get ts at ≡ Some t → IsTaken s t.token f → Takes ts f t.token (drop at ts) (drop (at + 1) ts) old new → Settles s ts (drop at ts) after old → Reached ts (drop (at + 1) ts) after new
+read_token ts at t s f after old new e i u r =
+    let same = sym (get_or_from_slice_get ts at t t e) in
+    read_on ts at t s f after old new (slice_get_within ts at t e) (subst (λ x. IsTaken s x.token f) same i) (subst (λ x. Takes ts f x.token (drop at ts) (drop (at + 1) ts) old new) same u) r
 
-pub finished_file : (ts : List Placed) (n : ℕ) (builder : Builder) (p : Program) → n ≡ length ts → p.nodes ≡ builder.nodes → p.classes ≡ builder.classes → Reached (view_of ts) (drop n (view_of ts)) [] builder → IsTheFile (view_of ts) p
-finished_file ts n builder p h f g r =
-    let z : drop n (view_of ts) ≡ [] = ap (λ m. drop m (view_of ts)) (h ∙ sym (view_length ts)) ∙ drop-length (view_of ts) in
-    finished (view_of ts) (drop n (view_of ts)) builder p z f g r
+pub finished_file : (ts : List PlacedToken) (n : ℕ) (builder : Builder) → n ≡ length ts → Reached ts (drop n ts) [] builder → IsTheFileOf ts (cells_of ts builder.nodes) builder.classes
+finished_file ts n builder h r =
+    let z : drop n ts ≡ [] = ap (λ m. drop m ts) h ∙ drop-length ts in
+    finished ts (drop n ts) builder z r
 
 -- a rule on top of the stack
 pub expanded_on : (tokens ys : List PlacedToken) (next : Option PlacedToken) (p : Symbol) (old rest new : List Symbol) (builder : Builder) (b : Bool) → head_of ys ≡ next → IsRule p → (IsRule p → IsExpanded p next rest new b) → b ≡ true → old ≡ p ∷ rest → Reached tokens ys old builder

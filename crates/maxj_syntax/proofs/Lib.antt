@@ -12,7 +12,8 @@ pub mod Runs
 pub mod Complete
 pub mod Ranks
 pub mod Productive
-pub mod Nodes
+pub mod Trees
+pub mod Store
 pub mod NamedMoves
 pub mod Machine
 pub mod Judge

@@ -4,7 +4,7 @@ use Rattle.std.specs.Prelude.{if◌then◌else◌}
 use Rattle.std.proofs.lemmas.List.Sums.{sum_by-cons}
 use Rattle.maxj_syntax.specs.Tree.{ClassTree, ClassesAre}
 use Rattle.maxj_syntax.specs.Faults.{kernels_in, managers_in, has_twins, IsNoProject}
-use Rattle.maxj_syntax.specs.declared.tree.Node.{Node as Cell}
+use Rattle.maxj_syntax.specs.Cells.{Cell}
 use Rattle.maxj_syntax.specs.declared.tree.Class.{Class}
 
 abbrev pub managers_of : List Class → ℕ

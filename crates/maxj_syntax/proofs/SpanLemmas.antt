@@ -1,12 +1,10 @@
 -- Spans of tokens, and what the parser reads of a list of them.
-use Rattle.std.proofs.Common.{◌≡◌, ℕ, zero, suc, ◌+◌, ◌-◌, ◌<◌, ◌≤◌, List, [], ◌∷◌, refl, sym, ap, subst, ◌∙◌, arith, take, drop, length, get_or}
+use Rattle.std.proofs.Common.{◌≡◌, ℕ, zero, suc, ◌+◌, ◌-◌, ◌<◌, ◌≤◌, List, [], ◌∷◌, refl, sym, ap, subst, ◌∙◌, arith, take, drop, length, get_or, slice_get, Some, None}
 use Rattle.std.specs.List.{All}
 use Rattle.std.proofs.lemmas.List.{length-drop}
-use Rattle.std.proofs.Math.ListN.{get_or-map, length-map}
-use Rattle.maxj_tokens.specs.declared.token.Placed.{Placed}
+use Rattle.std.proofs.lemmas.Option.{get_or_from_slice_get, slice_get_within}
 use Rattle.maxj_tokens.specs.Scanning.{PlacedToken, from_of, to_of, span_of}
-use Rattle.maxj_tokens.specs.Reading.{placed_view}
-use Rattle.maxj_syntax.specs.Building.{view_of, EndsIn}
+use Rattle.maxj_syntax.specs.Building.{EndsIn}
 
 to_last : (n : ℕ) (ts : List PlacedToken) (d : PlacedToken) → n < length ts → to_of (take (suc n) ts) ≡ to_of (get_or ts n d ∷ [])
 to_last zero [] d h = absurd (omega (arith, h))
@@ -38,29 +36,23 @@ span_is ts s e d x h k f =
     let q : to_of (take (e - s) (drop s ts)) ≡ x = ap (λ m. to_of (take m (drop s ts))) n ∙ b ∙ ap (λ t. to_of (t ∷ [])) o ∙ ap (λ m. to_of (get_or ts m d ∷ [])) j ∙ sym f in
     sym (ap (λ m. record { from = m; to = to_of (take (e - s) (drop s ts)) }) p ∙ ap (λ m. record { from = (get_or ts s d).place; to = m }) q)
 
-pub span_view : (ts : List Placed) (s e : ℕ) (d d2 : Placed) (x : ℕ) → s < e → e ≤ length ts → x ≡ to_of (placed_view (get_or ts (e - 1) d2) ∷ []) → record { from = (get_or ts s d).at; to = x } ≡ span_of (take (e - s) (drop s (view_of ts)))
-span_view ts s e d d2 x h k f =
-    let l : e ≤ length (view_of ts) = (let m = length-map ts placed_view in omega (arith, k, m)) in
-    let a = get_or-map placed_view ts s d in
-    let b = get_or-map placed_view ts (e - 1) d2 in
-    let i = span_is (view_of ts) s e (placed_view d) x h l (f ∙ ap (λ t. to_of (t ∷ [])) (sym b) ∙ ap (λ t. to_of (t ∷ [])) (other (view_of ts) (e - 1) (placed_view d2) (placed_view d) (omega (arith, h, l)))) in
-    ap (λ t. record { from = t.place; to = x }) (sym a) ∙ i
-  where
-    other : (ts : List PlacedToken) (n : ℕ) (d e : PlacedToken) → n < length ts → get_or ts n d ≡ get_or ts n e
-    other [] n d e h = absurd (omega (arith, h))
-    other (t ∷ ts) zero d e h = refl
-    other (t ∷ ts) (suc n) d e h = other ts n d e (omega (arith, h))
+pub span_view : (ts : List PlacedToken) (s e : ℕ) (first last : PlacedToken) (x : ℕ) → s < e → e ≤ length ts → slice_get ts s ≡ Some first → slice_get ts (e - 1) ≡ Some last → x ≡ to_of (last ∷ []) → record { from = first.place; to = x } ≡ span_of (take (e - s) (drop s ts))
+span_view ts s e first last x h k f l i =
+    let a = get_or_from_slice_get ts s first first f in
+    let b = get_or_from_slice_get ts (e - 1) last first l in
+    ap (λ t. record { from = t.place; to = x }) (sym a) ∙ span_is ts s e first x h k (i ∙ ap (λ t. to_of (t ∷ [])) (sym b))
 
-pub ends_at : (ts : List Placed) (n : ℕ) (d : Placed) → n < length ts → All EndsIn (view_of ts) → EndsIn (placed_view (get_or ts n d))
-ends_at ts n d h a = let l : n < length (view_of ts) = (let m = length-map ts placed_view in omega (arith, h, m)) in subst (λ t. EndsIn t) (get_or-map placed_view ts n d) (a n (placed_view d) l)
+pub ends_at : (ts : List PlacedToken) (n : ℕ) (t : PlacedToken) → slice_get ts n ≡ Some t → All EndsIn ts → EndsIn t
+ends_at ts n t e a = subst EndsIn (get_or_from_slice_get ts n t t e) (a n t (slice_get_within ts n t e))
 
-pub head_at : (ts : List Placed) (n : ℕ) (d : Placed) → n < length ts → from_of (drop n (view_of ts)) ≡ (get_or ts n d).at
-head_at [] n d h = absurd (omega (arith, h))
-head_at (t ∷ ts) zero d h = refl
-head_at (t ∷ ts) (suc n) d h = head_at ts n d (omega (arith, h))
+pub head_at : (ts : List PlacedToken) (n : ℕ) (t : PlacedToken) → Some t ≡ slice_get ts n → from_of (drop n ts) ≡ t.place
+head_at [] zero t e = absurd (cc)
+head_at [] (suc n) t e = absurd (cc)
+head_at (x ∷ ts) zero t e = let same : t ≡ x = cc in ap (λ y. y.place) (sym same)
+head_at (x ∷ ts) (suc n) t e = head_at ts n t e
 
-pub head_past : (ts : List Placed) (n : ℕ) → length ts ≤ n → from_of (drop n (view_of ts)) ≡ 0
-head_past [] zero h = refl
-head_past [] (suc n) h = refl
-head_past (t ∷ ts) zero h = absurd (omega (arith, h))
-head_past (t ∷ ts) (suc n) h = head_past ts n (omega (arith, h))
+pub head_past : (ts : List PlacedToken) (n : ℕ) → None ≡ slice_get ts n → from_of (drop n ts) ≡ 0
+head_past [] zero e = refl
+head_past [] (suc n) e = refl
+head_past (t ∷ ts) zero e = absurd (cc)
+head_past (t ∷ ts) (suc n) e = head_past ts n e

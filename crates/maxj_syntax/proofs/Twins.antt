@@ -8,7 +8,7 @@ use Rattle.std.proofs.lemmas.List.Folds.{list_any-append}
 use Rattle.std.proofs.lemmas.Slice.Eq.{bytes_eq-Decides}
 use Rattle.maxj_syntax.specs.Tree.{ClassTree, ClassesAre}
 use Rattle.maxj_syntax.specs.Faults.{has_class, has_twins}
-use Rattle.maxj_syntax.specs.declared.tree.Node.{Node as Cell}
+use Rattle.maxj_syntax.specs.Cells.{Cell}
 use Rattle.maxj_syntax.specs.declared.tree.Class.{Class}
 use Rattle.text_scan.proofs.ByteTests.{clash, not_true, true_or_false, bytes_same}
 

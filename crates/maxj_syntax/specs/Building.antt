@@ -4,7 +4,10 @@ use Rattle.grammar.specs.Stack.{Leads, Ends}
 use Rattle.mx_base.specs.declared.span.Span.{Span}
 use Rattle.maxj_syntax.specs.declared.tree.NodeKind.{NodeKind}
 use Rattle.maxj_syntax.specs.declared.tree.NodeKind.TheVariants as N
-use Rattle.maxj_syntax.specs.declared.tree.Node.{Node as Cell}
+use Rattle.maxj_syntax.specs.declared.draft.Draft.{Draft}
+use Rattle.maxj_syntax.specs.declared.draft.NodeWord.{NodeWord}
+use Rattle.maxj_syntax.specs.declared.draft.NodeWord.TheVariants as W
+use Rattle.maxj_syntax.specs.Cells.{Cell, word_in, cells_of}
 use Rattle.maxj_syntax.specs.declared.tree.Class.{Class}
 use Rattle.maxj_syntax.specs.declared.tree.Program.{Program}
 use Rattle.maxj_syntax.specs.declared.build.Unfinished.{Unfinished}
@@ -13,15 +16,13 @@ use Rattle.maxj_syntax.specs.declared.symbol.Effect.{Effect}
 use Rattle.maxj_syntax.specs.declared.symbol.Action.{Action}
 use Rattle.maxj_syntax.specs.declared.symbol.Rule.{Rule}
 use Rattle.maxj_syntax.specs.declared.symbol.Symbol.{Symbol as SymbolOf}
-use Rattle.maxj_tokens.specs.declared.token.Placed.{Placed}
 use Rattle.maxj_syntax.specs.declared.parser.Settled.{Settled}
 use Rattle.maxj_syntax.specs.declared.parser.Settled.TheVariants as T
 use Rattle.maxj_syntax.specs.declared.parser.ParseError.{ParseError}
 use Rattle.maxj_syntax.specs.declared.parser.ParseError.TheVariants as E
 use Rattle.maxj_tokens.specs.Tokens.{Token, written}
 use Rattle.maxj_tokens.specs.Scanning.{PlacedToken}
-use Rattle.maxj_tokens.specs.Reading.{placed_view}
-use Rattle.maxj_syntax.specs.Tree.{Node, Nil, one, ClassTree, AreAt, ClassesAre, ProgramIs}
+use Rattle.maxj_syntax.specs.Tree.{Node, Nil, one, ClassTree, AreAt, ClassesAre}
 use Rattle.maxj_syntax.specs.Productions.{IsFile}
 use Rattle.maxj_syntax.specs.Faults.{IsFirstMisplaced, IsMisplaced}
 use Rattle.maxj_syntax.specs.declared.kind.Kind.{Kind}
@@ -34,7 +35,7 @@ use Rattle.maxj_syntax.specs.Steps.{Entry, At, Below, Ground, On, Goes, fresh, n
 
 abbrev pub IsOpen : List Cell → List PlacedToken → Unfinished → Entry → Type 0
 IsOpen nodes tokens o (At x (Node k w s children)) =
-    (x ≡ drop o.start tokens) × (o.node.kind ≡ k) × (o.node.word ≡ w) × (o.node.span ≡ s) × AreAt nodes (length nodes) o.node.children children
+    (x ≡ drop o.start tokens) × (o.node.kind ≡ k) × (word_in tokens o.node.word ≡ w) × (o.node.span ≡ s) × AreAt nodes (length nodes) o.node.children children
 
 -- below the tree on top stand these, and at the ground the whole classes
 abbrev pub AreUnder : List Cell → List Class → List PlacedToken → List Unfinished → Below → Type 0
@@ -49,7 +50,7 @@ AreOpen nodes classes tokens (o ∷ os) b s = IsOpen nodes tokens o b × AreUnde
 
 -- the builder holds the tree b, and s below it
 abbrev pub Holds : List PlacedToken → Builder → Entry → Below → Type 0
-Holds tokens builder b s = AreOpen builder.nodes builder.classes tokens (reverse builder.unfinished.items) b s
+Holds tokens builder b s = AreOpen (cells_of tokens builder.nodes) builder.classes tokens (reverse builder.unfinished.items) b s
 
 -- what a step does to the builder, with xs still to be read
 abbrev pub Acts : List PlacedToken → Action → List PlacedToken → Builder → Builder → Type 0
@@ -64,25 +65,22 @@ abbrev pub Does : Action → Builder → Builder → Type 0
 Does a old new = (tokens xs : List PlacedToken) → Acts tokens a xs old new
 
 -- a new tree without children
-abbrev pub Adds : NodeKind → List ℕ → Span → ℕ → Builder → Builder → Type 0
-Adds k w span start old new = (tokens : List PlacedToken) (b : Entry) (s : Below) → Holds tokens old b s → Holds tokens new (At (drop start tokens) (Node k w span Nil)) (On b s)
+abbrev pub Adds : NodeKind → NodeWord → Span → ℕ → Builder → Builder → Type 0
+Adds k w span start old new = (tokens : List PlacedToken) (b : Entry) (s : Below) → Holds tokens old b s → Holds tokens new (At (drop start tokens) (Node k (word_in tokens w) span Nil)) (On b s)
 
 -- the tree on top becomes the first child of a new one
-abbrev pub Wraps : NodeKind → List ℕ → Builder → Builder → Type 0
-Wraps k w old new = (tokens : List PlacedToken) (b : Entry) (s : Below) → Holds tokens old b s → Holds tokens new (At (start_of b) (Node k w no_span (one (tree_of b)))) s
+abbrev pub Wraps : NodeKind → NodeWord → Builder → Builder → Type 0
+Wraps k w old new = (tokens : List PlacedToken) (b : Entry) (s : Below) → Holds tokens old b s → Holds tokens new (At (start_of b) (Node k (word_in tokens w) no_span (one (tree_of b)))) s
 
-abbrev pub Texts : List ℕ → Builder → Builder → Type 0
-Texts w old new = (tokens : List PlacedToken) (b : Entry) (s : Below) → Holds tokens old b s → Holds tokens new (At (start_of b) (with_text w (tree_of b))) s
+abbrev pub Texts : NodeWord → Builder → Builder → Type 0
+Texts w old new = (tokens : List PlacedToken) (b : Entry) (s : Below) → Holds tokens old b s → Holds tokens new (At (start_of b) (with_text (word_in tokens w) (tree_of b))) s
 
 -- a node without children
-pub record IsLeaf (node : Cell) (k : NodeKind) (w : List ℕ) (span : Span) : Type 0 where
+pub record IsLeaf (node : Draft) (k : NodeKind) (w : NodeWord) (span : Span) : Type 0 where
   pub kind : node.kind ≡ k
   pub word : node.word ≡ w
   pub span_is : node.span ≡ span
   pub children : node.children ≡ []
-
-abbrev pub view_of : List Placed → List PlacedToken
-view_of tokens = map placed_view tokens
 
 -- the stack, the top first
 abbrev pub todo : List SymbolOf → List Symbol
@@ -97,7 +95,7 @@ bottom = At [] (fresh N.Empty [])
 
 -- a builder that has begun nothing: one node below all others, and no class
 abbrev pub AreBottom : ℕ → List Unfinished → Type 0
-AreBottom n (o ∷ []) = (o.start ≡ n) × (o.node.kind ≡ N.Empty) × (o.node.word ≡ []) × (o.node.span ≡ no_span) × (o.node.children ≡ [])
+AreBottom n (o ∷ []) = (o.start ≡ n) × (o.node.kind ≡ N.Empty) × (o.node.word ≡ W.Nothing) × (o.node.span ≡ no_span) × (o.node.children ≡ [])
 AreBottom n _ = ⊥
 
 abbrev pub IsBottom : ℕ → Builder → Type 0
@@ -154,12 +152,15 @@ IsRefused T.Stuck t = Unit {0}
 abbrev pub EndsIn : PlacedToken → Type 0
 EndsIn t = t.place + length (written t.token) < 2 ^ 32
 
--- the tokens are a file, the program holds its classes, and no other classes are read in these tokens
-pub record IsTheFile (tokens : List PlacedToken) (p : Program) : Type 0 where
+-- the tokens are a file, the nodes hold its classes, and no other classes are read in these tokens
+pub record IsTheFileOf (tokens : List PlacedToken) (nodes : List Cell) (held : List Class) : Type 0 where
   pub classes : List ClassTree
   pub file : IsFile tokens classes
   pub only : (others : List ClassTree) → IsFile tokens others → others ≡ classes
-  pub program : ProgramIs p classes
+  pub program : ClassesAre nodes held classes
+
+abbrev pub IsTheFile : List PlacedToken → Program → Type 0
+IsTheFile tokens p = IsTheFileOf tokens p.tree p.classes
 
 -- why there is none
 abbrev pub FailsToParse : List PlacedToken → ℕ → ParseError → Type 0

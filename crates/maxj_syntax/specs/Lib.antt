@@ -1,8 +1,12 @@
+pub mod Cells
+pub mod Views
+pub mod Store
 pub mod Tree
 pub mod Derivation
 pub mod Productions
 pub mod Faults
 pub mod Source
+pub mod Lines
 pub mod Kinds
 pub mod Symbols
 pub mod Moves

@@ -2,7 +2,7 @@
 use Rattle.std.specs.Prelude.{◌≡◌, ◌<◌, ℕ, Bool, List, [], ◌∷◌, Some, slice_get}
 use Rattle.mx_base.specs.declared.span.Span.{Span}
 use Rattle.maxj_syntax.specs.declared.tree.NodeKind.{NodeKind}
-use Rattle.maxj_syntax.specs.declared.tree.Node.{Node as Cell}
+use Rattle.maxj_syntax.specs.Cells.{Cell}
 use Rattle.maxj_syntax.specs.declared.tree.Class.{Class}
 use Rattle.maxj_syntax.specs.declared.tree.Program.{Program}
 
@@ -52,4 +52,4 @@ ClassesAre nodes [] (t ∷ ts) = ⊥
 ClassesAre nodes (c ∷ cs) [] = ⊥
 
 abbrev pub ProgramIs : Program → List ClassTree → Type 0
-ProgramIs p ts = ClassesAre p.nodes p.classes ts
+ProgramIs p ts = ClassesAre p.tree p.classes ts

@@ -1,47 +1,35 @@
 // Trees that are being built.
-ghost use Rattle.std.specs.Prelude.{◌≡◌, ◌<◌, ◌≤◌, ◌+◌, ◌-◌, ◌++◌, ◌∷◌, [], length, drop, take, map, IfOk, OnOk, codes};
+ghost use Rattle.std.specs.Prelude.{◌≡◌, ◌<◌, ◌≤◌, ◌+◌, ◌-◌, ◌∷◌, [], length, drop, take, slice_get, Some, List as Items, ◌^◌, IfOk};
 ghost use Rattle.std.specs.List.{All};
-ghost use Rattle.maxj_tokens.specs.Tokens.{written};
-ghost use Rattle.maxj_tokens.specs.Scanning.{span_of, from_of, to_of};
+ghost use Rattle.maxj_tokens.specs.Scanning.{PlacedToken, span_of, from_of, to_of};
 ghost use Rattle.maxj_tokens.specs.Reading.{token_view, placed_view};
 ghost use Rattle.maxj_syntax.specs.TokenClasses.{leaf_kind};
-ghost use Rattle.maxj_syntax.specs.Building.{Acts, Takes, Adds, Wraps, Does, Texts, IsBottom, IsLeaf, EndsIn, view_of};
+ghost use Rattle.maxj_syntax.specs.Building.{Acts, Takes, Adds, Wraps, Does, Texts, IsBottom, IsLeaf, EndsIn};
 
+use crate::draft::{Draft, NodeWord, word_of, written};
+use crate::nodes::Nodes;
 use crate::symbol::{Action, Effect};
-use crate::tree::{Class, Node, NodeKind};
-use maxj_tokens::{Placed, Token};
+use crate::tree::{Class, NodeKind};
+use maxj_tokens::{Placed, Token, Tokens};
 use mx_base::{List, NoMemory, Span, Text};
 use std::alloc::Global;
 
 /// A node that is being built: from the token with the number `start` on.
 #[derive(Drop)]
 pub struct Unfinished {
-    pub node: Node,
+    pub node: Draft,
     pub start: usize,
 }
 
 /// The nodes that are whole, those that are being built, the last one first to end, and the classes that are whole.
 #[derive(Drop)]
 pub struct Builder {
-    pub nodes: List<Node>,
+    pub nodes: Nodes,
     pub unfinished: Vec<Unfinished>,
     pub classes: List<Class>,
 }
 
 const NO_SPAN: Span = Span { from: 0, to: 0 };
-
-/// The bytes of a token, as they are written.
-fn written<'a>(token: &Token<'a>) -> &'a [u8]
-    ensures { result.now ≡ written (token_view token.now) }
-{
-    match *token {
-        Token::Word(bytes) => bytes,
-        Token::Whole(bytes) => bytes,
-        Token::Decimal(bytes) => bytes,
-        Token::Str(bytes) => bytes,
-        Token::Sign(sign) => sign.bytes(),
-    }
-}
 
 fn leaf_kind(token: &Token<'_>) -> NodeKind
     ensures { result ≡ leaf_kind (token_view token.now) }
@@ -63,15 +51,17 @@ fn end_of(token: &Placed<'_>) -> u32
 }
 
 /// The span of the tokens from the one with the number `start` up to the one with the number `end`.
-fn span_between(tokens: &[Placed<'_>], start: usize, end: usize) -> Span
-    requires ends { All EndsIn (view_of tokens.now) }
+fn span_between(tokens: &Tokens<'_>, start: usize, end: usize) -> Span
+    requires ends { All EndsIn tokens.now }
     requires within { end ≤ length tokens.now }
-    ensures { result ≡ span_of (take (end - start) (drop start (view_of tokens.now))) }
+    ensures { result ≡ span_of (take (end - start) (drop start tokens.now)) }
 {
     if start < end {
+        let first = tokens.at(start);
+        let last = tokens.at(end - 1);
         Span {
-            from: tokens[start].at,
-            to: end_of(&tokens[end - 1]),
+            from: first.at,
+            to: end_of(&last),
         }
     } else {
         NO_SPAN
@@ -79,75 +69,59 @@ fn span_between(tokens: &[Placed<'_>], start: usize, end: usize) -> Span
 }
 
 /// A node without children.
-fn leaf(alloc: Global, kind: NodeKind, word: &[u8], span: Span) -> Result<Node, NoMemory>
-    ensures { IfOk result (λ node. IsLeaf node kind word.now span) }
+fn leaf(alloc: Global, kind: NodeKind, word: NodeWord, span: Span) -> Draft
+    ensures { IsLeaf result kind word span }
 {
-    let word = Text::from_vec(word.to_vec(alloc)?);
-    Ok(Node {
+    Draft {
         kind,
         word,
         span,
         children: List::new(alloc),
-    })
+    }
 }
 
-/// The word of a node, of which nothing else is kept.
-fn into_word(unfinished: Unfinished) -> Text
-    ensures { result ≡ unfinished.node.word }
-{
-    let node = unfinished.node;
-    node.word
-}
-
-/// A builder that has begun nothing: one node stands below all others.
+/// A builder that has begun nothing: one node stands below all others. It has room for as many
+/// nodes as there are tokens.
 pub fn bottom(alloc: Global, end: usize) -> Result<Builder, NoMemory>
     ensures { IfOk result (λ b. IsBottom end b) }
 {
-    let node = leaf(alloc, NodeKind::Empty, b"", NO_SPAN)?;
+    let node = leaf(alloc, NodeKind::Empty, NodeWord::Nothing, NO_SPAN);
     let mut unfinished = Vec::new(alloc);
     unfinished.push(Unfinished { node, start: end })?;
     Ok(Builder {
-        nodes: List::new(alloc),
+        nodes: Nodes::with_capacity(alloc, end)?,
         unfinished,
         classes: List::new(alloc),
     })
-}
-
-/// The node becomes a whole one, with this number.
-fn finish(nodes: &mut List<Node>, node: Node) -> Result<u32, NoMemory>
-    ensures number { IfOk result (λ n. n ≡ length nodes.old) }
-    ensures nodes { OnOk result (nodes.new ≡ nodes.old ++ node ∷ []) }
-{
-    let number = nodes.len();
-    if number > u32::MAX as usize {
-        return Err(NoMemory);
-    }
-    nodes.push(node)?;
-    Ok(number as u32)
 }
 
 fn begin(
     alloc: Global,
     builder: &mut Builder,
     kind: NodeKind,
-    word: &[u8],
+    word: NodeWord,
     span: Span,
     start: usize,
 ) -> Result<(), NoMemory>
-    ensures { IfOk result (λ _. Adds kind word.now span start builder.old builder.new) }
+    ensures { IfOk result (λ _. Adds kind word span start builder.old builder.new) }
 {
-    let node = leaf(alloc, kind, word, span)?;
+    let node = leaf(alloc, kind, word, span);
     builder.unfinished.push(Unfinished { node, start })?;
     Ok(())
 }
 
 /// The node on top becomes the first child of a new one.
-fn wrap(alloc: Global, builder: &mut Builder, kind: NodeKind, word: &[u8]) -> Result<(), NoMemory>
-    ensures { IfOk result (λ _. Wraps kind word.now builder.old builder.new) }
+fn wrap(
+    alloc: Global,
+    builder: &mut Builder,
+    kind: NodeKind,
+    word: NodeWord,
+) -> Result<(), NoMemory>
+    ensures { IfOk result (λ _. Wraps kind word builder.old builder.new) }
 {
     if let Some(top) = builder.unfinished.pop() {
-        let child = finish(&mut builder.nodes, top.node)?;
-        let mut node = leaf(alloc, kind, word, NO_SPAN)?;
+        let child = builder.nodes.push(top.node)?;
+        let mut node = leaf(alloc, kind, word, NO_SPAN);
         node.children.push(child)?;
         builder.unfinished.push(Unfinished {
             node,
@@ -163,7 +137,7 @@ fn into_below(builder: &mut Builder) -> Result<(), NoMemory>
 {
     if let Some(top) = builder.unfinished.pop() {
         if let Some(mut below) = builder.unfinished.pop() {
-            let child = finish(&mut builder.nodes, top.node)?;
+            let child = builder.nodes.push(top.node)?;
             below.node.children.push(child)?;
             builder.unfinished.push(below)?;
         } else {
@@ -194,7 +168,7 @@ fn named(builder: &mut Builder) -> Result<(), NoMemory>
 {
     if let Some(top) = builder.unfinished.pop() {
         if let Some(mut below) = builder.unfinished.pop() {
-            below.node.word = into_word(top);
+            below.node.word = top.node.word;
             builder.unfinished.push(below)?;
         } else {
             builder.unfinished.push(top)?;
@@ -203,10 +177,10 @@ fn named(builder: &mut Builder) -> Result<(), NoMemory>
     Ok(())
 }
 
-fn end(builder: &mut Builder, tokens: &[Placed<'_>], at: usize) -> Result<(), NoMemory>
-    requires ends { All EndsIn (view_of tokens.now) }
+fn end(builder: &mut Builder, tokens: &Tokens<'_>, at: usize) -> Result<(), NoMemory>
+    requires ends { All EndsIn tokens.now }
     requires within { at ≤ length tokens.now }
-    ensures { IfOk result (λ _. Acts (view_of tokens.now) Action.End (drop at (view_of tokens.now)) builder.old builder.new) }
+    ensures { IfOk result (λ _. Acts tokens.now Action.End (drop at tokens.now) builder.old builder.new) }
 {
     if let Some(mut top) = builder.unfinished.pop() {
         top.node.span = span_between(tokens, top.start, at);
@@ -225,10 +199,9 @@ fn turn(builder: &mut Builder, kind: NodeKind) -> Result<(), NoMemory>
     Ok(())
 }
 
-fn text(alloc: Global, builder: &mut Builder, word: &[u8]) -> Result<(), NoMemory>
-    ensures { IfOk result (λ _. Texts word.now builder.old builder.new) }
+fn text(builder: &mut Builder, word: NodeWord) -> Result<(), NoMemory>
+    ensures { IfOk result (λ _. Texts word builder.old builder.new) }
 {
-    let word = Text::from_vec(word.to_vec(alloc)?);
     if let Some(mut top) = builder.unfinished.pop() {
         top.node.word = word;
         builder.unfinished.push(top)?;
@@ -237,25 +210,28 @@ fn text(alloc: Global, builder: &mut Builder, word: &[u8]) -> Result<(), NoMemor
 }
 
 /// The place of the token with the number `at`, or 0 at the end.
-fn place_at(tokens: &[Placed<'_>], at: usize) -> u32
-    ensures { result ≡ from_of (drop at (view_of tokens.now)) }
+fn place_at(tokens: &Tokens<'_>, at: usize) -> u32
+    ensures { result ≡ from_of (drop at tokens.now) }
 {
-    if at < tokens.len() { tokens[at].at } else { 0 }
+    match tokens.get(at) {
+        Some(token) => token.at,
+        None => 0,
+    }
 }
 
 /// The node of what is absent.
 fn hole(
     alloc: Global,
     builder: &mut Builder,
-    tokens: &[Placed<'_>],
+    tokens: &Tokens<'_>,
     at: usize,
 ) -> Result<(), NoMemory>
     requires { at ≤ length tokens.now }
-    ensures { IfOk result (λ _. Acts (view_of tokens.now) Action.Hole (drop at (view_of tokens.now)) builder.old builder.new) }
+    ensures { IfOk result (λ _. Acts tokens.now Action.Hole (drop at tokens.now) builder.old builder.new) }
 {
     let from = place_at(tokens, at);
     let span = Span { from, to: from };
-    begin(alloc, builder, NodeKind::Empty, b"", span, at)?;
+    begin(alloc, builder, NodeKind::Empty, NodeWord::Nothing, span, at)?;
     Ok(())
 }
 
@@ -263,16 +239,16 @@ fn hole(
 fn memory(
     alloc: Global,
     builder: &mut Builder,
-    tokens: &[Placed<'_>],
+    tokens: &Tokens<'_>,
     at: usize,
 ) -> Result<(), NoMemory>
-    requires ends { All EndsIn (view_of tokens.now) }
+    requires ends { All EndsIn tokens.now }
     requires within { at ≤ length tokens.now }
-    ensures { IfOk result (λ _. Acts (view_of tokens.now) Action.Memory (drop at (view_of tokens.now)) builder.old builder.new) }
+    ensures { IfOk result (λ _. Acts tokens.now Action.Memory (drop at tokens.now) builder.old builder.new) }
 {
     if let Some(mut top) = builder.unfinished.pop() {
         let span = span_between(tokens, top.start, at);
-        top.node = leaf(alloc, NodeKind::Plain, b"Memory", span)?;
+        top.node = leaf(alloc, NodeKind::Plain, NodeWord::Memory, span);
         builder.unfinished.push(top)?;
     }
     Ok(())
@@ -282,21 +258,20 @@ fn memory(
 fn declare(
     alloc: Global,
     builder: &mut Builder,
-    tokens: &[Placed<'_>],
+    tokens: &Tokens<'_>,
     at: usize,
 ) -> Result<(), NoMemory>
-    requires ends { All EndsIn (view_of tokens.now) }
+    requires ends { All EndsIn tokens.now }
     requires within { at ≤ length tokens.now }
-    ensures { IfOk result (λ _. Acts (view_of tokens.now) Action.Declare (drop at (view_of tokens.now)) builder.old builder.new) }
+    ensures { IfOk result (λ _. Acts tokens.now Action.Declare (drop at tokens.now) builder.old builder.new) }
 {
     if let Some(top) = builder.unfinished.pop() {
         if let Some(mut below) = builder.unfinished.pop() {
             let to = top.start.min(tokens.len());
             let span = span_between(tokens, below.start, to);
-            let memory = leaf(alloc, NodeKind::Plain, b"Memory", span)?;
-            let child = finish(&mut builder.nodes, memory)?;
-            let mut node = leaf(alloc, NodeKind::Local, b"", NO_SPAN)?;
-            node.word = into_word(top);
+            let memory = leaf(alloc, NodeKind::Plain, NodeWord::Memory, span);
+            let child = builder.nodes.push(memory)?;
+            let mut node = leaf(alloc, NodeKind::Local, top.node.word, NO_SPAN);
             node.children.push(child)?;
             below.node = node;
             builder.unfinished.push(below)?;
@@ -308,15 +283,20 @@ fn declare(
 }
 
 /// The node on top is a whole class.
-fn keep(alloc: Global, builder: &mut Builder, manager: bool) -> Result<(), NoMemory>
-    ensures { IfOk result (λ _. Does (Action.Keep manager) builder.old builder.new) }
+fn keep(
+    alloc: Global,
+    builder: &mut Builder,
+    manager: bool,
+    tokens: &Tokens<'_>,
+) -> Result<(), NoMemory>
+    ensures { IfOk result (λ _. (xs : Items PlacedToken) → Acts tokens.now (Action.Keep manager) xs builder.old builder.new) }
 {
     if let Some(top) = builder.unfinished.pop() {
         if let Some(below) = builder.unfinished.pop() {
-            let name = top.node.word.copy(alloc)?;
-            let node = finish(&mut builder.nodes, top.node)?;
+            let name = word_of(tokens, top.node.word).to_vec(alloc)?;
+            let node = builder.nodes.push(top.node)?;
             builder.classes.push(Class {
-                name,
+                name: Text::from_vec(name),
                 manager,
                 node,
             })?;
@@ -333,16 +313,16 @@ pub fn act(
     alloc: Global,
     builder: &mut Builder,
     action: Action,
-    tokens: &[Placed<'_>],
+    tokens: &Tokens<'_>,
     at: usize,
 ) -> Result<(), NoMemory>
-    requires ends { All EndsIn (view_of tokens.now) }
+    requires ends { All EndsIn tokens.now }
     requires within { at ≤ length tokens.now }
-    ensures { IfOk result (λ _. Acts (view_of tokens.now) action (drop at (view_of tokens.now)) builder.old builder.new) }
+    ensures { IfOk result (λ _. Acts tokens.now action (drop at tokens.now) builder.old builder.new) }
 {
     match action {
-        Action::Begin(kind) => begin(alloc, builder, kind, b"", NO_SPAN, at),
-        Action::Wrap(kind) => wrap(alloc, builder, kind, b""),
+        Action::Begin(kind) => begin(alloc, builder, kind, NodeWord::Nothing, NO_SPAN, at),
+        Action::Wrap(kind) => wrap(alloc, builder, kind, NodeWord::Nothing),
         Action::Turn(kind) => turn(builder, kind),
         Action::Into => into_below(builder),
         Action::End => end(builder, tokens, at),
@@ -351,7 +331,7 @@ pub fn act(
         Action::Hole => hole(alloc, builder, tokens, at),
         Action::Memory => memory(alloc, builder, tokens, at),
         Action::Declare => declare(alloc, builder, tokens, at),
-        Action::Keep(manager) => keep(alloc, builder, manager),
+        Action::Keep(manager) => keep(alloc, builder, manager, tokens),
     }
 }
 
@@ -360,21 +340,29 @@ pub fn read(
     alloc: Global,
     builder: &mut Builder,
     effect: Effect,
-    token: &Token<'_>,
-    tokens: &[Placed<'_>],
+    tokens: &Tokens<'_>,
     at: usize,
 ) -> Result<(), NoMemory>
-    requires ends { All EndsIn (view_of tokens.now) }
+    requires ends { All EndsIn tokens.now }
+    requires few { length tokens.now < 2 ^ 32 }
     requires within { at < length tokens.now }
-    ensures { IfOk result (λ _. Takes (view_of tokens.now) effect (token_view token.now) (drop at (view_of tokens.now)) (drop (at + 1) (view_of tokens.now)) builder.old builder.new) }
+    ensures { IfOk result (λ _. (t : PlacedToken) → slice_get tokens.now at ≡ Some t
+        → Takes tokens.now effect t.token (drop at tokens.now) (drop (at + 1) tokens.now) builder.old builder.new) }
 {
-    let word = written(token);
+    let word = NodeWord::Token(at as u32);
     let span = span_between(tokens, at, at + 1);
     match effect {
         Effect::Skip => Ok(()),
-        Effect::Leaf => begin(alloc, builder, leaf_kind(token), word, span, at),
+        Effect::Leaf => begin(
+            alloc,
+            builder,
+            leaf_kind(&tokens.at(at).token),
+            word,
+            span,
+            at,
+        ),
         Effect::Push(kind) => begin(alloc, builder, kind, word, span, at),
         Effect::Over(kind) => wrap(alloc, builder, kind, word),
-        Effect::Text => text(alloc, builder, word),
+        Effect::Text => text(builder, word),
     }
 }

@@ -9,7 +9,8 @@ ghost use Rattle.maxj_syntax.specs.Symbols.{symbol_view, named_view};
 ghost use Rattle.maxj_syntax.specs.Productions.{is_name};
 ghost use Rattle.maxj_syntax.specs.TokenClasses.{class_has};
 ghost use Rattle.maxj_syntax.specs.Choosing.{kind_at};
-ghost use Rattle.maxj_syntax.specs.Building.{view_of, todo, IsExpanded, IsChosen, IsRule, IsTaken, IsRefused, token_of_word, Reached, Settles, EndsIn, IsTheFile, FailsToParse};
+ghost use Rattle.maxj_syntax.specs.Building.{todo, IsExpanded, IsChosen, IsRule, IsTaken, IsRefused, token_of_word, Reached, Settles, EndsIn, IsTheFile, IsTheFileOf, FailsToParse};
+ghost use Rattle.maxj_syntax.specs.Cells.{cells_of};
 
 use crate::build::{self, Builder};
 use crate::choosing::choice;
@@ -19,8 +20,8 @@ use crate::kind::{Kind, Word, kind_of};
 use crate::members::{push_after, push_head, push_member};
 use crate::stack::push_fixed;
 use crate::symbol::{Effect, Fixed, Named, Rule, Symbol, TokenClass};
-use crate::tree::Program;
-use maxj_tokens::{Placed, Token};
+use crate::tree::{Program, SyntaxTree};
+use maxj_tokens::{Placed, Token, Tokens};
 use mx_base::NoMemory;
 use std::alloc::Global;
 
@@ -104,27 +105,23 @@ pub enum Settled<'a> {
     Stuck,
 }
 
-fn token_at<'a>(tokens: &[Placed<'a>], at: usize) -> Option<Placed<'a>>
-    ensures { head_of (drop at (view_of tokens.now)) ≡ option_map placed_view result }
+fn token_at<'a>(tokens: &Tokens<'a>, at: usize) -> Option<Placed<'a>>
+    ensures { head_of (drop at tokens.now) ≡ option_map placed_view result }
 {
-    if at < tokens.len() {
-        Some(tokens[at])
-    } else {
-        None
-    }
+    tokens.get(at)
 }
 
 fn settle<'a>(
     alloc: Global,
     stack: &mut Vec<Symbol<'a>>,
     builder: &mut Builder,
-    tokens: &[Placed<'a>],
+    tokens: &Tokens<'a>,
     at: usize,
 ) -> Result<Settled<'a>, NoMemory>
-    requires ends { All EndsIn (view_of tokens.now) }
+    requires ends { All EndsIn tokens.now }
     requires within { at ≤ length tokens.now }
-    requires reached { Reached (view_of tokens.now) (drop at (view_of tokens.now)) (todo stack.old.items) builder.old }
-    ensures { IfOk result (λ s. Settles s (view_of tokens.now) (drop at (view_of tokens.now)) (todo stack.new.items) builder.new) }
+    requires reached { Reached tokens.now (drop at tokens.now) (todo stack.old.items) builder.old }
+    ensures { IfOk result (λ s. Settles s tokens.now (drop at tokens.now) (todo stack.new.items) builder.new) }
 {
     let next = token_at(tokens, at);
     let kind = next_kind(next);
@@ -184,31 +181,40 @@ fn taken(settled: Settled<'_>, token: &Token<'_>) -> Option<Effect>
     }
 }
 
-/// The classes of the source that the tokens are, and the nodes of their trees. The source has `size` bytes. No tokens have two trees.
-pub fn parse_tokens(alloc: Global, tokens: &[Placed<'_>], size: u32) -> Result<Program, ParseError>
-    requires { All EndsIn (view_of tokens.now) }
-    ensures ok { IfOk result (λ p. IsTheFile (view_of tokens.now) p) }
-    ensures err { IfErr result (λ e. FailsToParse (view_of tokens.now) size e) }
+/// The classes of the source that the tokens are, and the nodes of their trees.
+fn build_classes(alloc: Global, tokens: &Tokens<'_>, size: u32) -> Result<Builder, ParseError>
+    requires { All EndsIn tokens.now }
+    ensures ok { IfOk result (λ b. IsTheFileOf tokens.now (cells_of tokens.now b.nodes) b.classes) }
+    ensures err { IfErr result (λ e. FailsToParse tokens.now size e) }
 {
     let mut stack = Vec::new(alloc);
     push_fixed(&mut stack, &[Fixed::Sub(Rule::File)])?;
-    let mut builder = build::bottom(alloc, tokens.len())?;
-    for (at, token) in tokens.iter().enumerate() {
+    let count = tokens.len();
+    let mut builder = build::bottom(alloc, count)?;
+    for at in 0..count {
+        let token = tokens.at(at);
         let settled = settle(alloc, &mut stack, &mut builder, tokens, at)?;
         let Some(effect) = taken(settled, &token.token) else {
             return Err(ParseError::Misplaced(token.at));
         };
-        build::read(alloc, &mut builder, effect, &token.token, tokens, at)?;
+        build::read(alloc, &mut builder, effect, tokens, at)?;
     }
-    match settle(alloc, &mut stack, &mut builder, tokens, tokens.len())? {
-        Settled::Empty => {
-            let Builder {
-                nodes,
-                unfinished: _,
-                classes,
-            } = builder;
-            Ok(Program { classes, nodes })
-        }
+    match settle(alloc, &mut stack, &mut builder, tokens, count)? {
+        Settled::Empty => Ok(builder),
         _ => Err(ParseError::Misplaced(size)),
     }
+}
+
+/// The classes of the source that the tokens are, and the tree of their nodes. The source has `size`
+/// bytes. No tokens have two trees.
+pub fn parse_tokens(alloc: Global, tokens: Tokens<'_>, size: u32) -> Result<Program<'_>, ParseError>
+    requires { All EndsIn tokens }
+    ensures ok { IfOk result (λ p. IsTheFile tokens.entry p) }
+    ensures err { IfErr result (λ e. FailsToParse tokens.entry size e) }
+{
+    let builder = build_classes(alloc, &tokens, size)?;
+    Ok(Program {
+        classes: builder.classes,
+        tree: SyntaxTree::new(tokens, builder.nodes),
+    })
 }

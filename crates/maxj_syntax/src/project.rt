@@ -2,7 +2,7 @@
 ghost use Rattle.std.specs.Prelude.{◌≡◌, ◌↔◌, List as Items, IsTrue, IfOk, count_by};
 ghost use Rattle.maxj_syntax.specs.Tree.{ClassTree, ClassesAre, ProgramIs};
 ghost use Rattle.maxj_syntax.specs.Faults.{IsNoProject, has_twins};
-ghost use Rattle.maxj_syntax.specs.declared.tree.Node.{Node as Cell};
+ghost use Rattle.maxj_syntax.specs.Cells.{Cell};
 ghost use Rattle.maxj_syntax.specs.declared.tree.Class.{Class as Entry};
 
 use crate::tree::{Class, Program};
@@ -32,7 +32,7 @@ fn managers(classes: &[Class]) -> usize
 
 /// Whether the classes are no project: there is no kernel, or there are two managers, two classes of one
 /// name, or several kernels and no manager.
-pub fn is_no_project(alloc: Global, program: &Program) -> Result<bool, NoMemory>
+pub fn is_no_project(alloc: Global, program: &Program<'_>) -> Result<bool, NoMemory>
     ensures { IfOk result (λ no. (classes : Items ClassTree) → ProgramIs program.now classes → (IsTrue no ↔ IsNoProject classes)) }
 {
     let classes = program.classes.as_slice();

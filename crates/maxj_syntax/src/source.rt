@@ -62,17 +62,16 @@ impl From<ParseError> for SourceError {
 }
 
 /// The classes of the source that the bytes are, and the nodes of their trees, or the first fault. There are fewer than 2^32 bytes.
-pub fn parse(alloc: Global, bytes: &[u8]) -> Result<Program, SourceError>
+pub fn parse(alloc: Global, bytes: &[u8]) -> Result<Program<'_>, SourceError>
     requires { length bytes.now < 2 ^ 32 }
     ensures ok { IfOk result (λ p. IsTheSource bytes.now p) }
     ensures err { IfErr result (λ e. FailsToRead bytes.now e) }
 {
     let tokens = scan(alloc, bytes)?;
-    let tokens = tokens.as_slice();
-    if let Some(place) = first_outside(tokens) {
+    if let Some(place) = first_outside(&tokens) {
         return Err(SourceError::Outside(place));
     }
-    if let Some(place) = first_excess(tokens) {
+    if let Some(place) = first_excess(&tokens) {
         return Err(SourceError::Excess(place));
     }
     let program = parse_tokens(alloc, tokens, bytes.len() as u32)?;

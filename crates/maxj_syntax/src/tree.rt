@@ -1,5 +1,13 @@
 // The tree of a source.
+ghost use Rattle.std.specs.Prelude.{◌≡◌, ◌↔◌, Some, None, slice_get, IsTrue, IfSome, IfNone};
+ghost use Rattle.maxj_syntax.specs.Cells.{cells_of};
+ghost use Rattle.maxj_syntax.specs.Views.{node_view};
+
+use crate::draft::word_of;
+use crate::nodes::Nodes;
+use maxj_tokens::Tokens;
 use mx_base::{List, Span, Text};
+use std::marker::Model;
 
 /// What a node of the tree is.
 #[derive(Clone, Copy, Debug, PartialEq, Eq)]
@@ -68,14 +76,67 @@ pub enum NodeKind {
     Name,
 }
 
-/// A node: its kind, its word, the bytes that it stands for, and the numbers of its children, each smaller than its own.
-#[derive(Drop)]
-pub struct Node {
+/// The number of a node in its tree, from 0.
+pub type NodeId = u32;
+
+/// A node of a tree, lent by it.
+#[derive(Clone, Copy)]
+pub struct Node<'a> {
     pub kind: NodeKind,
     /// Empty where the kind has no word.
-    pub word: Text,
+    pub word: &'a [u8],
+    /// The bytes that it stands for.
     pub span: Span,
-    pub children: List<u32>,
+    /// The numbers of its children, each smaller than its own.
+    pub children: &'a [NodeId],
+}
+
+impl Node<'_> {
+    /// Whether the node's word is this one.
+    pub fn is(&self, word: &[u8]) -> bool
+        ensures { IsTrue result ↔ (self.now.word.now ≡ word.now) }
+    {
+        self.word == word
+    }
+}
+
+/// The nodes of a source's tree, which lend its bytes. A contract sees the list of them.
+#[derive(Drop)]
+pub struct SyntaxTree<'a> {
+    tokens: Tokens<'a>,
+    nodes: Nodes,
+}
+
+impl<'a> Model for SyntaxTree<'a> {
+    ghost use Rattle.std.specs.Prelude.{List as Items};
+    ghost use Rattle.maxj_syntax.specs.Cells.{Cell, cells_of};
+
+    ghost Value = { Items Cell };
+
+    ghost view = { λ t. cells_of t.tokens t.nodes };
+}
+
+impl<'a> SyntaxTree<'a> {
+    /// The nodes, whose words are those of the tokens.
+    pub fn new(tokens: Tokens<'a>, nodes: Nodes) -> Self
+        ensures { result ≡ cells_of tokens.entry nodes }
+    {
+        SyntaxTree { tokens, nodes }
+    }
+
+    /// The node with this number, or `None` where the tree has no such node.
+    pub fn node(&self, id: NodeId) -> Option<Node<'_>>
+        ensures some { IfSome result (λ node. slice_get self.now id ≡ Some (node_view node)) }
+        ensures none { IfNone result (slice_get self.now id ≡ None) }
+    {
+        let node = self.nodes.get(id)?;
+        Some(Node {
+            kind: node.kind,
+            word: word_of(&self.tokens, node.word),
+            span: node.span,
+            children: node.children,
+        })
+    }
 }
 
 /// A class of a source.
@@ -84,13 +145,12 @@ pub struct Class {
     pub name: Text,
     /// Whether it is a manager, and no kernel.
     pub manager: bool,
-    /// The number of its node.
-    pub node: u32,
+    pub node: NodeId,
 }
 
-/// A whole source: its classes in order, and the nodes of its tree.
+/// A whole source: its classes in order, and the nodes of their trees.
 #[derive(Drop)]
-pub struct Program {
+pub struct Program<'a> {
     pub classes: List<Class>,
-    pub nodes: List<Node>,
+    pub tree: SyntaxTree<'a>,
 }

@@ -1,4 +1,4 @@
-use maxj_syntax::{NodeKind, Program, SourceError, parse};
+use maxj_syntax::{NodeId, NodeKind, Program, SourceError, parse};
 use mx_base::{NoMemory, Text};
 use std::alloc::Global;
 
@@ -55,13 +55,13 @@ fn number(out: &mut Text, value: u32) -> Result<(), NoMemory> {
 
 // The tree under a node, down to a depth: (kind word from-to children).
 fn show(
-    program: &Program,
-    node: u32,
+    program: &Program<'_>,
+    node: NodeId,
     depth: u8,
     spans: bool,
     out: &mut Text,
 ) -> Result<(), NoMemory> {
-    let Some(node) = program.nodes.get(node as usize) else {
+    let Some(node) = program.tree.node(node) else {
         return Ok(())
     };
     if depth == 0 {
@@ -69,9 +69,9 @@ fn show(
     }
     out.append(b"(")?;
     out.append(code(node.kind))?;
-    if node.word.len() > 0 {
+    if !node.word.is_empty() {
         out.append(b" ")?;
-        out.append(node.word.as_bytes())?;
+        out.append(node.word)?;
     }
     if spans {
         out.append(b" ")?;
@@ -79,7 +79,7 @@ fn show(
         out.append(b"-")?;
         number(out, node.span.to)?;
     }
-    for child in node.children.as_slice() {
+    for child in node.children {
         out.append(b" ")?;
         show(program, *child, depth - 1, spans, out)?;
     }

@@ -1,16 +1,14 @@
 -- Signs that are open, and tokens behind the last `;`, `{` or `}`.
-use Rattle.std.proofs.Common.{◌≡◌, ◌∙◌, inl, inr, ℕ, zero, suc, ◌+◌, ◌-◌, ◌<◌, ◌≤◌, Bool, true, false, List, [], ◌∷◌, ◌++◌, Option, Some, None, length, get_or, take, map, refl, sym, ap, subst, append_assoc, arith, length-append}
+use Rattle.std.proofs.Common.{◌≡◌, ◌∙◌, inl, inr, ℕ, zero, suc, ◌+◌, ◌-◌, ◌<◌, ◌≤◌, Bool, true, false, List, [], ◌∷◌, ◌++◌, Option, Some, None, length, slice_get, take, refl, sym, ap, subst, append_assoc, arith, length-append}
 use Rattle.std.specs.Prelude.{if◌then◌else◌}
 use Rattle.std.specs.Int.{from_bool}
 use Rattle.std.specs.List.{list_any}
 use Rattle.std.proofs.lemmas.List.Folds.{list_any-append}
 use Rattle.grammar.proofs.Reading.{two_fronts}
 use Rattle.maxj_tokens.specs.Scanning.{PlacedToken}
-use Rattle.maxj_tokens.specs.Reading.{placed_view}
 use Rattle.maxj_tokens.specs.Faults.{IsFirst, HasNone, IsExcess, count_of, is_opening, is_closing, is_break, IsTooDeep, IsTooFar}
-use Rattle.maxj_tokens.specs.declared.token.Placed.{Placed}
 use Rattle.text_scan.proofs.ByteTests.{or_right, or_left, clash}
-use Rattle.maxj_tokens.proofs.FirstFaults.{none_of_none, views_more, first_at, none_at}
+use Rattle.maxj_tokens.proofs.FirstFaults.{none_of_none, front_more, first_at, none_at}
 
 -- counts
 
@@ -31,11 +29,11 @@ count_fits true m n h = omega arith
 count_fits false m n h = omega arith
 
 -- no more are such than there are
-pub count_within : (is : PlacedToken → Bool) (ps : List Placed) (i : ℕ) → count_of is (map placed_view (take i ps)) ≤ i
+pub count_within : (is : PlacedToken → Bool) (ts : List PlacedToken) (i : ℕ) → count_of is (take i ts) ≤ i
 count_within is [] zero = omega arith
 count_within is [] (suc i) = omega arith
-count_within is (p ∷ ps) zero = omega arith
-count_within is (p ∷ ps) (suc i) = count_fits (is (placed_view p)) (count_of is (map placed_view (take i ps))) i (count_within is ps i)
+count_within is (t ∷ ts) zero = omega arith
+count_within is (t ∷ ts) (suc i) = count_fits (is t) (count_of is (take i ts)) i (count_within is ts i)
 
 pub byte_fits : (b : Bool) → from_bool b ≤ 1
 byte_fits true = omega arith
@@ -91,14 +89,14 @@ one_behind ts t n b f = record {
 pub break_behind : (ts : List PlacedToken) (t : PlacedToken) → is_break t ≡ true → Behind (ts ++ t ∷ []) (Some 0)
 break_behind ts t f = record { earlier = ts; last = t; between = []; split = refl; broken = f; unbroken = refl; size = refl }
 
-length-views : (ps : List Placed) (i : ℕ) → length (map placed_view (take i ps)) ≤ i
-length-views [] zero = omega arith
-length-views [] (suc i) = omega arith
-length-views (p ∷ ps) zero = omega arith
-length-views (p ∷ ps) (suc i) = let h = length-views ps i in omega arith
+length-front : (ts : List PlacedToken) (i : ℕ) → length (take i ts) ≤ i
+length-front [] zero = omega arith
+length-front [] (suc i) = omega arith
+length-front (t ∷ ts) zero = omega arith
+length-front (t ∷ ts) (suc i) = let h = length-front ts i in omega arith
 
-pub behind_within : (ps : List Placed) (i n : ℕ) → Behind (map placed_view (take i ps)) (Some n) → n ≤ i
-behind_within ps i n b = let h = length-views ps i in omega (arith, ap length b.split, length-append b.earlier (b.last ∷ b.between), b.size)
+pub behind_within : (ts : List PlacedToken) (i n : ℕ) → Behind (take i ts) (Some n) → n ≤ i
+behind_within ts i n b = let h = length-front ts i in omega (arith, ap length b.split, length-append b.earlier (b.last ∷ b.between), b.size)
 
 pub far : (ts : List PlacedToken) (t : PlacedToken) (n : ℕ) → Behind ts (Some n) → 2000 < n → is_break t ≡ true → IsTooFar ts t
 far ts t n b h f = record { earlier = b.earlier; last = b.last; between = b.between; split = b.split; broken = b.broken; unbroken = b.unbroken; long = (let s = b.size in omega arith); breaks = f }
@@ -142,35 +140,33 @@ pub counted_none : IsCounted [] 0 0 None
 counted_none = record { opened_is = refl; closed_is = refl; behind_is = refl; none = none_of_none IsExcess }
 
 -- the counts with one more token, which is no excess
-pub counted_more : (ps : List Placed) (i : ℕ) (d : Placed) (opened closed m n : ℕ) (behind : Option ℕ) → i < length ps → IsCounted (map placed_view (take i ps)) opened closed behind
-    → m ≡ from_bool (is_opening (placed_view (get_or ps i d))) → n ≡ from_bool (is_closing (placed_view (get_or ps i d))) → opened + m - (closed + n) ≤ 200 → (now next : Option ℕ) → (IsTooFar (map placed_view (take i ps)) (placed_view (get_or ps i d)) → ⊥)
-    → now ≡ next → Behind (map placed_view (take i ps) ++ placed_view (get_or ps i d) ∷ []) next → IsCounted (map placed_view (take (i + 1) ps)) (opened + m) (closed + n) now
-counted_more ps i d opened closed m n behind lt c e f shallow now next near g b =
-    let ts = map placed_view (take i ps) in
-    let t = placed_view (get_or ps i d) in
-    let o = ap (λ k. k + m) c.opened_is ∙ ap (λ k. count_of is_opening ts + k) e in
-    let q = ap (λ k. k + n) c.closed_is ∙ ap (λ k. count_of is_closing ts + k) f in
-    let views = sym (views_more ps i d lt) in
+pub counted_more : (ts : List PlacedToken) (i : ℕ) (t : PlacedToken) (opened closed m n : ℕ) (behind : Option ℕ) → slice_get ts i ≡ Some t → IsCounted (take i ts) opened closed behind
+    → m ≡ from_bool (is_opening t) → n ≡ from_bool (is_closing t) → opened + m - (closed + n) ≤ 200 → (now next : Option ℕ) → (IsTooFar (take i ts) t → ⊥)
+    → now ≡ next → Behind (take i ts ++ t ∷ []) next → IsCounted (take (i + 1) ts) (opened + m) (closed + n) now
+counted_more ts i t opened closed m n behind lt c e f shallow now next near g b =
+    let us = take i ts in
+    let o = ap (λ k. k + m) c.opened_is ∙ ap (λ k. count_of is_opening us + k) e in
+    let q = ap (λ k. k + n) c.closed_is ∙ ap (λ k. count_of is_closing us + k) f in
+    let views = sym (front_more ts i t lt) in
     record {
-      opened_is = o ∙ sym (count_more is_opening ts t) ∙ ap (count_of is_opening) views;
-      closed_is = q ∙ sym (count_more is_closing ts t) ∙ ap (count_of is_closing) views;
-      behind_is = subst (λ l. Behind l now) views (subst (Behind (ts ++ t ∷ [])) (sym g) b);
-      none = none_at IsExcess ps i d lt c.none (λ x. elim x [ inl h ↦ not_deep ts t (opened + m) (closed + n) o q shallow h | inr h ↦ near h ]);
+      opened_is = o ∙ sym (count_more is_opening us t) ∙ ap (count_of is_opening) views;
+      closed_is = q ∙ sym (count_more is_closing us t) ∙ ap (count_of is_closing) views;
+      behind_is = subst (λ l. Behind l now) views (subst (Behind (us ++ t ∷ [])) (sym g) b);
+      none = none_at IsExcess ts i t lt c.none (λ x. elim x [ inl h ↦ not_deep us t (opened + m) (closed + n) o q shallow h | inr h ↦ near h ]);
     }
 
 -- the token stands too deep
-pub deep_at : (ps : List Placed) (i : ℕ) (d : Placed) (opened closed m n : ℕ) (behind : Option ℕ) → i < length ps → IsCounted (map placed_view (take i ps)) opened closed behind
-    → m ≡ from_bool (is_opening (placed_view (get_or ps i d))) → n ≡ from_bool (is_closing (placed_view (get_or ps i d))) → 200 < opened + m - (closed + n) → IsFirst IsExcess (map placed_view ps) (get_or ps i d).at
-deep_at ps i d opened closed m n behind lt c e f h =
-    let ts = map placed_view (take i ps) in
-    let t = placed_view (get_or ps i d) in
-    let o = ap (λ k. k + m) c.opened_is ∙ ap (λ k. count_of is_opening ts + k) e in
-    let q = ap (λ k. k + n) c.closed_is ∙ ap (λ k. count_of is_closing ts + k) f in
-    first_at IsExcess ps i d lt c.none (inl (deep ts t (opened + m) (closed + n) o q h))
+pub deep_at : (ts : List PlacedToken) (i : ℕ) (t : PlacedToken) (opened closed m n : ℕ) (behind : Option ℕ) → slice_get ts i ≡ Some t → IsCounted (take i ts) opened closed behind
+    → m ≡ from_bool (is_opening t) → n ≡ from_bool (is_closing t) → 200 < opened + m - (closed + n) → IsFirst IsExcess ts t.place
+deep_at ts i t opened closed m n behind lt c e f h =
+    let us = take i ts in
+    let o = ap (λ k. k + m) c.opened_is ∙ ap (λ k. count_of is_opening us + k) e in
+    let q = ap (λ k. k + n) c.closed_is ∙ ap (λ k. count_of is_closing us + k) f in
+    first_at IsExcess ts i t lt c.none (inl (deep us t (opened + m) (closed + n) o q h))
 
 -- the token stands too far
-pub far_at : (ps : List Placed) (i : ℕ) (d : Placed) (opened closed : ℕ) (behind : Option ℕ) (n : ℕ) → i < length ps → IsCounted (map placed_view (take i ps)) opened closed behind → behind ≡ Some n → 2000 < n → is_break (placed_view (get_or ps i d)) ≡ true
-    → IsFirst IsExcess (map placed_view ps) (get_or ps i d).at
-far_at ps i d opened closed behind n lt c e h f =
-    let ts = map placed_view (take i ps) in
-    first_at IsExcess ps i d lt c.none (inr (far ts (placed_view (get_or ps i d)) n (subst (Behind ts) e c.behind_is) h f))
+pub far_at : (ts : List PlacedToken) (i : ℕ) (t : PlacedToken) (opened closed : ℕ) (behind : Option ℕ) (n : ℕ) → slice_get ts i ≡ Some t → IsCounted (take i ts) opened closed behind → behind ≡ Some n → 2000 < n → is_break t ≡ true
+    → IsFirst IsExcess ts t.place
+far_at ts i t opened closed behind n lt c e h f =
+    let us = take i ts in
+    first_at IsExcess ts i t lt c.none (inr (far us t n (subst (Behind us) e c.behind_is) h f))

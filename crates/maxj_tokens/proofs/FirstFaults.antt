@@ -1,11 +1,9 @@
 -- The first faulty token of tokens that are looked at one by one.
-use Rattle.std.proofs.Common.{◌≡◌, ◌∙◌, ℕ, ◌+◌, ◌<◌, ◌≤◌, List, [], ◌∷◌, ◌++◌, length, get_or, take, drop, map, refl, sym, ap, subst, inl, inr, arith, zero, suc}
+use Rattle.std.proofs.Common.{◌≡◌, ◌∙◌, ℕ, ◌+◌, ◌≤◌, List, [], ◌∷◌, ◌++◌, length, slice_get, take, drop, Some, refl, sym, ap, subst, inl, inr, arith, zero, suc}
 use Rattle.std.proofs.lemmas.List.{append-nil, take_all}
 use Rattle.grammar.proofs.Reading.{two_fronts}
 use Rattle.maxj_tokens.specs.Scanning.{PlacedToken}
-use Rattle.maxj_tokens.specs.Reading.{placed_view}
 use Rattle.maxj_tokens.specs.Faults.{IsFirst, HasNone}
-use Rattle.maxj_tokens.specs.declared.token.Placed.{Placed}
 
 module _ (Faulty : List PlacedToken → PlacedToken → Type 0) where
   -- a list of no tokens has no faulty one
@@ -39,27 +37,27 @@ module _ (Faulty : List PlacedToken → PlacedToken → Type 0) where
   pub first_there : (ts before : List PlacedToken) (t : PlacedToken) (behind : List PlacedToken) → ts ≡ before ++ t ∷ behind → HasNone Faulty before → Faulty before t → IsFirst Faulty ts t.place
   first_there ts before t behind e none f = record { before = before; token = t; behind = behind; split = e; faulty = f; first = none; at = refl }
 
--- the tokens as they are seen, round the one with a number
-pub views_at : (ps : List Placed) (i : ℕ) (d : Placed) → i < length ps → map placed_view ps ≡ map placed_view (take i ps) ++ placed_view (get_or ps i d) ∷ map placed_view (drop (i + 1) ps)
-views_at [] i d h = absurd (omega arith)
-views_at (p ∷ ps) zero d h = refl
-views_at (p ∷ ps) (suc i) d h = let e : suc i + 1 ≡ suc (i + 1) = omega arith in rw e (ap (λ l. placed_view p ∷ l) (views_at ps i d (omega arith)))
+-- the tokens round the one with a number
+pub parts_at : (ts : List PlacedToken) (i : ℕ) (t : PlacedToken) → slice_get ts i ≡ Some t → ts ≡ take i ts ++ t ∷ drop (i + 1) ts
+parts_at [] i t e = absurd (cc)
+parts_at (x ∷ ts) zero t e = let same : x ≡ t = cc in ap (λ y. y ∷ ts) same
+parts_at (x ∷ ts) (suc i) t e = let f : suc i + 1 ≡ suc (i + 1) = omega arith in rw f (ap (λ l. x ∷ l) (parts_at ts i t e))
 
 -- one more of them
-pub views_more : (ps : List Placed) (i : ℕ) (d : Placed) → i < length ps → map placed_view (take (i + 1) ps) ≡ map placed_view (take i ps) ++ placed_view (get_or ps i d) ∷ []
-views_more [] i d h = absurd (omega arith)
-views_more (p ∷ ps) zero d h = refl
-views_more (p ∷ ps) (suc i) d h = let e : suc i + 1 ≡ suc (i + 1) = omega arith in rw e (ap (λ l. placed_view p ∷ l) (views_more ps i d (omega arith)))
+pub front_more : (ts : List PlacedToken) (i : ℕ) (t : PlacedToken) → slice_get ts i ≡ Some t → take (i + 1) ts ≡ take i ts ++ t ∷ []
+front_more [] i t e = absurd (cc)
+front_more (x ∷ ts) zero t e = let same : x ≡ t = cc in ap (λ y. y ∷ []) same
+front_more (x ∷ ts) (suc i) t e = let f : suc i + 1 ≡ suc (i + 1) = omega arith in rw f (ap (λ l. x ∷ l) (front_more ts i t e))
 
-module _ (Faulty : List PlacedToken → PlacedToken → Type 0) (ps : List Placed) (i : ℕ) (d : Placed) where
+module _ (Faulty : List PlacedToken → PlacedToken → Type 0) (ts : List PlacedToken) (i : ℕ) (t : PlacedToken) where
   -- the token with this number is the first
-  pub first_at : i < length ps → HasNone Faulty (map placed_view (take i ps)) → Faulty (map placed_view (take i ps)) (placed_view (get_or ps i d)) → IsFirst Faulty (map placed_view ps) (get_or ps i d).at
-  first_at h none f = first_there Faulty (map placed_view ps) (map placed_view (take i ps)) (placed_view (get_or ps i d)) (map placed_view (drop (i + 1) ps)) (views_at ps i d h) none f
+  pub first_at : slice_get ts i ≡ Some t → HasNone Faulty (take i ts) → Faulty (take i ts) t → IsFirst Faulty ts t.place
+  first_at e none f = first_there Faulty ts (take i ts) t (drop (i + 1) ts) (parts_at ts i t e) none f
 
   -- neither a token before it nor itself
-  pub none_at : i < length ps → HasNone Faulty (map placed_view (take i ps)) → (Faulty (map placed_view (take i ps)) (placed_view (get_or ps i d)) → ⊥) → HasNone Faulty (map placed_view (take (i + 1) ps))
-  none_at h none sound = subst (HasNone Faulty) (sym (views_more ps i d h)) (none_more Faulty (map placed_view (take i ps)) (placed_view (get_or ps i d)) none sound)
+  pub none_at : slice_get ts i ≡ Some t → HasNone Faulty (take i ts) → (Faulty (take i ts) t → ⊥) → HasNone Faulty (take (i + 1) ts)
+  none_at e none sound = subst (HasNone Faulty) (sym (front_more ts i t e)) (none_more Faulty (take i ts) t none sound)
 
 -- none of all
-pub none_at_all : (Faulty : List PlacedToken → PlacedToken → Type 0) (ps : List Placed) (i : ℕ) → length ps ≤ i → HasNone Faulty (map placed_view (take i ps)) → HasNone Faulty (map placed_view ps)
-none_at_all Faulty ps i h none = subst (λ l. HasNone Faulty (map placed_view l)) (take_all i ps h) none
+pub none_at_all : (Faulty : List PlacedToken → PlacedToken → Type 0) (ts : List PlacedToken) (i : ℕ) → length ts ≤ i → HasNone Faulty (take i ts) → HasNone Faulty ts
+none_at_all Faulty ts i h none = subst (HasNone Faulty) (take_all i ts h) none

@@ -2,6 +2,7 @@ pub mod Words
 pub mod Fronts
 pub mod Numbers
 pub mod Places
+pub mod Lexemes
 pub mod Readings
 pub mod Values
 pub mod FirstFaults

@@ -1,10 +1,11 @@
 // Tokens that stand too deep, or too far from the `;`, `{` or `}` before them.
-ghost use Rattle.std.specs.Prelude.{◌≡◌, map, IfSome, IfNone};
+ghost use Rattle.std.specs.Prelude.{◌≡◌, IfSome, IfNone};
 ghost use Rattle.maxj_tokens.specs.Faults.{IsFirst, HasNone, IsExcess, is_opening, is_closing, is_break};
 ghost use Rattle.maxj_tokens.specs.Reading.{placed_view};
 
 use crate::sign::Sign;
 use crate::token::{Placed, Token};
+use crate::tokens::Tokens;
 
 /// The most signs that are open.
 const MOST_OPEN: usize = 200;
@@ -45,21 +46,22 @@ fn is_break(token: &Placed<'_>) -> bool
 /// The place of the first token that stands too deep or too far: up to and with it over 200 more
 /// signs open than close, or it is a `;`, `{` or `}` and over 2,000 tokens stand between it and
 /// the one before.
-pub fn first_excess(tokens: &[Placed<'_>]) -> Option<u32>
-    ensures some { IfSome result (IsFirst IsExcess (map placed_view tokens.now)) }
-    ensures none { IfNone result (HasNone IsExcess (map placed_view tokens.now)) }
+pub fn first_excess(tokens: &Tokens<'_>) -> Option<u32>
+    ensures some { IfSome result (IsFirst IsExcess tokens.now) }
+    ensures none { IfNone result (HasNone IsExcess tokens.now) }
 {
     let mut opened = 0usize;
     let mut closed = 0usize;
     // How many tokens stand behind the last `;`, `{` or `}`, where there was one.
     let mut behind_break = None;
-    for token in tokens {
-        opened += usize::from(is_opening(token));
-        closed += usize::from(is_closing(token));
+    for number in 0..tokens.len() {
+        let token = tokens.at(number);
+        opened += usize::from(is_opening(&token));
+        closed += usize::from(is_closing(&token));
         if opened.saturating_sub(closed) > MOST_OPEN {
             return Some(token.at);
         }
-        behind_break = match (is_break(token), behind_break) {
+        behind_break = match (is_break(&token), behind_break) {
             (true, Some(between)) if between > MOST_BETWEEN => return Some(token.at),
             (true, _) => Some(0usize),
             (false, Some(between)) => Some(between + 1),

@@ -3,11 +3,13 @@
 #![tactic(auto)]
 
 mod excess;
+mod lexeme;
 mod number;
 mod profile;
 mod scanner;
 mod sign;
 mod token;
+mod tokens;
 mod word;
 
 pub use excess::first_excess;
@@ -15,4 +17,5 @@ pub use profile::first_outside;
 pub use scanner::{ScanError, scan};
 pub use sign::Sign;
 pub use token::{Placed, Token};
+pub use tokens::Tokens;
 pub use word::{is_among, is_foreign_word, is_word};

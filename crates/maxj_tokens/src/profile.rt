@@ -1,12 +1,13 @@
 // Tokens out of profile.
-ghost use Rattle.std.specs.Prelude.{◌≡◌, ◌≤◌, ◌^◌, ◌↔◌, map, drop, position, true, false, IsTrue, MatchOption, IfSome, IfNone};
+ghost use Rattle.std.specs.Prelude.{◌≡◌, ◌≤◌, ◌^◌, ◌↔◌, drop, position, true, false, IsTrue, MatchOption, IfSome, IfNone};
 ghost use Rattle.std.specs.List.{before_first};
 ghost use Rattle.grammar.specs.Bytes as numerals;
 ghost use Rattle.maxj_tokens.specs.Tokens.{is_suffix, is_hex_integer};
 ghost use Rattle.maxj_tokens.specs.Faults.{IsFirst, HasNone, IsOutside, IsForeign, integer_value};
-ghost use Rattle.maxj_tokens.specs.Reading.{token_view, placed_view};
+ghost use Rattle.maxj_tokens.specs.Reading.{token_view};
 
-use crate::token::{Placed, Token};
+use crate::token::Token;
+use crate::tokens::Tokens;
 use crate::word::is_foreign_word;
 use text_scan::{ByteClass, after, is_digit, split_front};
 
@@ -96,11 +97,12 @@ fn is_foreign(token: &Token<'_>) -> bool
 
 /// The place of the first token that is out of profile: a word of Java that no source uses, an
 /// integer of more than 128 bits, or a decimal of more than 30 digits.
-pub fn first_outside(tokens: &[Placed<'_>]) -> Option<u32>
-    ensures some { IfSome result (IsFirst IsOutside (map placed_view tokens.now)) }
-    ensures none { IfNone result (HasNone IsOutside (map placed_view tokens.now)) }
+pub fn first_outside(tokens: &Tokens<'_>) -> Option<u32>
+    ensures some { IfSome result (IsFirst IsOutside tokens.now) }
+    ensures none { IfNone result (HasNone IsOutside tokens.now) }
 {
-    for placed in tokens {
+    for number in 0..tokens.len() {
+        let placed = tokens.at(number);
         if is_foreign(&placed.token) {
             return Some(placed.at);
         }

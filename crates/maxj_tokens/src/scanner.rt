@@ -1,9 +1,11 @@
 // All tokens of a source.
-ghost use Rattle.std.specs.Prelude.{◌≡◌, ◌<◌, ◌≤◌, ◌^◌, ◌-◌, [], length, map, IfOk, IfErr};
+ghost use Rattle.std.specs.Prelude.{◌≡◌, ◌<◌, ◌≤◌, ◌^◌, ◌-◌, [], length, IfOk, IfErr};
 ghost use Rattle.maxj_tokens.specs.Scanning.{AreTokens, HasFault, is_stray};
-ghost use Rattle.maxj_tokens.specs.Reading.{placed_view, Fails};
+ghost use Rattle.maxj_tokens.specs.Reading.{Fails};
 
-use crate::token::{Placed, next_token};
+use crate::lexeme::{Lexeme, kind_of};
+use crate::token::next_token;
+use crate::tokens::Tokens;
 use mx_base::{List, NoMemory};
 use std::alloc::Global;
 use text_scan::{is_blank, skip_gap};
@@ -71,20 +73,20 @@ fn count(text: &[u8]) -> usize
 }
 
 /// An empty list with room for the tokens of a text: one that grows would take twice the memory.
-fn room<'a>(alloc: Global, text: &'a [u8]) -> Result<List<Placed<'a>>, NoMemory>
-    ensures { IfOk result (λ tokens. tokens ≡ []) }
+fn room(alloc: Global, text: &[u8]) -> Result<List<Lexeme>, NoMemory>
+    ensures { IfOk result (λ lexemes. lexemes ≡ []) }
 {
-    let tokens = Vec::with_capacity(alloc, count(text))?;
-    Ok(List::from_vec(tokens))
+    let lexemes = Vec::with_capacity(alloc, count(text))?;
+    Ok(List::from_vec(lexemes))
 }
 
 /// The tokens of a source, each with its place. The longest token is taken.
-pub fn scan(alloc: Global, text: &[u8]) -> Result<List<Placed<'_>>, ScanError>
+pub fn scan(alloc: Global, text: &[u8]) -> Result<Tokens<'_>, ScanError>
     requires { length text.now < 2 ^ 32 }
-    ensures tokens { IfOk result (λ tokens. AreTokens text.now (map placed_view tokens)) }
+    ensures tokens { IfOk result (λ tokens. AreTokens text.now tokens) }
     ensures stuck { IfErr result (λ e. Fails text.now e) }
 {
-    let mut tokens = room(alloc, text)?;
+    let mut lexemes = room(alloc, text)?;
     let mut rest = text;
     while !rest.is_empty() {
         if let Some(behind) = skip_gap(rest) {
@@ -97,12 +99,13 @@ pub fn scan(alloc: Global, text: &[u8]) -> Result<List<Placed<'_>>, ScanError>
             if found.is_followed() {
                 return Err(fault(text, found.rest));
             }
-            tokens.push(Placed {
-                token: found.token,
+            lexemes.push(Lexeme {
+                kind: kind_of(&found.token),
                 at,
+                length: (rest.len() - found.rest.len()) as u32,
             })?;
             rest = found.rest;
         }
     }
-    Ok(tokens)
+    Ok(Tokens::new(text, lexemes))
 }

@@ -7,7 +7,7 @@ fn outside(alloc: Global, text: &[u8]) -> Result<Option<u32>, ScanError> {
         return Ok(None);
     }
     let tokens = scan(alloc, text)?;
-    Ok(first_outside(tokens.as_slice()))
+    Ok(first_outside(&tokens))
 }
 
 #[test]
@@ -102,7 +102,7 @@ fn excess(alloc: Global, pieces: &[(&[u8], usize)]) -> Result<Option<u32>, ScanE
         return Ok(None);
     }
     let tokens = scan(alloc, text.as_bytes())?;
-    Ok(first_excess(tokens.as_slice()))
+    Ok(first_excess(&tokens))
 }
 
 #[test]

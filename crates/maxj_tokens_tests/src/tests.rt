@@ -7,8 +7,9 @@ fn outcome(alloc: Global, text: &[u8]) -> Result<(usize, u32), ScanError> {
         return Ok((0, 0));
     }
     let tokens = scan(alloc, text)?;
-    Ok(match tokens.as_slice().last() {
-        Some(last) => (tokens.len(), last.at),
+    let count = tokens.len();
+    Ok(match tokens.get(count.saturating_sub(1)) {
+        Some(last) => (count, last.at),
         None => (0, 0),
     })
 }
@@ -94,8 +95,8 @@ fn signs_are_told_apart(rt: HostRuntime) {
     ];
     for (text, wanted) in cases {
         let found = match scan(rt.alloc(), text) {
-            Ok(tokens) => match tokens.as_slice().first() {
-                Some(token) => is_sign(token, wanted),
+            Ok(tokens) => match tokens.get(0) {
+                Some(token) => is_sign(&token, wanted),
                 None => false,
             },
             Err(_) => false,

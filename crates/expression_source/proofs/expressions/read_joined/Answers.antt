@@ -1,8 +1,9 @@
-use Rattle.std.proofs.Common.{◌∙◌, sym, ap, arith}
+use Rattle.std.proofs.Common.{refl, ◌∙◌, sym, arith}
 use Rattle.mx_bits.specs.declared.op.Op.{Op}
-use Rattle.expression_source.specs.Source.{Expression, Joined, op_of}
+use Rattle.expression_source.specs.Source.{Expression, Joined}
 use Rattle.expression_source.specs.Reading.{Stands}
 use Rattle.text_scan.proofs.ByteTests.{if_none}
+use Rattle.maxj_syntax.specs.Views.{node_view}
 use Rattle.expression_source.proofs.Forms.{joined_at, joined_below}
 use Rattle.expression_source.proofs.expressions.read_joined.Goals as goal
 
@@ -12,4 +13,4 @@ returns-in_err-node-clause-none c = if_none _ ((op : Op) (a b : Expression) → 
 
 pub returns-clause-some : goal.returns-clause-some
 returns-clause-some c =
-    joined_at c.args.nodes.now c.args.number c.in_ok-node.node.now c.in_ok-node.ensures.some.0 c.in_ok-node.ensures.some.1 (ap op_of (sym c.as_bytes.ensures) ∙ sym c.operation.ensures ∙ c.in_ok-op.was) c.as_slice.ensures (omega arith)
+    joined_at c.args.nodes.now c.args.number (node_view c.in_ok-node.node) c.in_ok-node.ensures.some.0 c.in_ok-node.ensures.some.1 (sym c.operation.ensures ∙ c.in_ok-op.was) refl (omega arith)

@@ -1,7 +1,8 @@
-use Rattle.std.proofs.Common.{arith}
+use Rattle.std.proofs.Common.{refl, arith}
 use Rattle.expression_source.specs.Source.{Expression, Turned}
 use Rattle.expression_source.specs.Reading.{Stands}
 use Rattle.text_scan.proofs.ByteTests.{if_none}
+use Rattle.maxj_syntax.specs.Views.{node_view}
 use Rattle.expression_source.proofs.Forms.{turned_at, turned_below}
 use Rattle.expression_source.proofs.expressions.read_turned.Goals as goal
 
@@ -11,4 +12,4 @@ returns-in_err-node-clause-none c = if_none _ ((e : Expression) → Stands c.arg
 
 pub returns-then-is-clause-some : goal.returns-then-is-clause-some
 returns-then-is-clause-some c =
-    turned_at c.args.nodes.now c.args.number c.in_ok-node.node.now c.in_ok-node.ensures.some.0 c.in_ok-node.ensures.some.1 (c.is.ensures.0 c.if-is.true) c.as_slice.ensures (omega arith)
+    turned_at c.args.nodes.now c.args.number (node_view c.in_ok-node.node) c.in_ok-node.ensures.some.0 c.in_ok-node.ensures.some.1 (c.is.ensures.0 c.if-is.true) refl (omega arith)

@@ -1,6 +1,7 @@
-use Rattle.std.proofs.Common.{arith}
+use Rattle.std.proofs.Common.{refl, arith}
+use Rattle.maxj_syntax.specs.Views.{node_view}
 use Rattle.expression_source.proofs.Shapes.{parameter_is}
 use Rattle.expression_source.proofs.read.read_parameter.Goals as goal
 
 pub returns-then-is_leaf-clause-some : goal.returns-then-is_leaf-clause-some
-returns-then-is_leaf-clause-some c = parameter_is c.args.nodes.now c.args.number c.in_ok-parameter.parameter.now c.in_ok-parameter.ensures.some.0 c.in_ok-parameter.ensures.some.1 c.as_bytes.ensures c.as_slice.ensures (omega arith) c.if-is_leaf.ensures
+returns-then-is_leaf-clause-some c = parameter_is c.args.nodes.now c.args.number (node_view c.in_ok-parameter.parameter) c.in_ok-parameter.ensures.some.0 c.in_ok-parameter.ensures.some.1 refl refl (omega arith) c.if-is_leaf.ensures

@@ -1,7 +1,7 @@
 use Rattle.std.proofs.Common.{drop, subst, sym, ap, ◌∙◌, refl, option_map}
 use Rattle.maxj_tokens.specs.Reading.{placed_view}
 use Rattle.maxj_syntax.specs.Symbols.{Mark, Act, fixed_view, symbol_view}
-use Rattle.maxj_syntax.specs.Building.{Reached, IsRule, todo, view_of}
+use Rattle.maxj_syntax.specs.Building.{Reached, IsRule, todo}
 use Rattle.maxj_syntax.proofs.Machine.{popped, step_act}
 use Rattle.maxj_syntax.proofs.Exits.{is_rule, expanded_on, expanded_less, stuck_on}
 use Rattle.maxj_syntax.proofs.parser.settle.Goals as goal
@@ -9,20 +9,20 @@ use Rattle.maxj_syntax.proofs.parser.settle.Goals as goal
 pub returns-in-Mark : goal.returns-in-Mark
 returns-in-Mark c =
     let e = popped _ _ c.in-Some.top (Mark c.in-Mark.class c.in-Mark.effect) c.in-Some.ensures.items (ap symbol_view c.in-Fixed.is ∙ ap fixed_view c.in-Mark.is) in
-    subst (λ l. Reached (view_of c.args.tokens.now) (drop c.args.at (view_of c.args.tokens.now)) l c.loop-top.builder) e c.loop-top.invariant.reached
+    subst (λ l. Reached c.args.tokens.now (drop c.args.at c.args.tokens.now) l c.loop-top.builder) e c.loop-top.invariant.reached
 
 pub loop-top-preserved-in_ok-act-in-Act : goal.loop-top-preserved-in_ok-act-in-Act
 loop-top-preserved-in_ok-act-in-Act c =
     let e = popped _ _ c.in-Some.top (Act c.in-Act.action) c.in-Some.ensures.items (ap symbol_view c.in-Fixed.is ∙ ap fixed_view c.in-Act.is) in record {
-      reached = step_act (view_of c.args.tokens.now) (drop c.args.at (view_of c.args.tokens.now)) c.in-Act.action (todo c.pop.new.self.items) c.loop-top.builder c.act.new.builder c.in_ok-act-in-Act.ensures
-          (subst (λ l. Reached (view_of c.args.tokens.now) (drop c.args.at (view_of c.args.tokens.now)) l c.loop-top.builder) e c.loop-top.invariant.reached);
+      reached = step_act c.args.tokens.now (drop c.args.at c.args.tokens.now) c.in-Act.action (todo c.pop.new.self.items) c.loop-top.builder c.act.new.builder c.in_ok-act-in-Act.ensures
+          (subst (λ l. Reached c.args.tokens.now (drop c.args.at c.args.tokens.now) l c.loop-top.builder) e c.loop-top.invariant.reached);
     }
 
 pub returns-then-not-branch : goal.returns-then-not-branch
 returns-then-not-branch c =
     let i = subst (λ s. IsRule (symbol_view s)) (sym c.in-Named.is) tt in
     let e = popped _ _ c.in-Some.top (symbol_view c.in-Some.top) c.in-Some.ensures.items refl in
-    stuck_on (view_of c.args.tokens.now) (drop c.args.at (view_of c.args.tokens.now)) (option_map placed_view c.token_at-next.result) (symbol_view c.in-Some.top) (todo c.loop-top.stack.items) (todo c.pop.new.self.items) (todo c.expand.new.stack.items) c.loop-top.builder
+    stuck_on c.args.tokens.now (drop c.args.at c.args.tokens.now) (option_map placed_view c.token_at-next.result) (symbol_view c.in-Some.top) (todo c.loop-top.stack.items) (todo c.pop.new.self.items) (todo c.expand.new.stack.items) c.loop-top.builder
     c.in_ok-expand-in-Named.field-0 c.token_at-next.ensures i c.in_ok-expand-in-Named.ensures c.if-not-branch.true e c.loop-top.invariant.reached
 
 pub loop-top-smaller-else-not-branch : goal.loop-top-smaller-else-not-branch
@@ -36,7 +36,7 @@ pub loop-top-preserved-else-not-branch : goal.loop-top-preserved-else-not-branch
 loop-top-preserved-else-not-branch c =
     let i = subst (λ s. IsRule (symbol_view s)) (sym c.in-Named.is) tt in
     let e = popped _ _ c.in-Some.top (symbol_view c.in-Some.top) c.in-Some.ensures.items refl in record {
-      reached = expanded_on (view_of c.args.tokens.now) (drop c.args.at (view_of c.args.tokens.now)) (option_map placed_view c.token_at-next.result) (symbol_view c.in-Some.top) (todo c.loop-top.stack.items) (todo c.pop.new.self.items) (todo c.expand.new.stack.items) c.loop-top.builder
+      reached = expanded_on c.args.tokens.now (drop c.args.at c.args.tokens.now) (option_map placed_view c.token_at-next.result) (symbol_view c.in-Some.top) (todo c.loop-top.stack.items) (todo c.pop.new.self.items) (todo c.expand.new.stack.items) c.loop-top.builder
           c.in_ok-expand-in-Named.field-0 c.token_at-next.ensures i c.in_ok-expand-in-Named.ensures c.if-not-branch.false e c.loop-top.invariant.reached;
     }
 
@@ -44,7 +44,7 @@ pub returns-then-not-branch-2 : goal.returns-then-not-branch-2
 returns-then-not-branch-2 c =
     let i = subst (λ s. IsRule (symbol_view s)) (sym c.in-Fixed.is) (is_rule c.in-Fixed.fixed c.in_default-fixed.not-Mark c.in_default-fixed.not-Act) in
     let e = popped _ _ c.in-Some.top (symbol_view c.in-Some.top) c.in-Some.ensures.items refl in
-    stuck_on (view_of c.args.tokens.now) (drop c.args.at (view_of c.args.tokens.now)) (option_map placed_view c.token_at-next.result) (symbol_view c.in-Some.top) (todo c.loop-top.stack.items) (todo c.pop.new.self.items) (todo c.expand-in_default-fixed.new.stack.items) c.loop-top.builder
+    stuck_on c.args.tokens.now (drop c.args.at c.args.tokens.now) (option_map placed_view c.token_at-next.result) (symbol_view c.in-Some.top) (todo c.loop-top.stack.items) (todo c.pop.new.self.items) (todo c.expand-in_default-fixed.new.stack.items) c.loop-top.builder
     c.in_ok-expand-in_default-fixed.field-0 c.token_at-next.ensures i c.in_ok-expand-in_default-fixed.ensures c.if-not-branch-2.true e c.loop-top.invariant.reached
 
 pub loop-top-smaller : goal.loop-top-smaller
@@ -58,6 +58,6 @@ pub loop-top-preserved : goal.loop-top-preserved
 loop-top-preserved c =
     let i = subst (λ s. IsRule (symbol_view s)) (sym c.in-Fixed.is) (is_rule c.in-Fixed.fixed c.in_default-fixed.not-Mark c.in_default-fixed.not-Act) in
     let e = popped _ _ c.in-Some.top (symbol_view c.in-Some.top) c.in-Some.ensures.items refl in record {
-      reached = expanded_on (view_of c.args.tokens.now) (drop c.args.at (view_of c.args.tokens.now)) (option_map placed_view c.token_at-next.result) (symbol_view c.in-Some.top) (todo c.loop-top.stack.items) (todo c.pop.new.self.items) (todo c.expand-in_default-fixed.new.stack.items) c.loop-top.builder
+      reached = expanded_on c.args.tokens.now (drop c.args.at c.args.tokens.now) (option_map placed_view c.token_at-next.result) (symbol_view c.in-Some.top) (todo c.loop-top.stack.items) (todo c.pop.new.self.items) (todo c.expand-in_default-fixed.new.stack.items) c.loop-top.builder
           c.in_ok-expand-in_default-fixed.field-0 c.token_at-next.ensures i c.in_ok-expand-in_default-fixed.ensures c.if-not-branch-2.false e c.loop-top.invariant.reached;
     }

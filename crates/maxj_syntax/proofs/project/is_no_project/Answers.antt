@@ -11,7 +11,7 @@ returns-then-kernels-eq0 c = λ classes a.
     let cs = c.args.program.now.classes in
     let e = c.managers-managers.ensures ∙ ap managers_of c.as_slice-classes.ensures in
     let size = ap length c.as_slice-classes.ensures in (
-      λ _. wrong_counts c.args.program.now.nodes cs classes m a e (
+      λ _. wrong_counts c.args.program.now.tree cs classes m a e (
           elim c.then-kernels-eq0.branch [
             | then-kernels-eq0-via-then-kernels-eq0 w ↦ inl (omega arith)
             | then-kernels-eq0-via-else-kernels-eq0+then-managers-gt1 w ↦ inr (inl (omega arith))
@@ -33,4 +33,4 @@ returns c =
         | inr h ↦ elim c.if-managers-eq0.either [ inl f ↦ f.1 h.1 | inr f ↦ omega (arith, h.0) ]
       ]
     ] in
-    IfOk-weaker c.has_twins.result _ _ (λ twins f. λ classes a. names_decide c.args.program.now.nodes cs classes m a e right twins (f c.args.program.now.nodes classes (subst (λ l. ClassesAre c.args.program.now.nodes l classes) (sym c.as_slice-classes.ensures) a))) c.has_twins.ensures
+    IfOk-weaker c.has_twins.result _ _ (λ twins f. λ classes a. names_decide c.args.program.now.tree cs classes m a e right twins (f c.args.program.now.tree classes (subst (λ l. ClassesAre c.args.program.now.tree l classes) (sym c.as_slice-classes.ensures) a))) c.has_twins.ensures

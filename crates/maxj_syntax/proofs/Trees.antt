@@ -1,11 +1,14 @@
 -- Nodes that hold trees, and what the steps do to them.
-use Rattle.std.proofs.Common.{◌≡◌, ℕ, zero, suc, ◌<◌, ◌≤◌, Bool, List, [], ◌∷◌, ◌++◌, Some, refl, sym, ap, subst, ◌∙◌, length, length-append, arith, slice_get, reverse, drop, take, min, ◌-◌, codes}
+use Rattle.std.proofs.Common.{◌≡◌, ℕ, zero, suc, ◌<◌, ◌≤◌, Bool, List, [], ◌∷◌, ◌++◌, Some, refl, sym, ap, subst, ◌∙◌, length, length-append, arith, slice_get, reverse, drop, take, min, ◌-◌}
 use Rattle.std.proofs.lemmas.List.{length-drop}
-use Rattle.std.proofs.lemmas.List.{reverse-append}
+use Rattle.std.proofs.lemmas.List.{reverse-append, map-append}
+use Rattle.std.proofs.Math.ListN.{length-map}
 use Rattle.mx_base.specs.declared.span.Span.{Span}
 use Rattle.maxj_syntax.specs.declared.tree.NodeKind.{NodeKind}
 use Rattle.maxj_syntax.specs.declared.tree.NodeKind.TheVariants as N
-use Rattle.maxj_syntax.specs.declared.tree.Node.{Node as Cell}
+use Rattle.maxj_syntax.specs.declared.draft.Draft.{Draft}
+use Rattle.maxj_syntax.specs.declared.draft.NodeWord.TheVariants as W
+use Rattle.maxj_syntax.specs.Cells.{Cell, word_in, cell_in, cells_of}
 use Rattle.maxj_syntax.specs.declared.tree.Class.{Class}
 use Rattle.maxj_syntax.specs.declared.build.Unfinished.{Unfinished}
 use Rattle.maxj_syntax.specs.declared.symbol.Action.TheVariants.{Into, Declare, Keep}
@@ -13,6 +16,14 @@ use Rattle.maxj_tokens.specs.Scanning.{PlacedToken, span_of}
 use Rattle.maxj_syntax.specs.Tree.{Tree, Node, Trees, Nil, Cons, one, ClassTree, IsAt, AreAt, ClassIs, ClassesAre}
 use Rattle.maxj_syntax.specs.Steps.{Entry, At, Below, Ground, On, act_top, act_below, add_last, no_span, tree_of, start_of, add_classes, class_of, memory_type, between}
 use Rattle.maxj_syntax.specs.Building.{IsOpen, AreUnder, AreOpen, IsLeaf}
+
+-- the nodes with their words
+
+pub cells_more : (tokens : List PlacedToken) (old new : List Draft) (d : Draft) → new ≡ old ++ d ∷ [] → cells_of tokens new ≡ cells_of tokens old ++ cell_in tokens d ∷ []
+cells_more tokens old new d e = ap (cells_of tokens) e ∙ map-append (cell_in tokens) old (d ∷ [])
+
+pub cells_number : (tokens : List PlacedToken) (ds : List Draft) (n : ℕ) → n ≡ length ds → n ≡ length (cells_of tokens ds)
+cells_number tokens ds n e = e ∙ sym (length-map ds (cell_in tokens))
 
 get_append : (xs ys : List Cell) (n : ℕ) (x : Cell) → slice_get xs n ≡ Some x → slice_get (xs ++ ys) n ≡ Some x
 get_append [] ys n x e = absurd (cc)
@@ -32,8 +43,8 @@ mutual
   keep (Cons t ts) nodes more top high ns h a = (a.0, a.1, a.2, omega (arith, h, a.3), keeps t nodes more a.0 a.4, keep ts nodes more top high a.1 h a.5)
 
 -- a node that is whole
-pub close : (nodes : List Cell) (tokens : List PlacedToken) (o : Unfinished) (x : List PlacedToken) (t : Tree) → IsOpen nodes tokens o (At x t) → IsAt (nodes ++ o.node ∷ []) (length nodes) t
-close nodes tokens o x (Node k w s ts) a = (o.node, get_last nodes o.node, a.1, a.2, a.3, keep ts nodes (o.node ∷ []) (length nodes) (length nodes) o.node.children (omega arith) a.4)
+pub close : (nodes : List Cell) (tokens : List PlacedToken) (o : Unfinished) (x : List PlacedToken) (t : Tree) → IsOpen nodes tokens o (At x t) → IsAt (nodes ++ cell_in tokens o.node ∷ []) (length nodes) t
+close nodes tokens o x (Node k w s ts) a = (cell_in tokens o.node, get_last nodes (cell_in tokens o.node), a.1, a.2, a.3, keep ts nodes (cell_in tokens o.node ∷ []) (length nodes) (length nodes) o.node.children (omega arith) a.4)
 
 last_child : (ts : Trees) (t : Tree) (nodes : List Cell) (top n : ℕ) (ns : List ℕ) → AreAt nodes top ns ts → n < top → IsAt nodes n t → AreAt nodes top (ns ++ n ∷ []) (add_last ts t)
 last_child Nil t nodes top n ns a h b = (n, [], rw a refl, h, b, refl)
@@ -88,18 +99,18 @@ pub pushed : (tokens : List PlacedToken) (nodes : List Cell) (classes : List Cla
 pushed tokens nodes classes old new o e b s g i h = onto tokens nodes classes new old o e (On b s) g i (open_under nodes classes tokens (reverse old) b s h)
 
 -- the one on top becomes the first child of another
-pub wrapped : (tokens : List PlacedToken) (nodes more : List Cell) (classes : List Class) (old os new : List Unfinished) (o p : Unfinished) (k : NodeKind) (w : List ℕ) (n : ℕ) (b : Entry) (s : Below) → old ≡ os ++ o ∷ [] → more ≡ nodes ++ o.node ∷ [] → new ≡ os ++ p ∷ [] → n ≡ length nodes
-    → p.start ≡ o.start → p.node.kind ≡ k → p.node.word ≡ w → p.node.span ≡ no_span → p.node.children ≡ n ∷ [] → AreOpen nodes classes tokens (reverse old) b s
+pub wrapped : (tokens : List PlacedToken) (nodes more : List Cell) (classes : List Class) (old os new : List Unfinished) (o p : Unfinished) (k : NodeKind) (w : List ℕ) (n : ℕ) (b : Entry) (s : Below) → old ≡ os ++ o ∷ [] → more ≡ nodes ++ cell_in tokens o.node ∷ [] → new ≡ os ++ p ∷ [] → n ≡ length nodes
+    → p.start ≡ o.start → p.node.kind ≡ k → word_in tokens p.node.word ≡ w → p.node.span ≡ no_span → p.node.children ≡ n ∷ [] → AreOpen nodes classes tokens (reverse old) b s
     → AreOpen more classes tokens (reverse new) (At (start_of b) (Node k w no_span (one (tree_of b)))) s
 wrapped tokens nodes more classes old os new o p k w n (At x (Node j v r ts)) s e f g z a u c d q h =
     let t = top_of_list tokens nodes classes old os o (At x (Node j v r ts)) s e h in
     let i = close nodes tokens o x (Node j v r ts) t.0 in
-    subst (λ l. AreOpen l classes tokens (reverse new) (At x (Node k w no_span (one (Node j v r ts)))) s) (sym f) (onto tokens (nodes ++ o.node ∷ []) classes new os p (At x (Node k w no_span (one (Node j v r ts)))) s g
-    (t.0.0 ∙ ap (λ m. drop m tokens) (sym a), u, c, d, (length nodes, [], q ∙ ap (λ m. m ∷ []) z, omega (arith, length-append nodes (o.node ∷ [])), i, refl))
-    (under_more nodes (o.node ∷ []) classes tokens (reverse os) s t.1))
+    subst (λ l. AreOpen l classes tokens (reverse new) (At x (Node k w no_span (one (Node j v r ts)))) s) (sym f) (onto tokens (nodes ++ cell_in tokens o.node ∷ []) classes new os p (At x (Node k w no_span (one (Node j v r ts)))) s g
+    (t.0.0 ∙ ap (λ m. drop m tokens) (sym a), u, c, d, (length nodes, [], q ∙ ap (λ m. m ∷ []) z, omega (arith, length-append nodes (cell_in tokens o.node ∷ [])), i, refl))
+    (under_more nodes (cell_in tokens o.node ∷ []) classes tokens (reverse os) s t.1))
 
 -- the one on top becomes the last child of the one below
-pub entered : (tokens xs : List PlacedToken) (nodes more : List Cell) (classes : List Class) (old mid os new : List Unfinished) (o p q : Unfinished) (n : ℕ) (b : Entry) (s : Below) → old ≡ mid ++ o ∷ [] → mid ≡ os ++ p ∷ [] → more ≡ nodes ++ o.node ∷ [] → new ≡ os ++ q ∷ [] → n ≡ length nodes
+pub entered : (tokens xs : List PlacedToken) (nodes more : List Cell) (classes : List Class) (old mid os new : List Unfinished) (o p q : Unfinished) (n : ℕ) (b : Entry) (s : Below) → old ≡ mid ++ o ∷ [] → mid ≡ os ++ p ∷ [] → more ≡ nodes ++ cell_in tokens o.node ∷ [] → new ≡ os ++ q ∷ [] → n ≡ length nodes
     → q.start ≡ p.start → q.node.kind ≡ p.node.kind → q.node.word ≡ p.node.word → q.node.span ≡ p.node.span → q.node.children ≡ p.node.children ++ n ∷ [] → AreOpen nodes classes tokens (reverse old) b s
     → AreOpen more classes tokens (reverse new) (act_top Into xs b s) (act_below Into b s)
 entered tokens xs nodes more classes old mid os new o p q n (At x t) (Ground cs) e f g z l a u v d c h =
@@ -110,11 +121,11 @@ entered tokens xs nodes more classes old mid os new o p q n (At x t) (On (At y (
     let i = top_of_list tokens nodes classes old mid o (At x t) (On (At y (Node k w r ts)) s) e h in
     let j = subst (λ m. AreUnder nodes classes tokens m (On (At y (Node k w r ts)) s)) (ap reverse f ∙ reverse-append os (p ∷ [])) i.1 in
     let m = close nodes tokens o x t i.0 in
-    let kids = keep ts nodes (o.node ∷ []) (length nodes) (length (nodes ++ o.node ∷ [])) p.node.children (omega (arith, length-append nodes (o.node ∷ []))) j.0.4 in
-    let all = last_child ts t (nodes ++ o.node ∷ []) (length (nodes ++ o.node ∷ [])) (length nodes) p.node.children kids (omega (arith, length-append nodes (o.node ∷ []))) m in
-    subst (λ l. AreOpen l classes tokens (reverse new) (At y (Node k w r (add_last ts t))) s) (sym g) (onto tokens (nodes ++ o.node ∷ []) classes new os q (At y (Node k w r (add_last ts t))) s z
-    (j.0.0 ∙ ap (λ m. drop m tokens) (sym a), u ∙ j.0.1, v ∙ j.0.2, d ∙ j.0.3, subst (λ l. AreAt (nodes ++ o.node ∷ []) (length (nodes ++ o.node ∷ [])) l (add_last ts t)) (sym (c ∙ ap (λ m. p.node.children ++ m ∷ []) l)) all)
-    (under_more nodes (o.node ∷ []) classes tokens (reverse os) s j.1))
+    let kids = keep ts nodes (cell_in tokens o.node ∷ []) (length nodes) (length (nodes ++ cell_in tokens o.node ∷ [])) p.node.children (omega (arith, length-append nodes (cell_in tokens o.node ∷ []))) j.0.4 in
+    let all = last_child ts t (nodes ++ cell_in tokens o.node ∷ []) (length (nodes ++ cell_in tokens o.node ∷ [])) (length nodes) p.node.children kids (omega (arith, length-append nodes (cell_in tokens o.node ∷ []))) m in
+    subst (λ l. AreOpen l classes tokens (reverse new) (At y (Node k w r (add_last ts t))) s) (sym g) (onto tokens (nodes ++ cell_in tokens o.node ∷ []) classes new os q (At y (Node k w r (add_last ts t))) s z
+    (j.0.0 ∙ ap (λ m. drop m tokens) (sym a), u ∙ j.0.1, ap (word_in tokens) v ∙ j.0.2, d ∙ j.0.3, subst (λ l. AreAt (nodes ++ cell_in tokens o.node ∷ []) (length (nodes ++ cell_in tokens o.node ∷ [])) l (add_last ts t)) (sym (c ∙ ap (λ m. p.node.children ++ m ∷ []) l)) all)
+    (under_more nodes (cell_in tokens o.node ∷ []) classes tokens (reverse os) s j.1))
 
 -- the one on top is alone
 pub alone : (tokens : List PlacedToken) (nodes : List Cell) (classes : List Class) (old mid new : List Unfinished) (o : Unfinished) (b : Entry) (s : Below) (P : Entry → Below → Type 0) → old ≡ mid ++ o ∷ [] → mid ≡ [] → new ≡ mid ++ o ∷ []
@@ -136,8 +147,8 @@ add_class nodes classes tokens [] (On e s) c t a b = absurd a
 add_class nodes classes tokens (o ∷ os) (Ground cs) c t a b = absurd a
 add_class nodes classes tokens (o ∷ os) (On e s) c t a b = (a.0, add_class nodes classes tokens os s c t a.1 b)
 
-pub kept : (tokens xs : List PlacedToken) (nodes more : List Cell) (classes all : List Class) (old mid os new : List Unfinished) (o p : Unfinished) (m : Bool) (c : Class) (n : ℕ) (b : Entry) (s : Below) → old ≡ mid ++ o ∷ [] → mid ≡ os ++ p ∷ [] → more ≡ nodes ++ o.node ∷ [] → all ≡ classes ++ c ∷ [] → new ≡ os ++ p ∷ []
-    → c.name ≡ o.node.word → c.manager ≡ m → c.node ≡ n → n ≡ length nodes → AreOpen nodes classes tokens (reverse old) b s → AreOpen more all tokens (reverse new) (act_top (Keep m) xs b s) (act_below (Keep m) b s)
+pub kept : (tokens xs : List PlacedToken) (nodes more : List Cell) (classes all : List Class) (old mid os new : List Unfinished) (o p : Unfinished) (m : Bool) (c : Class) (n : ℕ) (b : Entry) (s : Below) → old ≡ mid ++ o ∷ [] → mid ≡ os ++ p ∷ [] → more ≡ nodes ++ cell_in tokens o.node ∷ [] → all ≡ classes ++ c ∷ [] → new ≡ os ++ p ∷ []
+    → c.name ≡ word_in tokens o.node.word → c.manager ≡ m → c.node ≡ n → n ≡ length nodes → AreOpen nodes classes tokens (reverse old) b s → AreOpen more all tokens (reverse new) (act_top (Keep m) xs b s) (act_below (Keep m) b s)
 kept tokens xs nodes more classes all old mid os new o p m c n (At x t) (Ground cs) e f g d l u v w z h =
     let i = top_of_list tokens nodes classes old mid o (At x t) (Ground cs) e h in
     let j = next_below tokens nodes classes mid os p (Ground cs) f i.1 in
@@ -145,15 +156,15 @@ kept tokens xs nodes more classes all old mid os new o p m c n (At x t) (Ground 
 kept tokens xs nodes more classes all old mid os new o p m c n (At x (Node j y r ts)) (On q s) e f g d l2 u v w z h =
     let i = top_of_list tokens nodes classes old mid o (At x (Node j y r ts)) (On q s) e h in
     let a = subst (λ l. AreUnder nodes classes tokens l (On q s)) (ap reverse f ∙ reverse-append os (p ∷ [])) i.1 in
-    let k = under_more nodes (o.node ∷ []) classes tokens (p ∷ reverse os) (On q s) a in
-    let whole : IsAt (nodes ++ o.node ∷ []) c.node (Node j y r ts) = subst (λ l. IsAt (nodes ++ o.node ∷ []) l (Node j y r ts)) (sym (w ∙ z)) (close nodes tokens o x (Node j y r ts) i.0) in
-    let is : ClassIs (nodes ++ o.node ∷ []) c (class_of m (Node j y r ts)) = record { name = u ∙ i.0.2; manager = v; node = whole } in
-    subst (λ l. AreOpen l all tokens (reverse new) q (add_classes s (class_of m (Node j y r ts) ∷ []))) (sym g) (subst (λ l. AreOpen (nodes ++ o.node ∷ []) l tokens (reverse new) q (add_classes s (class_of m (Node j y r ts) ∷ []))) (sym d)
-    (onto tokens (nodes ++ o.node ∷ []) (classes ++ c ∷ []) new os p q (add_classes s (class_of m (Node j y r ts) ∷ [])) l2 k.0 (add_class (nodes ++ o.node ∷ []) classes tokens (reverse os) s c (class_of m (Node j y r ts)) k.1 is)))
+    let k = under_more nodes (cell_in tokens o.node ∷ []) classes tokens (p ∷ reverse os) (On q s) a in
+    let whole : IsAt (nodes ++ cell_in tokens o.node ∷ []) c.node (Node j y r ts) = subst (λ l. IsAt (nodes ++ cell_in tokens o.node ∷ []) l (Node j y r ts)) (sym (w ∙ z)) (close nodes tokens o x (Node j y r ts) i.0) in
+    let is : ClassIs (nodes ++ cell_in tokens o.node ∷ []) c (class_of m (Node j y r ts)) = record { name = u ∙ i.0.2; manager = v; node = whole } in
+    subst (λ l. AreOpen l all tokens (reverse new) q (add_classes s (class_of m (Node j y r ts) ∷ []))) (sym g) (subst (λ l. AreOpen (nodes ++ cell_in tokens o.node ∷ []) l tokens (reverse new) q (add_classes s (class_of m (Node j y r ts) ∷ []))) (sym d)
+    (onto tokens (nodes ++ cell_in tokens o.node ∷ []) (classes ++ c ∷ []) new os p q (add_classes s (class_of m (Node j y r ts) ∷ [])) l2 k.0 (add_class (nodes ++ cell_in tokens o.node ∷ []) classes tokens (reverse os) s c (class_of m (Node j y r ts)) k.1 is)))
 
 -- a name becomes a local variable of the type of memories
-pub declared : (tokens xs : List PlacedToken) (nodes more : List Cell) (classes : List Class) (old mid os new : List Unfinished) (o p q : Unfinished) (node : Cell) (span : Span) (n : ℕ) (b : Entry) (s : Below) → old ≡ mid ++ o ∷ [] → mid ≡ os ++ p ∷ [] → more ≡ nodes ++ node ∷ [] → new ≡ os ++ q ∷ []
-    → n ≡ length nodes → IsLeaf node N.Plain (codes "Memory") span → span ≡ between (drop p.start tokens) (drop o.start tokens) → q.start ≡ p.start → q.node.kind ≡ N.Local → q.node.word ≡ o.node.word → q.node.span ≡ no_span → q.node.children ≡ n ∷ []
+pub declared : (tokens xs : List PlacedToken) (nodes more : List Cell) (classes : List Class) (old mid os new : List Unfinished) (o p q : Unfinished) (node : Draft) (span : Span) (n : ℕ) (b : Entry) (s : Below) → old ≡ mid ++ o ∷ [] → mid ≡ os ++ p ∷ [] → more ≡ nodes ++ cell_in tokens node ∷ [] → new ≡ os ++ q ∷ []
+    → n ≡ length nodes → IsLeaf node N.Plain W.Memory span → span ≡ between (drop p.start tokens) (drop o.start tokens) → q.start ≡ p.start → q.node.kind ≡ N.Local → q.node.word ≡ o.node.word → q.node.span ≡ no_span → q.node.children ≡ n ∷ []
     → AreOpen nodes classes tokens (reverse old) b s → AreOpen more classes tokens (reverse new) (act_top Declare xs b s) (act_below Declare b s)
 declared tokens xs nodes more classes old mid os new o p q node span n (At x t) (Ground cs) e f g z l i r a k w d c h =
     let j = top_of_list tokens nodes classes old mid o (At x t) (Ground cs) e h in
@@ -163,10 +174,10 @@ declared tokens xs nodes more classes old mid os new o p q node span n (At x (No
     let v = top_of_list tokens nodes classes old mid o (At x (Node j y u ts)) (On (At x2 (Node j2 y2 u2 ts2)) s) e h in
     let m = subst (λ m. AreUnder nodes classes tokens m (On (At x2 (Node j2 y2 u2 ts2)) s)) (ap reverse f ∙ reverse-append os (p ∷ [])) v.1 in
     let spans : span ≡ between x2 x = r ∙ ap (λ l. between l (drop o.start tokens)) (sym m.0.0) ∙ ap (λ l. between x2 l) (sym v.0.0) in
-    let type : IsAt (nodes ++ node ∷ []) (length nodes) (memory_type x2 x) = (node, get_last nodes node, i.kind, i.word, i.span_is ∙ spans, i.children) in
-    subst (λ l. AreOpen l classes tokens (reverse new) (At x2 (Node N.Local y no_span (one (memory_type x2 x)))) s) (sym g) (onto tokens (nodes ++ node ∷ []) classes new os q (At x2 (Node N.Local y no_span (one (memory_type x2 x)))) s z
-    (m.0.0 ∙ ap (λ m. drop m tokens) (sym a), k, w ∙ v.0.2, d, (length nodes, [], c ∙ ap (λ m. m ∷ []) l, omega (arith, length-append nodes (node ∷ [])), type, refl))
-    (under_more nodes (node ∷ []) classes tokens (reverse os) s m.1))
+    let type : IsAt (nodes ++ cell_in tokens node ∷ []) (length nodes) (memory_type x2 x) = (cell_in tokens node, get_last nodes (cell_in tokens node), i.kind, ap (word_in tokens) i.word, i.span_is ∙ spans, i.children) in
+    subst (λ l. AreOpen l classes tokens (reverse new) (At x2 (Node N.Local y no_span (one (memory_type x2 x)))) s) (sym g) (onto tokens (nodes ++ cell_in tokens node ∷ []) classes new os q (At x2 (Node N.Local y no_span (one (memory_type x2 x)))) s z
+    (m.0.0 ∙ ap (λ m. drop m tokens) (sym a), k, ap (word_in tokens) w ∙ v.0.2, d, (length nodes, [], c ∙ ap (λ m. m ∷ []) l, omega (arith, length-append nodes (cell_in tokens node ∷ [])), type, refl))
+    (under_more nodes (cell_in tokens node ∷ []) classes tokens (reverse os) s m.1))
 
 pub declared_span : (ts : List PlacedToken) (p o m : ℕ) → m ≡ min o (length ts) → span_of (take (m - p) (drop p ts)) ≡ between (drop p ts) (drop o ts)
 declared_span ts p o m e =
