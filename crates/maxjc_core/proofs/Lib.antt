@@ -1,7 +1,6 @@
 pub mod Refusing
 pub mod Reading
 pub mod RunReading
-pub mod RuleLines
 pub mod RunExclusion
 pub mod RunLoading
 pub mod RunEnding

@@ -1,5 +1,5 @@
 -- What is asked of the ports of a run hangs on their names and widths alone.
-use Rattle.std.proofs.Common.{◌≡◌, ℕ, List, [], ◌∷◌, ◌++◌, Option, Some, map, true, refl, sym, ap, subst, ◌∙◌}
+use Rattle.std.proofs.Common.{◌≡◌, ℕ, List, [], ◌∷◌, ◌++◌, map, true, refl, sym, ap, subst, ◌∙◌}
 use Rattle.std.specs.Prelude.{codes}
 use Rattle.mx_base.specs.Files.{Name}
 use Rattle.rtl_ir.specs.declared.interface.Interface.{Interface}
@@ -8,7 +8,7 @@ use Rattle.rtl_ir.specs.declared.interface.StreamPorts.{StreamPorts}
 use Rattle.rtl_ir.specs.Interfaces.{shape_of, scalar_shape, stream_shape}
 use Rattle.rtl_ir.specs.Ports.{Shape}
 use Rattle.word_files.specs.declared.run_file.RunFile.{RunFile}
-use Rattle.word_files.specs.RunFiles.{SameNames, names, in_range, scalar_entry, scalar_entries, TicksFit, ScalarsFit, InputsFit, OutputsFit}
+use Rattle.word_files.specs.RunFiles.{SameNames, names, in_range, scalar_entries, TicksFit, ScalarsFit, InputsFit, OutputsFit}
 use Rattle.simulation.specs.declared.plan.Plan.{Plan}
 use Rattle.simulation.specs.Plans.{look_up, IsPlanOf}
 

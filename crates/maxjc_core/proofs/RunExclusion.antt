@@ -4,7 +4,6 @@ use Rattle.mx_base.specs.Files.{Held, Name}
 use Rattle.serde_json.specs.Data.{Data}
 use Rattle.rtl_ir.specs.declared.design.Design.{Design}
 use Rattle.rtl_ir.specs.declared.design.Module.{Module}
-use Rattle.rtl_ir.specs.Ports.{Shape}
 use Rattle.word_files.specs.declared.run_file.RunFile.{RunFile}
 use Rattle.rtl_ir.specs.declared.interface.Interface.{Interface}
 use Rattle.rtl_ir.specs.Interfaces.{shape_of}

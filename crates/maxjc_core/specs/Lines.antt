@@ -1,8 +1,10 @@
 -- Why a command refuses its files, and the line that is said.
-use Rattle.std.specs.Prelude.{ℕ, List, [], ◌∷◌, ◌++◌, codes}
-use Rattle.std.specs.List.{flat_map}
+use Rattle.std.specs.Prelude.{ℕ, List, [], ◌∷◌, codes}
 use Rattle.std.specs.Fmt.{decimal}
+use Rattle.refusal_line.specs.Lines.{refused}
 use Rattle.maxj_syntax.specs.Source.{Fault}
+use Rattle.maxj_syntax.specs.Lines.{fault_line}
+use Rattle.rtl_check.specs.Lines.{rule_line}
 use Rattle.maxjc_core.specs.Command.{Name}
 
 pub data Cause : Type 0 where
@@ -19,30 +21,17 @@ pub data Cause : Type 0 where
   BadLine : Name → ℕ → Cause  -- U3: this line of this file isn't 1 to 32 hexadecimal digits
   WordRange : Name → ℕ → Cause  -- U4: this line of this file says a number past the width
 
--- a name, or a number, with a blank before it
-abbrev pub after_blank : List ℕ → List ℕ
-after_blank word = 32 ∷ word
-
--- the line of a fault of the source
-abbrev pub fault_line : Fault → List ℕ
-fault_line (Fault.StrayByte place) = codes "refused S1 " ++ decimal place ++ 10 ∷ []
-fault_line (Fault.NoToken place) = codes "refused S2 " ++ decimal place ++ 10 ∷ []
-fault_line (Fault.Misplaced place) = codes "refused S3 " ++ decimal place ++ 10 ∷ []
-fault_line (Fault.Outside place) = codes "refused S4 " ++ decimal place ++ 10 ∷ []
-fault_line (Fault.Excess place) = codes "refused S5 " ++ decimal place ++ 10 ∷ []
-fault_line Fault.NoProject = codes "refused S6\n"
-
 -- the line that is said
 abbrev pub line_of : Cause → List ℕ
-line_of (TooLarge name) = codes "refused F1 " ++ name ++ 10 ∷ []
+line_of (TooLarge name) = refused (codes "F1") (name ∷ [])
 line_of (SourceFault fault) = fault_line fault
-line_of NotBuilt = codes "refused N0\n"
-line_of (NoToken place) = codes "refused V1 " ++ decimal place ++ 10 ∷ []
-line_of (Syntax place) = codes "refused V2 " ++ decimal place ++ 10 ∷ []
-line_of (Rule number names) = codes "refused V3 " ++ decimal number ++ flat_map after_blank names ++ 10 ∷ []
-line_of (PortShape name) = codes "refused V4 " ++ name ++ 10 ∷ []
-line_of (TooManyCells number) = codes "refused V5 " ++ decimal number ++ 10 ∷ []
-line_of NotJson = codes "refused U1\n"
-line_of (RunShape key) = codes "refused U2 " ++ key ++ 10 ∷ []
-line_of (BadLine file line) = codes "refused U3 " ++ file ++ codes " " ++ decimal line ++ 10 ∷ []
-line_of (WordRange file line) = codes "refused U4 " ++ file ++ codes " " ++ decimal line ++ 10 ∷ []
+line_of NotBuilt = refused (codes "N0") []
+line_of (NoToken place) = refused (codes "V1") (decimal place ∷ [])
+line_of (Syntax place) = refused (codes "V2") (decimal place ∷ [])
+line_of (Rule number names) = rule_line number names
+line_of (PortShape name) = refused (codes "V4") (name ∷ [])
+line_of (TooManyCells number) = refused (codes "V5") (decimal number ∷ [])
+line_of NotJson = refused (codes "U1") []
+line_of (RunShape key) = refused (codes "U2") (key ∷ [])
+line_of (BadLine file line) = refused (codes "U3") (file ∷ decimal line ∷ [])
+line_of (WordRange file line) = refused (codes "U4") (file ∷ decimal line ∷ [])

@@ -7,7 +7,6 @@ mod compile_command;
 mod files;
 mod load;
 mod refusal;
-mod refusal_line;
 mod saying;
 mod simulate_command;
 mod status;

@@ -5,10 +5,9 @@ ghost use Rattle.mx_base.specs.Files.{Name, Lacks};
 ghost use Rattle.rtl_ir.specs.declared.design.Design.{Design};
 ghost use Rattle.rtl_ir.specs.declared.design.Module.{Module};
 ghost use Rattle.rtl_ir.specs.Flat.{top_of};
-ghost use Rattle.rtl_ir.specs.Ports.{Shape};
+ghost use Rattle.rtl_ir.specs.Interfaces.{IsInterface, shape_of};
 ghost use Rattle.rtl_ir.specs.Rules.{AllDiffer};
 ghost use Rattle.serde_json.specs.Data.{Data};
-ghost use Rattle.top_ports.specs.Shapes.{IsTop};
 ghost use Rattle.verilog_read.specs.Refused.{Refuses, IsReadAs};
 ghost use Rattle.verilog_read.specs.declared.error.VerilogError.{VerilogError};
 ghost use Rattle.word_files.specs.RunFiles.{Reads, IsRunFile, Fits};
@@ -32,10 +31,11 @@ use top_ports::interface;
 use verilog_read::{VerilogError, read};
 use word_files::{RunFile, RunFileError};
 
-/// A design, and what its run is handed.
+/// A design, the ports of its top module, and what its run is handed.
 #[derive(Drop)]
 pub struct Loaded {
     pub design: Design,
+    pub ports: Interface,
     pub plan: Plan,
 }
 
@@ -97,18 +97,16 @@ fn fit_for<'a>(alloc: Global, run: &RunFile, ports: &Interface) -> Result<(), St
 }
 
 // What a run file hands to a run of a design, where it fits the ports.
-fn plan_for<'a>(alloc: Global, module: &Module, run: &RunFile) -> Result<Plan, Stop<'a>>
-    requires shape { (s : Shape) × IsTop «module».now s }
-    ensures planned { (s : Shape) → IsTop «module».now s → IfOk result (λ plan. IsPlanned run.now s plan) }
-    ensures unfit { (s : Shape) → IsTop «module».now s → IfErr result (λ stop. IfRefused stop (IsUnfit run.now s)) }
-    ensures fits { (s : Shape) → IsTop «module».now s → (d : Data) → IsRunFile d run.now → IfOk result (λ plan. FitsShape plan s) }
-    ensures apart { (s : Shape) → IsTop «module».now s → (d : Data) → IsRunFile d run.now
-        → AllDiffer (map (λ (y : Name × ℕ). y.0) s.outputs) → IfOk result (λ plan. AreApart plan) }
+fn plan_for<'a>(alloc: Global, ports: &Interface, run: &RunFile) -> Result<Plan, Stop<'a>>
+    ensures planned { IfOk result (λ plan. IsPlanned run.now (shape_of ports.now) plan) }
+    ensures unfit { IfErr result (λ stop. IfRefused stop (IsUnfit run.now (shape_of ports.now))) }
+    ensures fits { (d : Data) → IsRunFile d run.now → IfOk result (λ plan. FitsShape plan (shape_of ports.now)) }
+    ensures apart { (d : Data) → IsRunFile d run.now
+        → AllDiffer (map (λ (y : Name × ℕ). y.0) (shape_of ports.now).outputs) → IfOk result (λ plan. AreApart plan) }
     ensures no_fault { result ≡ Err Stop.ReadFault → ⊥ }
 {
-    let ports = interface(alloc, module)?;
-    match fit_for(alloc, run, &ports) {
-        Ok(()) => Ok(plan_of(alloc, run, &ports)?),
+    match fit_for(alloc, run, ports) {
+        Ok(()) => Ok(plan_of(alloc, run, ports)?),
         Err(stop) => Err(stop),
     }
 }
@@ -118,6 +116,7 @@ fn build<'a>(alloc: Global, text: &[u8], run: &[u8]) -> Result<Loaded, Stop<'a>>
     requires { length text.now < 2 ^ 32 }
     ensures fit { IfOk result (λ l. FitAs text.now run.now l.design l.plan) }
     ensures can_run { IfOk result (λ l. CanRun l.design l.plan) }
+    ensures ports { IfOk result (λ l. (m : Module) → top_of l.design ≡ Some m → IsInterface m l.ports) }
     ensures refused { IfErr result (λ stop. IfRefused stop (BreaksForm text.now run.now)) }
     ensures faulty { (cause : Cause) → BreaksForm text.now run.now cause → IfOk result (λ _. ⊥) }
     ensures loads { FitTogether text.now run.now → IfErr result (λ stop. IfRefused stop (λ _. ⊥)) }
@@ -131,8 +130,13 @@ fn build<'a>(alloc: Global, text: &[u8], run: &[u8]) -> Result<Loaded, Stop<'a>>
         Ok(run) => run,
         Err(stop) => return Err(stop),
     };
-    match plan_for(alloc, top(&design), &run) {
-        Ok(plan) => Ok(Loaded { design, plan }),
+    let ports = interface(alloc, top(&design))?;
+    match plan_for(alloc, &ports, &run) {
+        Ok(plan) => Ok(Loaded {
+            design,
+            ports,
+            plan,
+        }),
         Err(stop) => Err(stop),
     }
 }
@@ -156,6 +160,7 @@ pub fn load<'a, F: Files>(
 
     ensures answers { LoadAnswers (run_told names.entry) (F.held files.old) result }
     ensures can_run { IfOk result (λ l. CanRun l.design l.plan) }
+    ensures ports { IfOk result (λ l. (m : Module) → top_of l.design ≡ Some m → IsInterface m l.ports) }
     ensures faulty { (cause : Cause) → IsFaulty (run_told names.entry) (F.held files.old) cause → IfOk result (λ _. ⊥) }
     ensures loads { IsLoaded (run_told names.entry) (F.held files.old) → IfErr result (λ stop. IfRefused stop (λ _. ⊥)) }
 {

@@ -1,8 +1,13 @@
 // Why a command refuses its files.
+ghost use Rattle.std.specs.Prelude.{◌≡◌, IfOk};
+ghost use Rattle.maxjc_core.specs.Lines.{line_of};
+ghost use Rattle.maxjc_core.specs.Refusals.{cause_told, IfCause};
 
 use maxj_syntax::SourceError;
-use mx_base::Text;
+use mx_base::{NoMemory, Text};
+use refusal_line::{Value, refusal_line};
 use simulation::Stop;
+use std::alloc::Global;
 use verilog_read::VerilogError;
 use word_files::RunFileError;
 
@@ -22,4 +27,21 @@ pub enum Refusal<'a> {
     RunFile(RunFileError),
     /// V5, U3 and U4: why the run stopped.
     Run(Stop),
+}
+
+impl<'a> Refusal<'a> {
+    /// The line that is said: `refused`, the code and its values. There is none of an error that is
+    /// no refusal.
+    pub fn line(&self, alloc: Global) -> Result<Vec<u8>, NoMemory>
+        ensures { IfOk result (λ line. IfCause (cause_told self.now) (λ cause. line.items ≡ line_of cause)) }
+    {
+        match self {
+            Refusal::TooLarge(name) => refusal_line(alloc, "F1", &[Value::Name(name)]),
+            Refusal::Source(error) => error.line(alloc),
+            Refusal::NotBuilt => refusal_line(alloc, "N0", &[]),
+            Refusal::Verilog(error) => error.line(alloc),
+            Refusal::RunFile(error) => error.line(alloc),
+            Refusal::Run(stop) => stop.line(alloc),
+        }
+    }
 }

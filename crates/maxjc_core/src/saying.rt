@@ -7,7 +7,6 @@ ghost use Rattle.maxjc_core.specs.Refusals.{cause_told, IfCause};
 
 use crate::Status;
 use crate::refusal::Refusal;
-use crate::refusal_line::refusal_line;
 use mx_base::Say;
 use std::alloc::Global;
 
@@ -35,7 +34,7 @@ pub fn refuse<S: Say>(alloc: Global, say: &mut S, refusal: &Refusal<'_>) -> Stat
     ensures silent { result ≡ Status.NoMemory → (S.said say.new ≡ S.said say.old) × (S.say_faults say.new ≡ S.say_faults say.old) }
     ensures fault { result ≡ Status.WriteFault → Rose (S.say_faults say.old) (S.say_faults say.new) }
 {
-    match refusal_line(alloc, refusal) {
+    match refusal.line(alloc) {
         Err(_) => Status::NoMemory,
         Ok(line) => match say.say(&line) {
             Ok(()) => Status::Refused,

@@ -1,5 +1,5 @@
 // The command `simulate`.
-ghost use Rattle.std.specs.Prelude.{◌≡◌, ◌⊎◌, ℕ, List, Some, IsSome};
+ghost use Rattle.std.specs.Prelude.{◌≡◌, ◌⊎◌, ℕ, List, Some, IsSome, IfOk};
 ghost use Rattle.mx_base.specs.Counts.{Rose};
 ghost use Rattle.mx_base.specs.Files.{Lacks};
 ghost use Rattle.rtl_ir.specs.Flat.{Families};
@@ -22,13 +22,29 @@ use crate::Status;
 use crate::command::Simulate;
 use crate::load::{Loaded, load};
 use crate::refusal::Refusal;
-use crate::refusal_line::number_line;
 use crate::saying::refuse;
 use crate::stop::Stop;
-use mx_base::{Files, Say};
+use itoa::Buffer;
+use mx_base::{Files, NoMemory, Say};
 use simulation::{Outcome, Stop as RunStop, simulate};
 use stall_source::Pattern;
 use std::alloc::Global;
+
+// The line of how a run ended.
+fn line_of_end(alloc: Global, outcome: Outcome) -> Result<Vec<u8>, NoMemory>
+    ensures { IfOk result (λ line. line.items ≡ end_line outcome) }
+{
+    let begin: &[u8] = if outcome.done {
+        b"done after "
+    } else {
+        b"not done after "
+    };
+    let mut line = begin.to_vec(alloc)?;
+    let mut digits = Buffer::new();
+    line.extend_from_slice(digits.format(outcome.edges).as_bytes())?;
+    line.extend_from_slice(b" edges\n")?;
+    Ok(line)
+}
 
 // Says how a run ended.
 fn report<S: Say>(alloc: Global, say: &mut S, outcome: Outcome) -> Status
@@ -38,12 +54,7 @@ fn report<S: Say>(alloc: Global, say: &mut S, outcome: Outcome) -> Status
     ensures silent { result ≡ Status.NoMemory → (S.said say.new ≡ S.said say.old) × (S.say_faults say.new ≡ S.say_faults say.old) }
     ensures fault { result ≡ Status.WriteFault → Rose (S.say_faults say.old) (S.say_faults say.new) }
 {
-    let begin: &[u8] = if outcome.done {
-        b"done after "
-    } else {
-        b"not done after "
-    };
-    let Ok(line) = number_line(alloc, begin, outcome.edges, b" edges\n") else {
+    let Ok(line) = line_of_end(alloc, outcome) else {
         return Status::NoMemory;
     };
     match say.say(&line) {
@@ -147,7 +158,13 @@ pub fn run_simulate<F: Files, S: Say, G: Fn(u64, u64, u32) -> bool>(
     ensures others { IsSome (F.held files.old) → ChangesOutputs (run_told names.entry) (F.held files.old) (F.held files.new) }
 {
     match load(alloc, files, names) {
-        Ok(Loaded { design, plan }) => match simulate(alloc, files, &design, plan, stalls) {
+        Ok(
+            Loaded {
+                design,
+                ports,
+                plan,
+            },
+        ) => match simulate(alloc, files, &design, &ports, plan, stalls) {
             Ok(outcome) => report(alloc, say, outcome),
             Err(stop) => stopped(alloc, say, stop),
         },

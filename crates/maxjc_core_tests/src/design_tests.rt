@@ -9,6 +9,7 @@ use mx_bits::Op;
 use rtl_check::check;
 use std::alloc::Global;
 use std::test::Fail;
+use top_ports::interface;
 use verilog_sim::Sim;
 
 // The kernel of 8 bits whose output is `x + x`.
@@ -33,10 +34,12 @@ fn double(alloc: Global) -> Result<Project, NoMemory>
 #[test]
 fn a_design_is_accepted_and_simulated(rt: HostRuntime) -> Result<(), Fail> {
     let alloc = rt.alloc();
-    let design = kernel_design(alloc, &double(alloc)?)?;
+    let project = double(alloc)?;
+    let design = kernel_design(alloc, &project)?;
     assert!(rt; check(alloc, &design).is_ok());
     let mut simulated = false;
-    if let Ok(mut sim) = Sim::new(alloc, &design, 0) {
+    let ports = interface(alloc, design.top())?;
+    if let Ok(mut sim) = Sim::new(alloc, &design, &ports, 0) {
         sim.reset();
         simulated = !sim.done();
     }

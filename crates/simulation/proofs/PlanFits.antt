@@ -1,5 +1,5 @@
 -- The plan of a run file that fits the ports has values and files for them, in range.
-use Rattle.std.proofs.Common.{◌≡◌, ℕ, zero, suc, ◌^◌, ◌<◌, ◌≤◌, Bool, true, false, not, ◌&&◌, cond, nat_le, nat_lt, List, [], ◌∷◌, ◌++◌, length, map, bytes_eq, codes, Option, Some, None, option_map, option_and_then, refl, sym, ap, ◌∙◌, subst, arith}
+use Rattle.std.proofs.Common.{◌≡◌, ℕ, zero, suc, ◌^◌, ◌<◌, ◌≤◌, Bool, true, false, not, ◌&&◌, cond, nat_le, nat_lt, List, [], ◌∷◌, map, bytes_eq, codes, Option, Some, None, option_map, option_and_then, refl, sym, ap, ◌∙◌, subst, arith}
 use Rattle.std.specs.Prelude.{slice_get}
 use Rattle.std.specs.List.{list_all}
 use Rattle.std.proofs.lemmas.Bool.{false≢true, leb-true, ltb-true}
@@ -11,7 +11,6 @@ use Rattle.serde_json.specs.Find.{get, as_number, as_u64, as_object}
 use Rattle.mx_base.specs.Files.{Name}
 use Rattle.rtl_ir.specs.declared.interface.Interface.{Interface}
 use Rattle.rtl_ir.specs.declared.interface.KernelPorts.{KernelPorts}
-use Rattle.rtl_ir.specs.declared.interface.StreamPorts.{StreamPorts}
 use Rattle.rtl_ir.specs.Interfaces.{shape_of, scalar_shape, stream_shape}
 use Rattle.word_files.specs.declared.run_file.RunFile.{RunFile}
 use Rattle.word_files.specs.RunFiles.{IsRunFile, most_count, up_to, pairs, all_read, object_of, all_below, in_range, scalar_entry, scalar_entries}

@@ -9,3 +9,4 @@ pub mod Errors
 pub mod Inward
 pub mod Outward
 pub mod Benches
+pub mod Lines

@@ -13,7 +13,7 @@ use crate::plan::Plan;
 use crate::steady::set_all;
 use crate::stop::{Outcome, Stop};
 use mx_base::Files;
-use rtl_ir::Design;
+use rtl_ir::{Design, Interface};
 use stall_source::Pattern;
 use std::alloc::Global;
 use verilog_sim::{Event, Offer, Sim};
@@ -41,6 +41,7 @@ impl<'a> Bench<'a> {
     ghost use Rattle.simulation.specs.Benches.{IsBench, IsSetup, Begins, Going};
     ghost use Rattle.rtl_ir.specs.declared.design.Module.{Module};
     ghost use Rattle.rtl_ir.specs.Flat.{top_of};
+    ghost use Rattle.rtl_ir.specs.Interfaces.{IsInterface};
     ghost use Rattle.rtl_ir.specs.Ports.{Shape, HasShape};
     ghost use Rattle.rtl_ir.specs.Rules.{IsAccepted};
     ghost use Rattle.verilog_sim.specs.Start.{all_cells};
@@ -56,9 +57,11 @@ impl<'a> Bench<'a> {
         alloc: Global,
         files: &mut F,
         design: &'a Design,
+        ports: &Interface,
         plan: Plan,
     ) -> Result<Self, Stop>
         requires accepted { IsAccepted design.now }
+        requires ports { (m : Module) → top_of design.now ≡ Some m → IsInterface m ports.now }
         requires shape { (m : Module) × (s : Shape) × (top_of design.now ≡ Some m) × HasShape m s × FitsShape plan s }
         requires apart { AreApart plan }
         ensures bench { IfOk result IsBench }
@@ -74,7 +77,7 @@ impl<'a> Bench<'a> {
         ensures write_quiet { (result ≡ Err stops.WriteFault → ⊥) → F.write_faults files.new ≡ F.write_faults files.old }
         ensures write_fault { result ≡ Err stops.WriteFault → Rose (F.write_faults files.old) (F.write_faults files.new) }
     {
-        let mut sim = Sim::new(alloc, design, plan.fill)?;
+        let mut sim = Sim::new(alloc, design, ports, plan.fill)?;
         set_all(&mut sim, plan.ticks.as_slice(), plan.scalars.as_slice());
         let (kernels, inputs, outputs) = (plan.ticks.len(), plan.inputs.len(), plan.outputs.len());
         let readers = open(alloc, plan.inputs)?;

@@ -11,6 +11,7 @@ mod output;
 mod outputs;
 mod plan;
 mod planning;
+mod refusal;
 mod run;
 mod steady;
 mod stop;

@@ -3,6 +3,7 @@ ghost use Rattle.std.specs.Prelude.{◌≡◌, ◌⊎◌, ◌≤◌, ◌<◌, �
 ghost use Rattle.mx_base.specs.Counts.{Rose};
 ghost use Rattle.rtl_ir.specs.declared.design.Module.{Module};
 ghost use Rattle.rtl_ir.specs.Flat.{Families, top_of};
+ghost use Rattle.rtl_ir.specs.Interfaces.{IsInterface};
 ghost use Rattle.rtl_ir.specs.Ports.{Shape, HasShape};
 ghost use Rattle.rtl_ir.specs.Rules.{IsAccepted};
 ghost use Rattle.stall_source.specs.Stalls.{IsDecided, IsFreeAtZero};
@@ -17,11 +18,11 @@ use crate::bench::Bench;
 use crate::plan::Plan;
 use crate::stop::{Outcome, Stop};
 use mx_base::Files;
-use rtl_ir::Design;
+use rtl_ir::{Design, Interface};
 use stall_source::Pattern;
 use std::alloc::Global;
 
-/// Simulates an accepted design whose top module has the ports of a run.
+/// Simulates an accepted design whose top module has the ports of a run, which are given.
 ///
 /// The output files are created in the order of their ports, and one edge with reset is made. Then
 /// edges are made until the port `done` is 1 or the plan's number of edges is reached. Before an
@@ -38,10 +39,12 @@ pub fn simulate<F: Files, G: Fn(u64, u64, u32) -> bool>(
     alloc: Global,
     files: &mut F,
     design: &Design,
+    ports: &Interface,
     plan: Plan,
     stalls: &Pattern<G>,
 ) -> Result<Outcome, Stop>
     requires accepted { IsAccepted design.now }
+    requires ports { (m : Module) → top_of design.now ≡ Some m → IsInterface m ports.now }
     requires shape { (m : Module) × (s : Shape) × (top_of design.now ≡ Some m) × HasShape m s × FitsShape plan s }
     requires apart { AreApart plan }
     requires callable { G.IsAlwaysCallable stalls.now.test }
@@ -70,6 +73,6 @@ pub fn simulate<F: Files, G: Fn(u64, u64, u32) -> bool>(
     ensures others { ChangesOnlyOutputs plan.outputs (F.held files.old) (F.held files.new) }
 {
     let (pick, edges) = (plan.pick, plan.edges);
-    let mut bench = Bench::new(alloc, files, design, plan)?;
+    let mut bench = Bench::new(alloc, files, design, ports, plan)?;
     bench.run(files, stalls, pick, edges)
 }

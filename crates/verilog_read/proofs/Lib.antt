@@ -12,6 +12,7 @@ pub mod Forms
 pub mod Readings
 pub mod SameExpr
 pub mod Unique
+pub mod OneText
 pub mod Whole
 pub mod Joins
 pub mod JoinSteps

@@ -20,39 +20,39 @@ same_word : (x y : Word) → x.bits ≡ y.bits → x.width ≡ y.width → x ≡
 same_word x y p q = same_word_by x.bits y.bits x.width y.width p q x.some y.some x.at_most y.at_most x.fits y.fits
 
 module _ (m : Module) where
-  plain_shape : (a : Name) (e : Expr) → ExprIs m (PlainTree a) e → (i : ℕ) × (e ≡ exprs.Net i) × IsNet m a i
+  pub plain_shape : (a : Name) (e : Expr) → ExprIs m (PlainTree a) e → (i : ℕ) × (e ≡ exprs.Net i) × IsNet m a i
   plain_shape a (exprs.Net i) h = (i, refl, h)
   plain_shape a _ h = absurd h
 
-  literal_shape : (w x : ℕ) (e : Expr) → ExprIs m (LiteralTree w x) e → (i : Word) × (e ≡ exprs.Literal i) × (i.width ≡ w) × (i.bits ≡ x)
+  pub literal_shape : (w x : ℕ) (e : Expr) → ExprIs m (LiteralTree w x) e → (i : Word) × (e ≡ exprs.Literal i) × (i.width ≡ w) × (i.bits ≡ x)
   literal_shape w x (exprs.Literal i) h = (i, refl, h.0, h.1)
   literal_shape w x _ h = absurd h
 
-  not_shape : (a : Name) (e : Expr) → ExprIs m (NotTree a) e → (i : ℕ) × (e ≡ exprs.Not i) × IsNet m a i
+  pub not_shape : (a : Name) (e : Expr) → ExprIs m (NotTree a) e → (i : ℕ) × (e ≡ exprs.Not i) × IsNet m a i
   not_shape a (exprs.Not i) h = (i, refl, h)
   not_shape a _ h = absurd h
 
-  binary_shape : (s : Sign) (a b : Name) (e : Expr) → ExprIs m (BinaryTree s a b) e → (t : Sign) × (i : ℕ) × (j : ℕ) × (e ≡ exprs.Binary t i j) × (s ≡ t) × IsNet m a i × IsNet m b j
+  pub binary_shape : (s : Sign) (a b : Name) (e : Expr) → ExprIs m (BinaryTree s a b) e → (t : Sign) × (i : ℕ) × (j : ℕ) × (e ≡ exprs.Binary t i j) × (s ≡ t) × IsNet m a i × IsNet m b j
   binary_shape s a b (exprs.Binary t i j) h = (t, i, j, refl, h.0, h.1, h.2)
   binary_shape s a b _ h = absurd h
 
-  concat_shape : (a b : Name) (e : Expr) → ExprIs m (ConcatTree a b) e → (i : ℕ) × (j : ℕ) × (e ≡ exprs.Concat i j) × IsNet m a i × IsNet m b j
+  pub concat_shape : (a b : Name) (e : Expr) → ExprIs m (ConcatTree a b) e → (i : ℕ) × (j : ℕ) × (e ≡ exprs.Concat i j) × IsNet m a i × IsNet m b j
   concat_shape a b (exprs.Concat i j) h = (i, j, refl, h.0, h.1)
   concat_shape a b _ h = absurd h
 
-  repeat_shape : (n : ℕ) (a : Name) (e : Expr) → ExprIs m (RepeatTree n a) e → (o : ℕ) × (i : ℕ) × (e ≡ exprs.Repeat o i) × (n ≡ o) × IsNet m a i
+  pub repeat_shape : (n : ℕ) (a : Name) (e : Expr) → ExprIs m (RepeatTree n a) e → (o : ℕ) × (i : ℕ) × (e ≡ exprs.Repeat o i) × (n ≡ o) × IsNet m a i
   repeat_shape n a (exprs.Repeat o i) h = (o, i, refl, h.0, h.1)
   repeat_shape n a _ h = absurd h
 
-  part_shape : (a : Name) (hi lo : ℕ) (e : Expr) → ExprIs m (PartTree a hi lo) e → (i : ℕ) × (k : ℕ) × (l : ℕ) × (e ≡ exprs.Part i k l) × (hi ≡ k) × (lo ≡ l) × IsNet m a i
+  pub part_shape : (a : Name) (hi lo : ℕ) (e : Expr) → ExprIs m (PartTree a hi lo) e → (i : ℕ) × (k : ℕ) × (l : ℕ) × (e ≡ exprs.Part i k l) × (hi ≡ k) × (lo ≡ l) × IsNet m a i
   part_shape a hi lo (exprs.Part i k l) h = (i, k, l, refl, h.0, h.1, h.2)
   part_shape a hi lo _ h = absurd h
 
-  choose_shape : (c a b : Name) (e : Expr) → ExprIs m (ChooseTree c a b) e → (k : ℕ) × (i : ℕ) × (j : ℕ) × (e ≡ exprs.Choose k i j) × IsNet m c k × IsNet m a i × IsNet m b j
+  pub choose_shape : (c a b : Name) (e : Expr) → ExprIs m (ChooseTree c a b) e → (k : ℕ) × (i : ℕ) × (j : ℕ) × (e ≡ exprs.Choose k i j) × IsNet m c k × IsNet m a i × IsNet m b j
   choose_shape c a b (exprs.Choose k i j) h = (k, i, j, refl, h.0, h.1, h.2)
   choose_shape c a b _ h = absurd h
 
-  cell_shape : (x a : Name) (e : Expr) → ExprIs m (CellTree x a) e → (k : ℕ) × (i : ℕ) × (e ≡ exprs.Cell k i) × IsMem m x k × IsNet m a i
+  pub cell_shape : (x a : Name) (e : Expr) → ExprIs m (CellTree x a) e → (k : ℕ) × (i : ℕ) × (e ≡ exprs.Cell k i) × IsMem m x k × IsNet m a i
   cell_shape x a (exprs.Cell k i) h = (k, i, refl, h.0, h.1)
   cell_shape x a _ h = absurd h
 

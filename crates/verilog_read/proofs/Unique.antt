@@ -26,7 +26,7 @@ use Rattle.verilog_read.proofs.Good.{AllAt}
 use Rattle.verilog_read.proofs.Forms.{module_known, front_known, back_known, use_known}
 use Rattle.verilog_read.proofs.SameExpr.{same_expr}
 
-some_is : {A : Type 0} {x y : A} → Some x ≡ Some y → x ≡ y
+pub some_is : {A : Type 0} {x y : A} → Some x ≡ Some y → x ≡ y
 some_is e = cc
 
 -- lists that agree item by item
@@ -36,7 +36,7 @@ lists_same [] (y ∷ ys) n h = absurd (omega arith)
 lists_same (x ∷ xs) [] n h = absurd (omega arith)
 lists_same (x ∷ xs) (y ∷ ys) n h = let p = h 0 x y refl refl in let q = lists_same xs ys (omega arith) (λ k a b e f. h (suc k) a b e f) in λ i. p i ∷ q i
 
-pairwise_same : {A B : Type 0} (R S : A → B → Type 0) (ts : List A) (xs ys : List B) → ((k : ℕ) (t : A) (x y : B) → slice_get ts k ≡ Some t → R t x → S t y → y ≡ x) → Pairwise R ts xs → Pairwise S ts ys → ys ≡ xs
+pub pairwise_same : {A B : Type 0} (R S : A → B → Type 0) (ts : List A) (xs ys : List B) → ((k : ℕ) (t : A) (x y : B) → slice_get ts k ≡ Some t → R t x → S t y → y ≡ x) → Pairwise R ts xs → Pairwise S ts ys → ys ≡ xs
 pairwise_same R S [] [] [] h p q = refl
 pairwise_same R S (t ∷ ts) (x ∷ xs) (y ∷ ys) h p q = let a = h 0 t x y refl p.0 q.0 in let b = pairwise_same R S ts xs ys (λ k u v w e r s. h (suc k) u v w e r s) p.1 q.1 in λ i. a i ∷ b i
 pairwise_same R S [] (x ∷ xs) ys h p q = absurd p
@@ -44,14 +44,14 @@ pairwise_same R S [] [] (y ∷ ys) h p q = absurd q
 pairwise_same R S (t ∷ ts) [] ys h p q = absurd p
 pairwise_same R S (t ∷ ts) (x ∷ xs) [] h p q = absurd q
 
-pairwise_there : {A B : Type 0} (R : A → B → Type 0) (ts : List A) (xs : List B) (k : ℕ) (t : A) (x : B) → Pairwise R ts xs → slice_get ts k ≡ Some t → slice_get xs k ≡ Some x → R t x
+pub pairwise_there : {A B : Type 0} (R : A → B → Type 0) (ts : List A) (xs : List B) (k : ℕ) (t : A) (x : B) → Pairwise R ts xs → slice_get ts k ≡ Some t → slice_get xs k ≡ Some x → R t x
 pairwise_there R [] [] k t x p e f = absurd (cc)
 pairwise_there R [] (y ∷ xs) k t x p e f = absurd p
 pairwise_there R (u ∷ ts) [] k t x p e f = absurd p
 pairwise_there R (u ∷ ts) (y ∷ xs) zero t x p e f = let a = some_is e in let b = some_is f in subst (λ z. R z x) a (subst (λ z. R u z) b p.0)
 pairwise_there R (u ∷ ts) (y ∷ xs) (suc k) t x p e f = pairwise_there R ts xs k t x p.1 e f
 
-pairwise_count : {A B : Type 0} (R : A → B → Type 0) (ts : List A) (xs : List B) → Pairwise R ts xs → length xs ≡ length ts
+pub pairwise_count : {A B : Type 0} (R : A → B → Type 0) (ts : List A) (xs : List B) → Pairwise R ts xs → length xs ≡ length ts
 pairwise_count R [] [] p = refl
 pairwise_count R [] (x ∷ xs) p = absurd p
 pairwise_count R (t ∷ ts) [] p = absurd p
@@ -170,7 +170,7 @@ listed_at : (cs : List Connection) (c : Connection) (h : Contains cs c) → slic
 listed_at cs c h = slice_get-get_or cs h.0 c h.1 ∙ ap Some h.2
 
 -- names in a module
-net_named : (m : Module) (a : Name) (i : ℕ) → IsNet m a i → slice_get (names_of m) i ≡ Some a
+pub net_named : (m : Module) (a : Name) (i : ℕ) → IsNet m a i → slice_get (names_of m) i ≡ Some a
 net_named m a i h =
     let nets = map (λ (n : Net). n.name) m.nets in let mems = map (λ (k : Mem). k.name) m.mems in
     in_front (nets ++ mems) (map (λ (x : Instance). x.name) m.instances) i a (in_front nets mems i a (slice_get-map (λ (n : Net). n.name) m.nets i ∙ h))

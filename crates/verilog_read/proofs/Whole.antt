@@ -19,7 +19,7 @@ use Rattle.verilog_syntax.specs.Scanning.{PlacedToken, placed_view}
 use Rattle.verilog_syntax.specs.Parsed.{IsFile, tokens_of}
 use Rattle.verilog_syntax.specs.declared.token.Placed.{Placed}
 use Rattle.rtl_reading.specs.Uses.{unknown_in}
-use Rattle.rtl_text.specs.Text.{Pairwise, ModuleIs}
+use Rattle.rtl_text.specs.Text.{Pairwise, ModuleIs, TextOf}
 use Rattle.rtl_reading.specs.Reads.{IsText, IsNumbered, ReadsAs}
 use Rattle.verilog_read.specs.Refused.{IsRuleFault, Refuses, IsReadAs}
 use Rattle.verilog_read.specs.Answers.{AreTokens, IsScanFault, AreTrees, IsDesign, IsTreeFault, BreaksRule, CanRun, HasWrongPort}
@@ -30,7 +30,9 @@ use Rattle.verilog_read.proofs.Readings.{one_reading, not_read}
 use Rattle.verilog_read.proofs.Good.{file_good}
 use Rattle.verilog_read.proofs.Said.{modules_are, are_numbered}
 use Rattle.verilog_read.proofs.Forms
+use Rattle.rtl_reading.specs.Renumbered.{AreRenumbered}
 use Rattle.verilog_read.proofs.Unique.{one_design}
+use Rattle.verilog_read.proofs.OneText.{same_up_to_numbers}
 
 some_is : {x y : Module} → Some x ≡ Some y → x ≡ y
 some_is e = cc
@@ -117,6 +119,12 @@ module _ (bytes : List ℕ) (tokens : List Placed) (at : AreTokens bytes tokens)
   -- and so the design that is read is the only one
   pub only_design : (d : Design) → IsDesign tokens d → IsAccepted d → (other : Design) → ReadsAs bytes other → other ≡ d
   only_design d h a other r = same_design h.trees h.are d other (reads d h) r a
+
+  -- an accepted design of which this is a text is the one that is read, up to the numbers of its nets
+  pub up_to_numbers : (r : Design) → IsDesign tokens r → IsAccepted r → (d : Design) → IsAccepted d → TextOf bytes d → AreRenumbered d r
+  up_to_numbers r h b d a t =
+      let p = one_tree h.trees t.trees h.are (record { tokens = t.tokens; read = t.read; derived = t.derived }) in
+      same_up_to_numbers h.trees d r (subst (λ l. Pairwise (ModuleIs d) l d.modules) p t.modules) (modules_are h.trees r h.said) (are_numbered h.trees r h.said) a b h.known
 
   pub rule_excluded : {e : VerilogError} (d : Design) → IsDesign tokens d → (other : Design) → IsReadAs bytes other → BreaksRule d e → e ≡ NoMemory
   rule_excluded d h other r BreaksRule.memory = refl

@@ -4,3 +4,4 @@ pub mod Built
 pub mod Walk
 pub mod Joined
 pub mod Answers
+pub mod Lines

@@ -9,6 +9,7 @@ mod fault;
 mod instance;
 mod items;
 mod ports;
+mod refusal;
 mod resolve;
 mod steps;
 mod table;
@@ -16,7 +17,10 @@ mod table;
 ghost use Rattle.std.specs.Prelude.{◌≡◌, ◌<◌, ◌^◌, ◌⊎◌, length, IfOk, IfErr};
 ghost use Rattle.rtl_ir.specs.declared.design.Design.{Design};
 ghost use Rattle.verilog_read.specs.declared.error.VerilogError.{VerilogError};
+ghost use Rattle.rtl_ir.specs.Rules.{IsAccepted};
+ghost use Rattle.rtl_text.specs.Text.{TextOf};
 ghost use Rattle.rtl_reading.specs.Reads.{ReadsAs};
+ghost use Rattle.rtl_reading.specs.Renumbered.{AreRenumbered};
 ghost use Rattle.verilog_read.specs.Refused.{Refuses, IsReadAs};
 
 pub use error::VerilogError;
@@ -31,6 +35,9 @@ pub fn read(alloc: Global, bytes: &[u8]) -> Result<Design, VerilogError>
     requires { length bytes.now < 2 ^ 32 }
     ensures read { IfOk result (λ d. IsReadAs bytes.now d) }
     ensures only { IfOk result (λ d. (other : Design) → ReadsAs bytes.now other → other ≡ d) }
+    // an accepted design of which this is a text differs from the one that is read in the numbers
+    // of its nets alone
+    ensures same { IfOk result (λ r. (d : Design) → IsAccepted d → TextOf bytes.now d → AreRenumbered d r) }
     ensures refused { IfErr result (λ e. (e ≡ VerilogError.NoMemory) ⊎ Refuses bytes.now e) }
     ensures every { (d : Design) → IsReadAs bytes.now d → IfErr result (λ e. e ≡ VerilogError.NoMemory) }
     ensures exact { (e : VerilogError) → Refuses bytes.now e → IfOk result (λ _. ⊥) }

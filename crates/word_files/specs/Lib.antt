@@ -5,3 +5,4 @@ pub mod Lines
 pub mod Ahead
 pub mod WordFiles
 pub mod Written
+pub mod Refused

@@ -1,8 +1,9 @@
 // Why a file of a simulation is refused.
-ghost use Rattle.std.specs.Prelude.{◌≡◌};
+ghost use Rattle.std.specs.Prelude.{◌≡◌, Some, IfOk};
 
 use mx_base::{NoMemory, Text};
-use std::alloc::AllocError;
+use refusal_line::{Value, refusal_line};
+use std::alloc::{AllocError, Global};
 
 /// Why a run file is refused.
 #[derive(Debug, PartialEq, Eq, Drop)]
@@ -14,6 +15,22 @@ pub enum RunFileError {
     Shape(Text),
     /// No memory was left.
     NoMemory,
+}
+
+impl RunFileError {
+    ghost use Rattle.word_files.specs.Refused.{said};
+
+    /// The line that is said of the fault: its code, and the key where there is one. Want of memory
+    /// says none.
+    pub fn line(&self, alloc: Global) -> Result<Vec<u8>, NoMemory>
+        ensures { IfOk result (λ line. said self.now ≡ Some line.items) }
+    {
+        match self {
+            RunFileError::NotJson => refusal_line(alloc, "U1", &[]),
+            RunFileError::Shape(key) => refusal_line(alloc, "U2", &[Value::Name(key)]),
+            RunFileError::NoMemory => Err(NoMemory),
+        }
+    }
 }
 
 impl From<NoMemory> for RunFileError {

@@ -2,7 +2,7 @@ use Rattle.std.proofs.Common.{refl, sym, subst}
 use Rattle.std.proofs.lemmas.Result.{err_from_is_err_and}
 use Rattle.verilog_read.specs.Answers.{AreTokens}
 use Rattle.verilog_read.proofs.FirstUse.{err_is}
-use Rattle.verilog_read.proofs.Whole.{scan_refused, scan_excluded, formed, tree_refused, tree_excluded, rule_refused, rule_excluded, port_refused, port_excluded, read_as, only_design, excluded}
+use Rattle.verilog_read.proofs.Whole.{scan_refused, scan_excluded, formed, tree_refused, tree_excluded, rule_refused, rule_excluded, port_refused, port_excluded, read_as, only_design, up_to_numbers, excluded}
 use Rattle.verilog_read.proofs.read.Goals as goal
 
 pub returns-in_err-tokens-clause-refused : goal.returns-in_err-tokens-clause-refused
@@ -77,3 +77,9 @@ returns-clause-only c =
     let tokens = c.as_slice.result.now in
     let at = subst (AreTokens c.args.bytes.now) (sym c.as_slice.ensures) c.in_ok-tokens.ensures.ok in
     only_design c.args.bytes.now tokens at c.in_ok-design.design c.in_ok-design.ensures.ok c.in_ok-keep_rules.ensures.ok
+
+pub returns-clause-same : goal.returns-clause-same
+returns-clause-same c =
+    let tokens = c.as_slice.result.now in
+    let at = subst (AreTokens c.args.bytes.now) (sym c.as_slice.ensures) c.in_ok-tokens.ensures.ok in
+    up_to_numbers c.args.bytes.now tokens at c.in_ok-design.design c.in_ok-design.ensures.ok c.in_ok-keep_rules.ensures.ok

@@ -15,6 +15,11 @@ returns-in_err-sim-clause-too_many g c = λ many.
     let p = err_from_is_err_and c.from_residual.result c.from_residual.ensures.1 in
     rw (p.1, p.2) (refusal_of _ _ c.in_err-sim.ensures.refusal, refl, tt)
 
+pub new-requires-clause-ports : goal.new-requires-clause-ports
+new-requires-clause-ports g c =
+    let q = c.requires.shape in
+    (q.0, q.2, c.requires.ports q.0 q.2)
+
 pub set_all-requires-clause-ports : goal.set_all-requires-clause-ports
 set_all-requires-clause-ports g c =
     let d = c.args.design.now in

@@ -1,7 +1,7 @@
 use Rattle.std.proofs.Common.{◌≡◌, ◌++◌, take}
 use Rattle.std.specs.List.{flat_map}
-use Rattle.maxjc_core.specs.Lines.{after_blank}
-use Rattle.maxjc_core.proofs.refusal_line.push_names.Given as goal
+use Rattle.refusal_line.specs.Lines.{after_blank}
+use Rattle.refusal_line.proofs.line.push_names.Given as goal
 
 -- the names so far stand behind the line
 abbrev pub invariant-loop-name : goal.invariant-loop-name
