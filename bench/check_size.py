@@ -58,8 +58,8 @@ def cells(count):
     return simulate_speed.HEAD + storage + reads + "always @(posedge clk) begin\nif (go) m[in$x$data] <= put;\nend\nendmodule\n"
 
 
-def holds(kind, text, words, wanted, wanted_words, most_seconds):
-    """Simulates the text over the words, prints a line, and answers whether all is as wanted and in time."""
+def holds(kind, text, words, wanted, wanted_words, most_seconds, most_memory=None):
+    """Simulates the text over the words, prints a line, and answers whether all is as wanted, in time and in these bytes."""
     with tempfile.TemporaryDirectory() as folder:
         work = pathlib.Path(folder)
         (work / "text.v").write_text(text)
@@ -69,6 +69,7 @@ def holds(kind, text, words, wanted, wanted_words, most_seconds):
         status, said, seconds, memory = compile_size.watched(["simulate", "text.v", "run.json"], work, most_seconds)
         left = (work / "y.txt").read_text().split() if (work / "y.txt").exists() else []
     good = said == wanted and [int(word, 16) for word in left] == wanted_words
+    good &= most_memory is None or memory <= most_memory
     ended = f"{said}, status {status}" if status is not None else f"stopped after {most_seconds} s"
     seen = f"{memory / 2**20:.0f} MiB" if memory else "over before its memory was seen"
     print(f"{kind}, {len(text)} bytes: {ended}, {seconds:.2f} s, {seen}" + ("" if good else f", NOT as wanted: {left}"))

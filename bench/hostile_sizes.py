@@ -3,8 +3,10 @@
 
 Many ports: a module of PORTS ports, each output the inverse of one input, and an instance of it. Many pairs: a
 module of SIDE inputs, each of which feeds each of SIDE outputs, and an instance of it, so that it has SIDE * SIDE
-ways from a port to a port. Each is simulated for some edges; the words that leave are checked. Memory is the
-greatest resident set of the program.
+ways from a port to a port. Stairs: a module of SIDE inputs and SIDE outputs, each of which is fed by one input more
+than the one before it, so that no two have the same ways. Each is simulated for some edges; the words that leave are
+checked. Memory is the greatest resident set of the program. It has a bar for the texts of many ways; what the text of
+many ports takes is taken while it is read.
 
     bench/hostile_sizes.py [PORTS [SIDE]]
 """
@@ -14,8 +16,8 @@ import sys
 import check_size
 import simulate_speed
 
-# Seconds for either text.
-BAR = 2
+# Seconds for each text, and bytes for those of many ways.
+BAR, MOST_MEMORY = 2, 200 * 10**6
 BIT = "wire [0:0] "
 
 
@@ -46,15 +48,23 @@ def many_ports(ports):
     return whole(module(inputs, outputs, body), joined(inputs, "a"), outputs, outputs[-1])
 
 
-def many_pairs(side):
-    """A module whose outputs are all the bit by bit sum of all its inputs."""
+def sums(side, fed_by):
+    """A module of sums of inputs, one input more in each, bit by bit; an output is the sum that `fed_by` says."""
     inputs, outputs = [f"a{number}" for number in range(side)], [f"b{number}" for number in range(side)]
-    sums = [f"s{number}" for number in range(1, side)]
-    body = "".join(f"{BIT}{name};\n" for name in sums)
-    before = inputs[:1] + sums
-    body += "".join(f"assign {name} = {before[place]} ^ {inputs[place + 1]};\n" for place, name in enumerate(sums))
-    body += "".join(f"assign {name} = {before[-1]};\n" for name in outputs)
+    names = [f"s{number}" for number in range(1, side)]
+    body = "".join(f"{BIT}{name};\n" for name in names)
+    before = inputs[:1] + names
+    body += "".join(f"assign {name} = {before[place]} ^ {inputs[place + 1]};\n" for place, name in enumerate(names))
+    body += "".join(f"assign {name} = {before[fed_by(place)]};\n" for place, name in enumerate(outputs))
     return whole(module(inputs, outputs, body), joined(inputs, "a"), outputs, outputs[-1])
+
+
+def many_pairs(side):
+    return sums(side, lambda place: side - 1)
+
+
+def stairs(side):
+    return sums(side, lambda place: place)
 
 
 def main():
@@ -68,7 +78,8 @@ def main():
     done = check_size.SIMULATED
     good = [
         check_size.holds(f"an instance of {ports} ports", many_ports(ports), words, done, inverted, BAR),
-        check_size.holds(f"an instance of {side} by {side} ways", many_pairs(side), words, done, summed, BAR),
+        check_size.holds(f"an instance of {side} by {side} ways", many_pairs(side), words, done, summed, BAR, MOST_MEMORY),
+        check_size.holds(f"an instance of {side} stairs", stairs(side), words, done, summed, BAR, MOST_MEMORY),
     ]
     return 0 if all(good) else 1
 

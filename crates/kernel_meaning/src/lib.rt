@@ -1,0 +1,19 @@
+//! What the run of a constructor builds, a kernel's or a manager's: the definitions, and the law
+//! that each call of a kernel may come after those before it.
+#![tactic(auto)]
+
+mod error;
+mod laws;
+mod plan;
+mod row;
+mod stack;
+mod state;
+mod value;
+
+pub use error::EvalError;
+pub use laws::lawful;
+pub use plan::{Arg, End, Join, Made, Plan, Side};
+pub use row::{Row, Sign};
+pub use stack::Stack;
+pub use state::{Binding, Digit, State};
+pub use value::{Base, Declared, Spot, Value};

@@ -1,0 +1,5 @@
+pub mod DigitBits
+pub mod LiteralBits
+mod NextOperand
+mod SignPairs
+mod HostPairs

@@ -1,0 +1,5 @@
+pub mod Given
+pub mod Planned
+pub mod Fit
+pub mod Operation
+pub mod KernelArgs

@@ -1,0 +1,12 @@
+mod Adding
+mod Behind
+pub mod CallerLemmas
+mod Constants
+mod Facts
+mod Faulty
+mod Finishing
+mod Growing
+mod Meeting
+mod Rooms
+mod Rows
+mod Taking

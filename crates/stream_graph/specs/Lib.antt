@@ -1,0 +1,10 @@
+pub mod Counts
+pub mod Faults
+pub mod Graphs
+pub mod Kernels
+pub mod Met
+pub mod Nodes
+pub mod Parts
+pub mod Ports
+pub mod Received
+pub mod Steps

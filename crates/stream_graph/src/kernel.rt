@@ -1,0 +1,69 @@
+// A kernel, node by node.
+ghost use Rattle.std.specs.Prelude.{◌≡◌, ◌<◌, ◌≤◌, Some, length, slice_get};
+ghost use Rattle.std.specs.Option.{option_map};
+ghost use Rattle.stream_graph.specs.Kernels.{AreKernel};
+
+use crate::node::Node;
+use crate::{NodeId, NodeView};
+use counter_chains::CounterDigit;
+use mx_base::{List, Text};
+
+/// A kernel: its name, and the nodes that lawful calls made, in the order of their calls.
+#[derive(Debug, Drop)]
+pub struct Kernel {
+    pub(crate) name: Text,
+    pub(crate) nodes: List<Node>,
+    ghost few: { length nodes ≤ 4096 },
+    ghost made: { ∥ AreKernel nodes ∥₁ },
+}
+
+impl Kernel {
+    /// The kernel's name.
+    pub fn name(&self) -> &[u8]
+        ensures { result.now ≡ self.now.name }
+    {
+        self.name.as_bytes()
+    }
+
+    /// The number of nodes, at most 4,096.
+    pub fn count(&self) -> u32
+        ensures { result ≡ length self.now.nodes }
+    {
+        self.nodes.len() as u32
+    }
+
+    /// What a node is, the type of its words, and whether it is a port with a control.
+    pub fn node(&self, id: NodeId) -> NodeView
+        requires { id < length self.now.nodes }
+        ensures { option_map (λ node. node.view) (slice_get self.now.nodes id) ≡ Some result }
+    {
+        self.nodes.at(id.index()).view
+    }
+
+    /// The operands of a node, in the order in which its call named them: of an input its control
+    /// where it has one, of an output its value and then its control, of a hold its value and then
+    /// its store, of a part its chain, and of a feed what is connected to it.
+    pub fn operands(&self, id: NodeId) -> &[NodeId]
+        requires { id < length self.now.nodes }
+        ensures { option_map (λ node. node.operands) (slice_get self.now.nodes id) ≡ Some result.now }
+    {
+        self.nodes.at(id.index()).operands.as_slice()
+    }
+
+    /// The name of a port, and of another node no bytes.
+    pub fn port_name(&self, id: NodeId) -> &[u8]
+        requires { id < length self.now.nodes }
+        ensures { option_map (λ node. node.name) (slice_get self.now.nodes id) ≡ Some result.now }
+    {
+        self.nodes.at(id.index()).name.as_bytes()
+    }
+
+    /// The digits with which a node counts: of a counter and of a part its own, of a chain all of
+    /// its parts', the outermost first, and of another node none.
+    pub fn digits(&self, id: NodeId) -> &[CounterDigit]
+        requires { id < length self.now.nodes }
+        ensures { option_map (λ node. node.digits) (slice_get self.now.nodes id) ≡ Some result.now }
+    {
+        self.nodes.at(id.index()).digits.as_slice()
+    }
+}
