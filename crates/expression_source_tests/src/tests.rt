@@ -61,30 +61,29 @@ fn put_statements(out: &mut Text, sketch: &Sketch<'_>) -> Result<(), Fail> {
     )
 }
 
-/// A class `K` whose constructor's parameter is `p`.
+/// A kernel `K` whose constructor's parameter is `p`, and a manager behind it where there is one.
 fn source_of(alloc: Global, sketch: &Sketch<'_>) -> Result<Text, Fail> {
     let mut out = Text::from_vec(Vec::new(alloc));
-    if sketch.manager {
-        put(
-            &mut out,
-            &[b"class K extends CustomManager { K(EngineParameters p) { super(p);"],
-        )?;
-    } else {
-        put(
-            &mut out,
-            &[b"class K extends Kernel { K(KernelParameters p) { super(p);"],
-        )?;
-    }
+    put(
+        &mut out,
+        &[b"class K extends Kernel { K(KernelParameters p) { super(p);"],
+    )?;
     put_statements(&mut out, sketch)?;
     put(&mut out, &[b"}"])?;
     for _ in 1..sketch.members {
         put(&mut out, &[b"void f() {}"])?;
     }
     put(&mut out, &[b"}"])?;
+    if sketch.manager {
+        put(
+            &mut out,
+            &[b"class M extends CustomManager { M(EngineParameters e) { super(e); } }"],
+        )?;
+    }
     Ok(out)
 }
 
-/// The kernel, if the sketch is a source and that is one.
+/// The kernel, if the sketch, which is a source, is one.
 fn read(alloc: Global, sketch: &Sketch<'_>) -> Result<Option<Project>, Fail> {
     let source = source_of(alloc, sketch)?;
     if source.len() >= 100000 {
@@ -93,7 +92,7 @@ fn read(alloc: Global, sketch: &Sketch<'_>) -> Result<Option<Project>, Fail> {
     match parse(alloc, source.as_bytes()) {
         Ok(program) => Ok(read_kernel(alloc, &program)?),
         Err(SourceError::NoMemory) => Err("no memory".into()),
-        Err(_fault) => Ok(None),
+        Err(_fault) => Err("no source".into()),
     }
 }
 
@@ -169,12 +168,12 @@ fn widths_ports_and_classes(rt: HostRuntime) -> Result<(), Fail> {
         (b"\"x\"", b"0", b"0", 1, false, false),
         (b"\"x\"", b"129", b"129", 1, false, false),
         (b"\"x\"", b"99999999999999999999999", b"8", 1, false, false),
-        (b"\"x\"", b"08", b"08", 1, false, false),
+        (b"\"x\"", b"0x8", b"0x8", 1, false, false),
         (b"\"x\"", b"8L", b"8L", 1, false, false),
         (b"\"x\"", b"8", b"9", 1, false, false),
         (b"\"_x\"", b"8", b"8", 1, false, false),
         (b"\"\"", b"8", b"8", 1, false, false),
-        (b"\"", b"8", b"8", 1, false, false),
+        (b"x", b"8", b"8", 1, false, false),
         (b"\"x\"", b"8", b"8", 2, false, false),
         (b"\"x\"", b"8", b"8", 1, true, false),
     ];
