@@ -37,9 +37,13 @@ pub record IsClosedWalk (g : List (List ℕ)) (walk : List ℕ) : Type 0 where
 abbrev pub IsLeastFirst : List ℕ → Type 0
 IsLeastFirst walk = (i : ℕ) → i < length walk → slice_index walk 0 ≤ slice_index walk i
 
+-- no node stands twice on the walk
+abbrev pub IsSimple : List ℕ → Type 0
+IsSimple walk = (i j : ℕ) → i < length walk → j < length walk → slice_index walk i ≡ slice_index walk j → i ≡ j
+
 abbrev pub RanksOrWalk : List (List ℕ) → Found → Type 0
 RanksOrWalk g (Ranks order) = IsRanked g order.rank.items × IsPlaced g order.nodes.items order.rank.items
-RanksOrWalk g (Walk walk) = IsClosedWalk g walk.items × IsLeastFirst walk.items
+RanksOrWalk g (Walk walk) = IsClosedWalk g walk.items × IsLeastFirst walk.items × IsSimple walk.items
 
 -- there is a way from this node on which each node is read by the next one
 pub data Reaches (g : List (List ℕ)) (start : ℕ) : ℕ → Type 0 where

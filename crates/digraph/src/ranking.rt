@@ -8,7 +8,7 @@ use crate::{Found, Order, Row};
 use mx_base::NoMemory;
 use std::alloc::Global;
 
-/// Ranks of all nodes, or a closed walk from its least node.
+/// Ranks of all nodes, or a closed walk from its least node that meets no node twice.
 pub fn rank(alloc: Global, graph: &[Row<u32>]) -> Result<Found, NoMemory>
     requires graph { IsGraph graph.now }
     requires small { length graph.now ≤ 2 ^ 32 }

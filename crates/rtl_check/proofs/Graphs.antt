@@ -7,13 +7,14 @@ use Rattle.rtl_ir.specs.declared.design.Module.{Module}
 use Rattle.rtl_ir.specs.declared.design.Instance.{Instance}
 use Rattle.rtl_ir.specs.Rules.{Connection, Feeds, by_assign, by_part, Way, stay, step, IsLevelled}
 use Rattle.rtl_ir.specs.Faults.{IsCombLoop}
+use Rattle.rtl_check.specs.FirstFault.{IsSimple}
 use Rattle.rtl_check.specs.Paths.{PortPath, HasPath, IsGraphOf, IsAssigned, IsParted, IsPath, ArePaths, ArePathsOf, IsInRange, HasEdges}
 use Rattle.rtl_check.specs.Checked.{IsPart}
 use Rattle.rtl_check.proofs.Places.{some_is}
 use Rattle.rtl_check.proofs.Parted.{inner_is}
 use Rattle.rtl_check.proofs.Marked.{item_of}
 use Rattle.rtl_check.proofs.Edges.{edge_from}
-use Rattle.digraph.specs.Graph.{Reads, IsGraph, IsRanked, IsClosedWalk, IsLeastFirst, Reaches, begin, on}
+use Rattle.digraph.specs.Graph.{Reads, IsGraph, IsRanked, IsClosedWalk, IsLeastFirst, IsSimple as IsSimpleWalk, Reaches, begin, on}
 
 pub is_graph : (m : Module) (tables : List (List (List ℕ))) (g : List (List ℕ)) → IsInRange m tables → HasEdges m tables g → IsGraph g
 is_graph m tables g r h b i lt =
@@ -76,6 +77,10 @@ loop_of d m g h walk c l =
   where
     at : (i a : ℕ) → slice_get walk i ≡ Some a → get_or walk i 0 ≡ a
     at i a e = get_or_from_slice_get walk i a 0 e
+
+pub simple_of : (walk : List ℕ) → IsSimpleWalk walk → IsSimple walk
+simple_of walk s i j a e f =
+    s i j (slice_get_within walk i a e) (slice_get_within walk j a f) (get_or_from_slice_get walk i a 0 e ∙ sym (get_or_from_slice_get walk j a 0 f))
 
 -- a way that goes on by one net
 joins : {d : Design} {m : Module} {a b z : ℕ} → Way d m a b → Feeds d m b z → Way d m a z

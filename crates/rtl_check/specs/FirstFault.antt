@@ -87,9 +87,13 @@ pub data IsWidth (d : Design) (m : Module) : List ℕ → Type 0 where
       → IsFirst (IsBadPort d m k) j
       → IsWidth d m (name_of m e.net)
 
--- the names of the nets of a loop
+-- no net stands twice on the walk
+abbrev pub IsSimple : List ℕ → Type 0
+IsSimple walk = (i j a : ℕ) → slice_get walk i ≡ Some a → slice_get walk j ≡ Some a → i ≡ j
+
+-- the names of the nets of a loop, each of which is told once
 abbrev pub IsLoopOf : Design → Module → List (List ℕ) → Type 0
-IsLoopOf d m names = (walk : List ℕ) × IsCombLoop d m walk × (names ≡ map (name_of m) walk)
+IsLoopOf d m names = (walk : List ℕ) × IsCombLoop d m walk × (names ≡ map (name_of m) walk) × IsSimple walk
 
 -- no name has the property
 abbrev pub NoName : (List ℕ → Type 0) → Type 0

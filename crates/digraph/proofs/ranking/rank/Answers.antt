@@ -17,4 +17,4 @@ loop-node-init c =
 pub returns-in-Some : goal.returns-in-Some
 returns-in-Some c =
     let s = rw c.in-Some.is at c.in_ok-at.ensures.walk in
-    walk c.args.graph.now c.visit.new.search.path.items _ c.in-Some.at s (rw (sym c.as_slice.ensures.value) c.in_ok-walk_from.ensures)
+    walk c.args.graph.now c.visit.new.search.path.items _ c.in-Some.at s c.in_ok-at.ensures.searches.apart (rw (sym c.as_slice.ensures.value) c.in_ok-walk_from.ensures)

@@ -2,7 +2,7 @@ use Rattle.std.proofs.Common.{◌≡◌, map, inr, refl, sym, ◌∙◌, ap, sub
 use Rattle.digraph.specs.Graph.{IsGraph}
 use Rattle.rtl_ir.specs.Formed.{name_of}
 use Rattle.rtl_check.specs.Paths.{HasEdges}
-use Rattle.rtl_check.proofs.Graphs.{is_graph, graph_of, levelled, loop_of, paths_of}
+use Rattle.rtl_check.proofs.Graphs.{is_graph, graph_of, levelled, loop_of, simple_of, paths_of}
 use Rattle.rtl_check.proofs.loops.paths_or_loop.Goals as goal
 
 pub rank-requires-clause-graph : goal.rank-requires-clause-graph
@@ -17,7 +17,7 @@ returns-in-Walk-clause-err c =
     let here = subst (HasEdges m tables) (sym c.as_slice.ensures.value) edges in
     let found = rw c.in-Walk.is at c.in_ok-walk.ensures in
     let names : c.in_ok-names-in-Walk.names ≡ map (name_of m) walk = c.in_ok-names-in-Walk.ensures ∙ ap (map (name_of m)) c.as_slice-in-Walk.ensures.value in
-    inr (c.in_ok-names-in-Walk.names, refl, λ d part. (walk, loop_of d m g (graph_of d m tables g part here) walk found.0 found.1, names))
+    inr (c.in_ok-names-in-Walk.names, refl, λ d part. (walk, loop_of d m g (graph_of d m tables g part here) walk found.0 found.1, names, simple_of walk found.2))
 
 pub returns-then-not-wanted-clause-levelled : goal.returns-then-not-wanted-clause-levelled
 returns-then-not-wanted-clause-levelled c = λ d part.
