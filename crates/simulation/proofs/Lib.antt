@@ -2,6 +2,7 @@ pub mod Lists
 pub mod Reading
 pub mod Looking
 pub mod Writing
+pub mod Stopping
 pub mod Snoc
 pub mod Giving
 pub mod Stepping

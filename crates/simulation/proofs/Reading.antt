@@ -15,7 +15,6 @@ use Rattle.word_files.specs.declared.reader.WordReader.{WordReader}
 use Rattle.word_files.specs.declared.error.WordError.{WordError}
 use Rattle.word_files.specs.declared.error.WordError.TheVariants as errors
 use Rattle.word_files.proofs.LineLemmas.{left_none, left_some}
-use Rattle.word_files.proofs.JudgeLemmas.{no_item}
 use Rattle.simulation.specs.Inputs.{InputFile, LineFault, word_in, before_words, words_in, words_of, fault_of_line, fault_in, fault_behind}
 use Rattle.simulation.specs.Inputs as lines
 use Rattle.simulation.specs.Inward.{with_waiting, words_behind, IsWithin, IsLacking, IsAt, HasEnded, IsFaulty, Stops, IsBegun}
@@ -107,8 +106,8 @@ pub record IsRead (held : Held) (old : Input) (reader : WordReader) (word : Opti
   pub lines : reader.lines ≡ old.reader.lines + cond (is_some word) 1 0
 
 module _ (held : Held) (f : InputFile) (left : List ℕ) (old : Input) (reader : WordReader) where
-  read_within : (word : Option Word) (new : Input) → new.reader ≡ reader → new.waiting ≡ word → new.ended ≡ not (is_some word) → old.waiting ≡ None → IsRead held old reader word → (file : List ℕ) → Holds held old.reader.name file → f.width ≡ old.reader.width → IsWithin f file left old → IsWithin f file left new
-  read_within None new is waits ended none r file holds width w =
+  read_within : (word : Option Word) (new : Input) → new.reader ≡ reader → new.waiting ≡ word → old.waiting ≡ None → IsRead held old reader word → (file : List ℕ) → Holds held old.reader.name file → f.width ≡ old.reader.width → IsWithin f file left old → IsWithin f file left new
+  read_within None new is waits none r file holds width w =
       let at : slice_get (lines_of file) old.reader.lines ≡ None = r.line file holds w.follows in
       let same : new.reader.lines ≡ old.reader.lines = ap (λ (x : WordReader). x.lines) is ∙ r.lines ∙ omega arith in
       let behind : words_behind f.width file new ≡ words_behind f.width file old = ap (λ n. words_in f.width (drop n (lines_of file))) same in
@@ -117,9 +116,8 @@ module _ (held : Held) (f : InputFile) (left : List ℕ) (old : Input) (reader :
         lines = w.lines;
         count = w.count ∙ ap (λ n. n + length (words_behind f.width file old)) (sym same) ∙ ap (λ ws. new.reader.lines + length ws) (sym behind);
         left_is = left_behind f left old file w none ∙ sym behind ∙ sym (ap (λ o. with_waiting o (words_behind f.width file new)) waits);
-        ended = λ _. ap (λ n. drop n (lines_of file)) same ∙ left_none (lines_of file) old.reader.lines at;
       }
-  read_within (Some x) new is waits ended none r file holds width w =
+  read_within (Some x) new is waits none r file holds width w =
       let said = r.line file holds w.follows in
       let l = some_line (slice_get (lines_of file) old.reader.lines) (Some x.bits) said.0 in
       let same : new.reader.lines ≡ old.reader.lines + 1 = ap (λ (x : WordReader). x.lines) is ∙ r.lines in
@@ -133,16 +131,15 @@ module _ (held : Held) (f : InputFile) (left : List ℕ) (old : Input) (reader :
         lines = w.lines;
         count = w.count ∙ ap (λ ws. old.reader.lines + length ws) behind ∙ omega arith;
         left_is = left_behind f left old file w none ∙ behind ∙ sym (ap (λ o. with_waiting o (words_behind f.width file new)) waits);
-        ended = λ e. absurd (false≢true (sym ended ∙ e));
       }
 
-  pub read_stands : (word : Option Word) (new : Input) → new.reader ≡ reader → new.waiting ≡ word → new.ended ≡ not (is_some word) → old.waiting ≡ None → IsRead held old reader word → IsAt held f left old → IsAt held f left new
-  read_stands word new is waits ended none r at =
+  pub read_stands : (word : Option Word) (new : Input) → new.reader ≡ reader → new.waiting ≡ word → old.waiting ≡ None → IsRead held old reader word → IsAt held f left old → IsAt held f left new
+  read_stands word new is waits none r at =
       record {
         name = ap (λ (x : WordReader). x.name) is ∙ r.name ∙ at.name;
         width = ap (λ (x : WordReader). x.width) is ∙ r.width ∙ at.width;
         unrefused = ap (λ (x : WordReader). x.refusal) is ∙ r.unrefused;
-        within = λ file holds. read_within word new is waits ended none r file (subst (λ n. Holds held n file) (sym at.name) holds) (sym at.width) (at.within file holds);
+        within = λ file holds. read_within word new is waits none r file (subst (λ n. Holds held n file) (sym at.name) holds) (sym at.width) (at.within file holds);
         lacking = λ lacks. absurd (r.lacking (subst (λ n. Lacks held n) (sym at.name) lacks) (at.lacking lacks).unread);
       }
 
@@ -155,17 +152,6 @@ module _ (held : Held) (f : InputFile) (left : List ℕ) (old : Input) (reader :
           let w = at.within found.0 found.1 in
           at_the_end f left old found.0 w none (r.line found.0 (subst (λ n. Holds held n found.0) (sym at.name) found.1) w.follows)
       by (inr lacks) = absurd (r.lacking (subst (λ n. Lacks held n) (sym at.name) lacks) (at.lacking lacks).unread)
-
--- where nothing is read, a word waits or the end was met
-pub unread_ended : (held : Held) (f : InputFile) (left : List ℕ) (i : Input) → (is_some i.waiting ≡ true) ⊎ (i.ended ≡ true) → IsAt held f left i → i.waiting ≡ None → IsSome held → HasEnded f left
-unread_ended held f left i (inl some) at none told = absurd (false≢true (sym (ap is_some none) ∙ some))
-unread_ended held f left i (inr ended) at none told = by (found_or_lacking held f.name told)
-  where
-    by : ((file : List ℕ) × Holds held f.name file) ⊎ Lacks held f.name → HasEnded f left
-    by (inl found) =
-        let w = at.within found.0 found.1 in
-        at_the_end f left i found.0 w none (no_item (lines_of found.0) i.reader.lines (w.ended ended))
-    by (inr lacks) = absurd (false≢true (sym (at.lacking lacks).not_ended ∙ ended))
 
 -- why a reader stops
 missing : (held : Held) (f : InputFile) (left : List ℕ) (old : Input) → IsLacking f left old → IsFaulty f left lines.Missing
@@ -234,7 +220,6 @@ begins held f i name width lines b =
             lines = here;
             count = ap length all ∙ (let z = b.lines in omega arith);
             left_is = all ∙ ap (λ o. with_waiting o (words_behind f.width file i)) (sym b.none_waits);
-            ended = λ e. absurd (false≢true (sym b.not_ended ∙ e));
           });
       lacking = λ lacks. (
           let here : f.lines ≡ None = lines ∙ ap (λ o. option_map lines_of (unwrap_or o None)) lacks in
@@ -242,7 +227,6 @@ begins held f i name width lines b =
             lines = here;
             none_left = ap (λ o. words_in f.width (unwrap_or o [])) here;
             none_waits = b.none_waits;
-            not_ended = b.not_ended;
             unread = b.unread;
           });
     }

@@ -54,15 +54,14 @@ seen_output v ins outs events k ch is at =
     ∙ get_or_from_slice_get (map (event_of v) outs) k (event_of v ch) unmoved (map_at (event_of v) outs k ch at)
 
 -- ---- an input whose word was taken
-same_within : (f : InputFile) (file left later : List ℕ) (i j : Input) → j.reader ≡ i.reader → j.ended ≡ i.ended → later ≡ with_waiting j.waiting (words_behind f.width file i) → IsWithin f file left i → IsWithin f file later j
-same_within f file left later i j reader ended is w =
+same_within : (f : InputFile) (file left later : List ℕ) (i j : Input) → j.reader ≡ i.reader → later ≡ with_waiting j.waiting (words_behind f.width file i) → IsWithin f file left i → IsWithin f file later j
+same_within f file left later i j reader is w =
     let behind : words_behind f.width file j ≡ words_behind f.width file i = ap (λ (r : WordReader). words_in f.width (drop r.lines (lines_of file))) reader in
     record {
       follows = subst (Follows file) (sym reader) w.follows;
       lines = w.lines;
       count = w.count ∙ ap (λ (r : WordReader). r.lines + length (words_in f.width (drop r.lines (lines_of file)))) (sym reader);
       left_is = is ∙ ap (with_waiting j.waiting) (sym behind);
-      ended = λ e. ap (λ (r : WordReader). drop r.lines (lines_of file)) reader ∙ w.ended (sym ended ∙ e);
     }
 
 moved_valid : (ch : Channel) (v : Family) → moves ch v ≡ true → v ch.valid ≡ 1
@@ -84,8 +83,8 @@ module _ (held : Held) (f : InputFile) (left : List ℕ) (i j : Input) (told : I
         name = ap (λ (r : WordReader). r.name) t.reader ∙ at.name;
         width = ap (λ (r : WordReader). r.width) t.reader ∙ at.width;
         unrefused = ap (λ (r : WordReader). r.refusal) t.reader ∙ at.unrefused;
-        within = λ file holds. same_within f file left left i j t.reader t.ended ((at.within file holds).left_is ∙ ap (λ w. with_waiting w (words_behind f.width file i)) (sym t.waiting)) (at.within file holds);
-        lacking = λ lacks. (let l = at.lacking lacks in record { lines = l.lines; none_left = l.none_left; none_waits = t.waiting ∙ l.none_waits; not_ended = t.ended ∙ l.not_ended; unread = subst IsUnread (sym t.reader) l.unread });
+        within = λ file holds. same_within f file left left i j t.reader ((at.within file holds).left_is ∙ ap (λ w. with_waiting w (words_behind f.width file i)) (sym t.waiting)) (at.within file holds);
+        lacking = λ lacks. (let l = at.lacking lacks in record { lines = l.lines; none_left = l.none_left; none_waits = t.waiting ∙ l.none_waits; unread = subst IsUnread (sym t.reader) l.unread });
       }
 
   taken : IsTaken true i j → (x : Word) → i.waiting ≡ Some x → IsAt held f (drop 1 left) j
@@ -96,7 +95,7 @@ module _ (held : Held) (f : InputFile) (left : List ℕ) (i j : Input) (told : I
         unrefused = ap (λ (r : WordReader). r.refusal) t.reader ∙ at.unrefused;
         within = λ file holds. (
             let is : left ≡ x.bits ∷ words_behind f.width file i = (at.within file holds).left_is ∙ ap (λ w. with_waiting w (words_behind f.width file i)) waits in
-            same_within f file left (drop 1 left) i j t.reader t.ended (ap (drop 1) is ∙ ap (λ w. with_waiting w (words_behind f.width file i)) (sym t.waiting)) (at.within file holds));
+            same_within f file left (drop 1 left) i j t.reader (ap (drop 1) is ∙ ap (λ w. with_waiting w (words_behind f.width file i)) (sym t.waiting)) (at.within file holds));
         lacking = λ lacks. absurd (let n = (at.lacking lacks).none_waits in cc);
       }
 

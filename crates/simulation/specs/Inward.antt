@@ -31,14 +31,12 @@ pub record IsWithin (f : InputFile) (file : List ℕ) (left : List ℕ) (i : Inp
   pub lines : f.lines ≡ Some (lines_of file)
   pub count : length (words_of f) ≡ i.reader.lines + length (words_behind f.width file i)
   pub left_is : left ≡ with_waiting i.waiting (words_behind f.width file i)
-  pub ended : i.ended ≡ true → drop i.reader.lines (lines_of file) ≡ []
 
 -- an input whose file isn't held
 pub record IsLacking (f : InputFile) (left : List ℕ) (i : Input) : Type 0 where
   pub lines : f.lines ≡ None
   pub none_left : left ≡ []
   pub none_waits : i.waiting ≡ None
-  pub not_ended : i.ended ≡ false
   pub unread : IsUnread i.reader
 
 -- an input of a run, with so many words left
@@ -126,7 +124,6 @@ unmoved = record { moved = false; word = 0 }
 pub record IsTaken (moved : Bool) (old new : Input) : Type 0 where
   pub reader : new.reader ≡ old.reader
   pub waiting : new.waiting ≡ (if moved then None else old.waiting)
-  pub ended : new.ended ≡ old.ended
 
 abbrev pub AreTaken : List Event → List Input → List Input → ℕ → Type 0
 AreTaken events old new n =
@@ -142,7 +139,6 @@ pub record IsBegun (i : Input) : Type 0 where
   pub lines : i.reader.lines ≡ 0
   pub unread : IsUnread i.reader
   pub none_waits : i.waiting ≡ None
-  pub not_ended : i.ended ≡ false
 
 abbrev pub AreBegun : List Input → Type 0
 AreBegun is = (k : ℕ) (i : Input) → slice_get is k ≡ Some i → IsBegun i

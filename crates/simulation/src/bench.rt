@@ -1,5 +1,5 @@
 // A design between the files of its streams.
-ghost use Rattle.std.specs.Prelude.{◌≡◌, ◌⊎◌, ◌≤◌, ◌<◌, ◌+◌, ◌-◌, ◌^◌, ℕ, List, min, map, length, Some, Err, IfOk, OnOk, IfErr, IsSome, false};
+ghost use Rattle.std.specs.Prelude.{◌≡◌, ◌⊎◌, ◌≤◌, ◌<◌, ◌+◌, ◌-◌, ◌^◌, ℕ, List, min, map, length, Some, Err, IfOk, OnOk, OnErr, IfErr, IsSome, false};
 ghost use Rattle.mx_base.specs.Counts.{Rose};
 ghost use Rattle.stall_source.specs.Stalls.{IsDecided, IsFreeAtZero};
 ghost use Rattle.verilog_sim.specs.Calls.{IsDone};
@@ -47,7 +47,7 @@ impl<'a> Bench<'a> {
     ghost use Rattle.verilog_sim.specs.Start.{all_cells};
     ghost use Rattle.simulation.specs.Errors.{IsEdgeStop, IsNewStop};
     ghost use Rattle.simulation.specs.Plans.{FitsShape, AreApart, setup_of};
-    ghost use Rattle.simulation.specs.Outputs.{ChangesOnlyOutputs};
+    ghost use Rattle.simulation.specs.Outputs.{ChangesOnlyOutputs, AreCreatedTo, HoldLinesBut};
     ghost use Rattle.simulation.specs.Outward.{output_of, IsBegunAt, ArePut, AreWhole, DifferInName};
     ghost use Rattle.simulation.specs.Runs.{Setup};
     ghost use Rattle.simulation.specs.declared.stop.Stop.TheVariants as stops;
@@ -72,6 +72,7 @@ impl<'a> Bench<'a> {
         ensures cells { (n : ℕ) → result ≡ Err (stops.TooManyCells n) → (2 ^ 26 < all_cells design.now) × (n ≡ min (all_cells design.now) (2 ^ 64 - 1)) }
         ensures too_many { 2 ^ 26 < all_cells design.now → IfErr result (λ e. (e ≡ stops.TooManyCells (min (all_cells design.now) (2 ^ 64 - 1))) ⊎ (e ≡ stops.NoMemory)) × (F.held files.new ≡ F.held files.old) × OnOk result ⊥ }
         ensures errors { IfErr result IsNewStop }
+        ensures stopped { OnErr result (IsSome (F.held files.old) → (n : ℕ) × AreCreatedTo n plan.outputs (F.held files.old) (F.held files.new)) }
         ensures others { ChangesOnlyOutputs plan.outputs (F.held files.old) (F.held files.new) }
         ensures read_quiet { F.read_faults files.new ≡ F.read_faults files.old }
         ensures write_quiet { (result ≡ Err stops.WriteFault → ⊥) → F.write_faults files.new ≡ F.write_faults files.old }
@@ -125,6 +126,7 @@ impl<'a> Bench<'a> {
             → (IsSome (F.held files.old) → Going (G.post stalls.now.test) s (F.held files.old) self.old.sim self.old.inputs.items self.old.outputs.items edge)
             → result ≡ Err stops.ReadFault → Rose (F.read_faults files.old) (F.read_faults files.new) ⊎ IsMissing (G.post stalls.now.test) s }
         ensures told { result ≡ Err stops.ReadFault → Rose (F.read_faults files.old) (F.read_faults files.new) ⊎ IsSome (F.held files.old) }
+        ensures stopped { OnErr result (IsSome (F.held files.old) → (n : ℕ) × HoldLinesBut n (map output_of self.old.outputs.items) (F.held files.new)) }
         ensures others { ChangesOnlyOutputs (map output_of self.old.outputs.items) (F.held files.old) (F.held files.new) }
         ensures read_quiet { (result ≡ Err stops.ReadFault → ⊥) → F.read_faults files.new ≡ F.read_faults files.old }
         ensures write_quiet { (result ≡ Err stops.WriteFault → ⊥) → F.write_faults files.new ≡ F.write_faults files.old }
@@ -165,6 +167,7 @@ impl<'a> Bench<'a> {
             → result ≡ Err stops.ReadFault → Rose (F.read_faults files.old) (F.read_faults files.new) ⊎ IsMissing (G.post stalls.now.test) s }
         ensures told { result ≡ Err stops.ReadFault → Rose (F.read_faults files.old) (F.read_faults files.new) ⊎ IsSome (F.held files.old) }
         ensures errors { IfErr result IsEdgeStop }
+        ensures stopped { OnErr result (IsSome (F.held files.old) → (n : ℕ) × HoldLinesBut n (map output_of self.old.outputs.items) (F.held files.new)) }
         ensures others { ChangesOnlyOutputs (map output_of self.old.outputs.items) (F.held files.old) (F.held files.new) }
         ensures read_quiet { (result ≡ Err stops.ReadFault → ⊥) → F.read_faults files.new ≡ F.read_faults files.old }
         ensures write_quiet { (result ≡ Err stops.WriteFault → ⊥) → F.write_faults files.new ≡ F.write_faults files.old }
@@ -189,6 +192,7 @@ impl<'a> Bench<'a> {
         ensures whole { (words : ℕ → List ℕ) → ArePut (F.held files.old) words self.old.outputs.items →
             OnOk result (AreWhole (F.held files.new) words (map output_of self.old.outputs.items)) }
         ensures errors { IfErr result (λ e. e ≡ stops.WriteFault) }
+        ensures stopped { OnErr result (IsSome (F.held files.old) → (n : ℕ) × HoldLinesBut n (map output_of self.old.outputs.items) (F.held files.new)) }
         ensures others { ChangesOnlyOutputs (map output_of self.old.outputs.items) (F.held files.old) (F.held files.new) }
         ensures read_quiet { F.read_faults files.new ≡ F.read_faults files.old }
         ensures quiet { (result ≡ Err stops.WriteFault → ⊥) → F.write_faults files.new ≡ F.write_faults files.old }

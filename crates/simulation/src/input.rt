@@ -16,13 +16,11 @@ pub(crate) const NOTHING: Offer = Offer {
     word: 0,
 };
 
-/// An input of a run: the reader of its file, the word read and not yet taken, and whether the end
-/// of the file was met.
+/// An input of a run: the reader of its file, and the word read and not yet taken.
 #[derive(Drop)]
 pub(crate) struct Input {
     pub(crate) reader: WordReader,
     pub(crate) waiting: Option<Word>,
-    pub(crate) ended: bool,
     ghost waits: { (w : BitWord) → waiting ≡ Some w → w.width ≡ reader.width },
 }
 
@@ -42,7 +40,6 @@ impl Input {
         Ok(Input {
             reader: WordReader::new(alloc, name, width)?,
             waiting: None,
-            ended: false,
         })
     }
 
@@ -76,7 +73,7 @@ impl Input {
         Ok(self.offer())
     }
 
-    /// Reads the next line, where no word waits and the end of the file wasn't met.
+    /// Reads the next line, where no word waits. A reader that met the end of its file reads no more.
     fn read<F: Files>(&mut self, files: &mut F) -> Result<(), Stop>
         requires unrefused { self.old.reader.refusal ≡ None }
         ensures same { F.held files.new ≡ F.held files.old }
@@ -94,12 +91,11 @@ impl Input {
         ensures stopped { (f : InputFile) (left : List ℕ) → IsAt (F.held files.old) f left self.old →
             IfErr result (Stops (F.held files.old) (Rose (F.read_faults files.old) (F.read_faults files.new)) f left) }
     {
-        if self.waiting.is_some() || self.ended {
+        if self.waiting.is_some() {
             return Ok(());
         }
         let word = self.reader.next(files)?;
         self.waiting = word;
-        self.ended = word.is_none();
         Ok(())
     }
 

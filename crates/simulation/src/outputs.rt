@@ -1,8 +1,8 @@
 // The outputs of a run, in the order of their ports.
-ghost use Rattle.std.specs.Prelude.{◌≡◌, ◌⊎◌, ◌≤◌, ◌<◌, ◌^◌, ℕ, List, [], map, length, Err, IfOk, OnOk, IfErr, IsSome};
+ghost use Rattle.std.specs.Prelude.{◌≡◌, ◌⊎◌, ◌≤◌, ◌<◌, ◌^◌, ℕ, List, [], map, length, Err, IfOk, OnOk, OnErr, IfErr, IsSome};
 ghost use Rattle.mx_base.specs.Counts.{Rose};
 ghost use Rattle.simulation.specs.Inward.{HaveWidths};
-ghost use Rattle.simulation.specs.Outputs.{ChangesOnlyOutputs};
+ghost use Rattle.simulation.specs.Outputs.{ChangesOnlyOutputs, AreCreatedTo, HoldLinesBut};
 ghost use Rattle.simulation.specs.Outward.{output_of, ArePut, AreWhole, DifferInName, all_with_moved, IsBegunAt, AreOfWidth};
 ghost use Rattle.simulation.specs.declared.stop.Stop.TheVariants as stops;
 
@@ -22,6 +22,7 @@ pub(crate) fn create_all<F: Files>(
     requires apart { DifferInName named }
     ensures named { IfOk result (λ outputs. map output_of outputs.items ≡ named) }
     ensures made { IsSome (F.held files.old) → IfOk result (λ outputs. ArePut (F.held files.new) (λ k. []) outputs.items) }
+    ensures stopped { OnErr result (IsSome (F.held files.old) → (n : ℕ) × AreCreatedTo n named (F.held files.old) (F.held files.new)) }
     ensures others { ChangesOnlyOutputs named (F.held files.old) (F.held files.new) }
     ensures errors { IfErr result (λ e. (e ≡ stops.WriteFault) ⊎ (e ≡ stops.NoMemory)) }
     ensures read_quiet { F.read_faults files.new ≡ F.read_faults files.old }
@@ -48,6 +49,7 @@ pub(crate) fn put_all<F: Files>(
     ensures named { map output_of outputs.new ≡ map output_of outputs.old }
     ensures put { (words : ℕ → List ℕ) → ArePut (F.held files.old) words outputs.old →
         OnOk result (ArePut (F.held files.new) (all_with_moved words events.now) outputs.new) }
+    ensures stopped { OnErr result (IsSome (F.held files.old) → (n : ℕ) × HoldLinesBut n (map output_of outputs.old) (F.held files.new)) }
     ensures others { ChangesOnlyOutputs (map output_of outputs.old) (F.held files.old) (F.held files.new) }
     ensures errors { IfErr result (λ e. (e ≡ stops.WriteFault) ⊎ (e ≡ stops.NoMemory)) }
     ensures read_quiet { F.read_faults files.new ≡ F.read_faults files.old }
@@ -67,6 +69,7 @@ pub(crate) fn flush_all<F: Files>(outputs: &mut [Output], files: &mut F) -> Resu
     ensures named { map output_of outputs.new ≡ map output_of outputs.old }
     ensures whole { (words : ℕ → List ℕ) → ArePut (F.held files.old) words outputs.old →
         OnOk result (AreWhole (F.held files.new) words (map output_of outputs.old)) }
+    ensures stopped { OnErr result (IsSome (F.held files.old) → (n : ℕ) × HoldLinesBut n (map output_of outputs.old) (F.held files.new)) }
     ensures others { ChangesOnlyOutputs (map output_of outputs.old) (F.held files.old) (F.held files.new) }
     ensures errors { IfErr result (λ e. e ≡ stops.WriteFault) }
     ensures read_quiet { F.read_faults files.new ≡ F.read_faults files.old }

@@ -1,5 +1,5 @@
 // A run of a design.
-ghost use Rattle.std.specs.Prelude.{◌≡◌, ◌⊎◌, ◌≤◌, ◌<◌, ◌-◌, ◌^◌, ℕ, List, min, Some, Err, IfErr, OnOk, length, IsSome};
+ghost use Rattle.std.specs.Prelude.{◌≡◌, ◌⊎◌, ◌≤◌, ◌<◌, ◌-◌, ◌^◌, ℕ, List, min, Some, Err, IfErr, OnOk, OnErr, length, IsSome};
 ghost use Rattle.mx_base.specs.Counts.{Rose};
 ghost use Rattle.rtl_ir.specs.declared.design.Module.{Module};
 ghost use Rattle.rtl_ir.specs.Flat.{Families, top_of};
@@ -8,7 +8,7 @@ ghost use Rattle.rtl_ir.specs.Ports.{Shape, HasShape};
 ghost use Rattle.rtl_ir.specs.Rules.{IsAccepted};
 ghost use Rattle.stall_source.specs.Stalls.{IsDecided, IsFreeAtZero};
 ghost use Rattle.verilog_sim.specs.Start.{all_cells};
-ghost use Rattle.simulation.specs.Outputs.{ChangesOnlyOutputs};
+ghost use Rattle.simulation.specs.Outputs.{ChangesOnlyOutputs, Leaves};
 ghost use Rattle.simulation.specs.Ends.{End, Ends};
 ghost use Rattle.simulation.specs.Plans.{FitsShape, AreApart, setup_of};
 ghost use Rattle.simulation.specs.Answers.{Tells, IsMissing, IsOrFails};
@@ -34,7 +34,9 @@ use std::alloc::Global;
 /// the line is read; `ReadFault`, `WriteFault` where a call of the files failed, and `ReadFault` also
 /// where an input file isn't held; `NoMemory`. After `BadLine`, `WordRange` and `ReadFault` each
 /// output file holds the lines of the first words that left, and the lines that still waited aren't
-/// written; after `WriteFault` and `NoMemory` nothing is said of them. No other file changes.
+/// written. After `WriteFault` and `NoMemory` nothing is said of one output file; of the others, all
+/// hold lines of words, or those before it are empty and those behind it as they were. No other file
+/// changes.
 pub fn simulate<F: Files, G: Fn(u64, u64, u32) -> bool>(
     alloc: Global,
     files: &mut F,
@@ -70,6 +72,8 @@ pub fn simulate<F: Files, G: Fn(u64, u64, u32) -> bool>(
     ensures read_quiet { (result ≡ Err stops.ReadFault → ⊥) → F.read_faults files.new ≡ F.read_faults files.old }
     ensures write_quiet { (result ≡ Err stops.WriteFault → ⊥) → F.write_faults files.new ≡ F.write_faults files.old }
 
+    // What an answer that is an error leaves: the files were created in the order of the outputs.
+    ensures leaves { OnErr result (IsSome (F.held files.old) → Leaves plan.outputs (F.held files.old) (F.held files.new)) }
     ensures others { ChangesOnlyOutputs plan.outputs (F.held files.old) (F.held files.new) }
 {
     let (pick, edges) = (plan.pick, plan.edges);

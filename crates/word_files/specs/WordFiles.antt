@@ -1,5 +1,5 @@
 -- Reading files of words: one word a line.
-use Rattle.std.specs.Prelude.{ℕ, ◌≡◌, ◌≤◌, ◌^◌, ◌⊎◌, List, [], drop, Option, Some, None, option_map, Result, Ok, Err}
+use Rattle.std.specs.Prelude.{ℕ, ◌≡◌, ◌≤◌, ◌^◌, ◌⊎◌, true, false, List, [], drop, slice_get, Option, Some, None, option_map, Result, Ok, Err}
 use Rattle.mx_bits.specs.declared.word.Word.{Word}
 use Rattle.word_files.specs.Ahead.{IsAhead}
 use Rattle.word_files.specs.Hex.{word_of}
@@ -10,15 +10,18 @@ use Rattle.word_files.specs.declared.reader.WordReader.{WordReader}
 use Rattle.word_files.specs.declared.error.WordError.{WordError}
 use Rattle.word_files.specs.declared.error.WordError.TheVariants.{BadLine, WordRange, ReadFault, WriteFault, NoMemory}
 
--- the next line of the file is the one after so many lines; the reader has refused nothing
+-- the next line of the file is the one after so many lines, and there is none where the reader met the end; it has refused
+-- nothing
 pub record Follows (file : List ℕ) (reader : WordReader) : Type 0 where
   pub unrefused : reader.refusal ≡ None
   pub ahead : IsAhead file reader.bytes
   pub left : drop reader.lines (lines_of file) ≡ lines_from [] (drop reader.bytes.place file)
+  pub ended : reader.ended ≡ true → slice_get (lines_of file) reader.lines ≡ None
 
--- no byte is read ahead, and nothing was refused
+-- no byte is read ahead, nothing was refused, and the end wasn't met
 pub record IsUnread (reader : WordReader) : Type 0 where
   pub unrefused : reader.refusal ≡ None
+  pub not_ended : reader.ended ≡ false
   pub none_ahead : reader.bytes.filled ≡ reader.bytes.from
 
 -- what the line of this number says, if there is one: a word of the width, or its refusal

@@ -1,5 +1,5 @@
 // Reading a file of words.
-ghost use Rattle.std.specs.Prelude.{◌≡◌, ◌⊎◌, ◌≤◌, ◌<◌, ◌+◌, ◌^◌, ℕ, List, Option, slice_get, is_some, if◌then◌else◌, IfOk, IfSome, OnOk, IsSome, Some, None};
+ghost use Rattle.std.specs.Prelude.{◌≡◌, ◌⊎◌, ◌≤◌, ◌<◌, ◌+◌, ◌^◌, ℕ, List, Option, slice_get, is_some, not, true, false, if◌then◌else◌, Ok, IfOk, IfSome, OnOk, OnErr, IsSome, Some, None};
 ghost use Rattle.mx_base.specs.Counts.{Rose};
 ghost use Rattle.mx_base.specs.Files.{Holds, Lacks};
 
@@ -15,8 +15,8 @@ use std::alloc::Global;
 /// Reads a file of words, one a line: 1 to 32 hexadecimal digits of either case, ended by LF, which
 /// the last line may lack. It holds a piece of the file, and never more than 33 bytes of a line.
 ///
-/// After a refusal it reads no more, and answers that refusal again. After want of memory nothing is
-/// said of what it answers next.
+/// After a refusal it reads no more, and answers that refusal again; likewise after the end of the
+/// file. After want of memory nothing is said of what it answers next.
 #[derive(Debug, Drop)]
 pub struct WordReader {
     pub(crate) alloc: Global,
@@ -24,10 +24,12 @@ pub struct WordReader {
     pub(crate) width: u8,
     pub(crate) bytes: FileBytes,
     pub(crate) lines: u64,
+    pub(crate) ended: bool,
     pub(crate) refusal: Option<Refusal>,
     ghost some: { 1 ≤ width },
     ghost at_most: { width ≤ 128 },
     ghost counted: { lines ≤ bytes.place },
+    ghost unrefused: { ended ≡ true → refusal ≡ None },
 }
 
 impl WordReader {
@@ -54,6 +56,7 @@ impl WordReader {
             width,
             bytes: FileBytes::new(alloc)?,
             lines: 0,
+            ended: false,
             refusal: None,
         })
     }
@@ -78,6 +81,14 @@ impl WordReader {
             Answers (refusal_of self.old.name kept) result }
         ensures stays { IsSome self.old.refusal → self.new ≡ self.old }
         ensures unread { IsSome self.old.refusal → files.new ≡ files.old }
+
+        // The end that was answered is answered again, and nothing is read.
+        ensures ended { IfOk result (λ word. self.new.ended ≡ not (is_some word)) }
+        ensures end_again { self.old.ended ≡ true → result ≡ Ok None }
+        ensures end_stays { self.old.ended ≡ true → self.new ≡ self.old }
+        ensures end_unread { self.old.ended ≡ true → files.new ≡ files.old }
+
+        // A refusal is kept exactly where it is answered.
         ensures kept { Keeps self.old.name self.new.refusal result }
         ensures fault { self.old.refusal ≡ None → result ≡ Err ReadFault →
             Rose (F.read_faults files.old) (F.read_faults files.new) ⊎ Lacks (F.held files.old) self.old.name }
@@ -96,6 +107,9 @@ impl WordReader {
     {
         if let Some(refusal) = self.refusal {
             return Err(self.answer(refusal));
+        }
+        if self.ended {
+            return Ok(None);
         }
         match self.next_word(files) {
             Ok(word) => Ok(word),
@@ -127,6 +141,8 @@ impl WordReader {
 
     // The word of the next line, or why it is refused.
     fn next_word<F: Files>(&mut self, files: &mut F) -> Result<Option<Word>, Refusal>
+        requires open { self.old.ended ≡ false }
+        requires unrefused { self.old.refusal ≡ None }
         ensures same { F.held files.new ≡ F.held files.old }
         ensures read_later { F.read_faults files.old ≤ F.read_faults files.new }
         ensures quiet { (result ≡ Err kept.ReadFault → ⊥) →
@@ -135,6 +151,8 @@ impl WordReader {
         ensures name { self.new.name ≡ self.old.name }
         ensures width { self.new.width ≡ self.old.width }
         ensures refusal { self.new.refusal ≡ self.old.refusal }
+        ensures ended { IfOk result (λ word. self.new.ended ≡ not (is_some word)) }
+        ensures open { OnErr result (self.new.ended ≡ false) }
         ensures taken { self.new.bytes.place ≤ self.old.bytes.place + 33 }
         ensures fault { result ≡ Err kept.ReadFault →
             Rose (F.read_faults files.old) (F.read_faults files.new) ⊎ Lacks (F.held files.old) self.old.name }
@@ -150,7 +168,10 @@ impl WordReader {
         let mut line = [0; MOST_TAKEN];
         let count = match self.bytes.take_line(files, &self.name, &mut line) {
             Ok(Some(count)) => count,
-            Ok(None) => return Ok(None),
+            Ok(None) => {
+                self.ended = true;
+                return Ok(None);
+            }
             Err(ReadError::ReadFault) => return Err(Refusal::ReadFault),
             Err(_) => return Err(Refusal::NoMemory),
         };

@@ -1,10 +1,12 @@
 use Rattle.std.proofs.Common.{◌≡◌, ℕ, List, Some, map, get_or, refl, ap, sym, ◌∙◌, arith}
 use Rattle.std.specs.Prelude.{slice_get}
 use Rattle.std.proofs.lemmas.Option.{slice_get-get_or}
+use Rattle.std.proofs.lemmas.Result.{err_from_is_err_and}
 use Rattle.mx_base.specs.Files.{Name}
 use Rattle.simulation.specs.Outward.{output_of}
 use Rattle.simulation.proofs.Lists.{map_set_same, map_at}
 use Rattle.simulation.proofs.Writing.{put_none, put_all, put_more, only_more, unchanged, not_lacking}
+use Rattle.simulation.proofs.Stopping.{hold_but, put_hold}
 use Rattle.simulation.proofs.outputs.put_all.Goals as goal
 
 pub put-requires-clause-word : goal.put-requires-clause-word
@@ -68,3 +70,15 @@ pub returns-clause-put : goal.returns-clause-put
 returns-clause-put g c = λ words put.
     let l = c.loop-k in
     put_all (g.F.Files.held l.files) words c.args.events.now l.k l.outputs (omega (arith, l.auto.outputs)) (l.invariant.put words put)
+
+pub returns-in_err-put-clause-stopped : goal.returns-in_err-put-clause-stopped
+returns-in_err-put-clause-stopped g c =
+    let l = c.loop-k in
+    let x = get_or l.outputs l.k c.index-outputs-k.result in
+    let at = slice_get-get_or l.outputs l.k c.index-outputs-k.result (omega (arith, l.auto.outputs)) in
+    let named = map output_of c.args.outputs.now in
+    let here : slice_get named l.k ≡ Some (output_of x) = ap (λ (os : List (Name × ℕ)). slice_get os l.k) (sym l.invariant.named) ∙ map_at output_of l.outputs l.k x at in
+    let p = err_from_is_err_and c.from_residual.result c.from_residual.ensures.1 in
+    rw (p.1) (λ told.
+    let b = c.requires.begun told in
+    (l.k, hold_but (g.F.Files.held l.files) (g.F.Files.held c.put.new.files) named l.k (output_of x) c.requires.apart here c.in_err-put.ensures.only (put_hold (g.F.Files.held l.files) _ l.outputs named l.k l.invariant.named (l.invariant.put b.0 b.1))))

@@ -1,9 +1,10 @@
-use Rattle.std.proofs.Common.{◌≡◌, ◌⊎◌, ℕ, List, refl, sym, ◌∙◌, subst, arith}
+use Rattle.std.proofs.Common.{◌≡◌, ◌⊎◌, ℕ, List, inl, inr, refl, sym, ◌∙◌, subst, arith}
+use Rattle.std.proofs.lemmas.Result.{err_from_is_err_and, on_err_weaker}
 use Rattle.mx_base.specs.Counts.{Rose}
 use Rattle.mx_base.specs.Files.{Name}
 use Rattle.stall_source.specs.Stalls.{Answers}
 use Rattle.simulation.specs.Answers.{Tells, IsMissing}
-use Rattle.simulation.specs.Outputs.{ChangesOnlyOutputs}
+use Rattle.simulation.specs.Outputs.{ChangesOnlyOutputs, HoldLinesBut}
 use Rattle.simulation.specs.Plans.{setup_of}
 use Rattle.rtl_ir.specs.declared.design.Module.{Module}
 use Rattle.rtl_ir.specs.Flat.{top_of}
@@ -11,6 +12,7 @@ use Rattle.rtl_ir.specs.Ports.{HasShape}
 use Rattle.simulation.proofs.Exact.{exact, not_cells, one_way}
 use Rattle.simulation.proofs.Lists.{same_some}
 use Rattle.simulation.proofs.Running.{others_then}
+use Rattle.simulation.proofs.Stopping.{on_err_under}
 use Rattle.simulation.proofs.run.simulate.Goals as goal
 
 pub returns-clause-tells : goal.returns-clause-tells
@@ -54,3 +56,14 @@ returns-clause-exact g c = λ m s top has told cells restart vs end ends.
     (c.run.ensures.tells setup (record { top = top; picked = refl; counted = refl }) (λ _. begun) (e.others.told ∙ told)) in
     exact stalls setup p.outputs later c.run.result (not_cells c.run.result c.run.ensures.errors) tells restart vs end ends
     (λ r ws a x. one_way stalls c.requires.decided d m s q.1 p held c.requires.accepted top has' q.4 cells (omega arith) (omega arith) (sym begun.is.outer ∙ begun'.is.outer) restart r vs ws end a ends x)
+
+pub returns-in_err-bench-clause-leaves : goal.returns-in_err-bench-clause-leaves
+returns-in_err-bench-clause-leaves g c =
+    let p = err_from_is_err_and c.from_residual.result c.from_residual.ensures.1 in
+    rw (p.1) (λ told. inl (c.in_err-bench.ensures.stopped told))
+
+pub returns-clause-leaves : goal.returns-clause-leaves
+returns-clause-leaves g c =
+    let e = c.in_ok-bench.ensures in
+    on_err_under c.run.result _ (λ told.
+    on_err_weaker c.run.result (λ f. inr (subst (λ (l : List (Name × ℕ)). (n : ℕ) × HoldLinesBut n l (g.F.Files.held c.run.new.files)) e.named (f (e.others.told ∙ told)))) c.run.ensures.stopped)

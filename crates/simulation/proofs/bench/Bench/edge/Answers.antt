@@ -1,8 +1,8 @@
-use Rattle.std.proofs.Common.{◌≡◌, ℕ, ◌+◌, ◌-◌, ◌<◌, Bool, false, not, List, ◌∷◌, Err, length, map, take, drop, get_or, inl, inr, ⊎_elim, ap, sym, ◌∙◌, subst, arith}
+use Rattle.std.proofs.Common.{◌≡◌, ℕ, ◌+◌, ◌-◌, ◌<◌, Bool, false, not, List, ◌∷◌, Err, length, map, take, drop, get_or, inl, inr, ⊎_elim, refl, ap, sym, ◌∙◌, subst, arith}
 use Rattle.std.specs.Prelude.{IsSome}
 use Rattle.std.specs.Vec.{with_items}
 use Rattle.std.proofs.lemmas.List.{length-map, take_rest, get_or-drop}
-use Rattle.std.proofs.lemmas.Result.{err_from_is_err_and, on_ok_weaker}
+use Rattle.std.proofs.lemmas.Result.{err_from_is_err_and, on_ok_weaker, on_err_weaker}
 use Rattle.mx_base.specs.Files.{Name, Held}
 use Rattle.rtl_ir.specs.Flat.{top_of}
 use Rattle.rtl_ir.specs.Parts.{own_of}
@@ -18,7 +18,7 @@ use Rattle.simulation.specs.Inward.{input_of, AreUnrefused, AreOfWidths, AreAt, 
 use Rattle.simulation.specs.Inputs as lines
 use Rattle.simulation.specs.declared.stop.Stop.TheVariants as stops
 use Rattle.mx_base.specs.Counts.{Rose}
-use Rattle.simulation.specs.Outputs.{ChangesOnlyOutputs}
+use Rattle.simulation.specs.Outputs.{ChangesOnlyOutputs, HoldLinesBut}
 use Rattle.simulation.specs.Outward.{output_of, ArePut, AreOfWidth, all_moved, all_with_moved}
 use Rattle.simulation.specs.Answers.{Tells}
 use Rattle.simulation.specs.Benches.{Going, AreOther}
@@ -26,6 +26,7 @@ use Rattle.simulation.specs.declared.input.Input.{Input}
 use Rattle.simulation.specs.declared.output.Output.{Output}
 use Rattle.simulation.proofs.Benching.{bench_after, lent_length, on_ok_from, on_ok_under, no_write_stop, offers_fit, seen_fit}
 use Rattle.simulation.proofs.Running.{went, tells_stop, missing_stop}
+use Rattle.simulation.proofs.Stopping.{put_hold, on_err_under}
 use Rattle.simulation.proofs.bench.Bench.edge.Goals as goal
 
 pub edge-requires-clause-words : goal.edge-requires-clause-words
@@ -189,3 +190,20 @@ pub returns-in_err-offer_all-clause-write_fault : goal.returns-in_err-offer_all-
 returns-in_err-offer_all-clause-write_fault g c = λ q.
     let p = err_from_is_err_and c.from_residual.result c.from_residual.ensures.1 in
     absurd (no_write_stop c.in_err-offer_all.field-0.0 c.in_err-offer_all.ensures.errors (let e = p.1 in let f = p.2 in cc))
+
+pub returns-in_err-offer_all-clause-stopped : goal.returns-in_err-offer_all-clause-stopped
+returns-in_err-offer_all-clause-stopped g c =
+    let b = c.args.self.now in
+    let held = g.F.Files.held c.args.files.now in
+    let named = map output_of b.outputs.items in
+    let p = err_from_is_err_and c.from_residual.result c.from_residual.ensures.1 in
+    rw (p.1) (λ told.
+    let words = c.requires.begun told in
+    (0, subst (HoldLinesBut 0 named) (sym c.in_err-offer_all.ensures.same) (put_hold held words.0 b.outputs.items named 0 refl words.1)))
+
+pub returns-clause-stopped : goal.returns-clause-stopped
+returns-clause-stopped g c =
+    let later = g.F.Files.held c.put_all.new.files in
+    on_err_under c.put_all.result _ (λ told.
+    let now = subst (λ (h : Held). IsSome h) (sym c.in_ok-offer_all.ensures.same) told in
+    on_err_weaker c.put_all.result (λ f. subst (λ (l : List Output). (n : ℕ) × HoldLinesBut n (map output_of l) later) c.deref_mut-7.ensures.value (f now)) c.put_all.ensures.stopped)

@@ -8,6 +8,7 @@ use Rattle.verilog_sim.specs.State.{State, contents}
 use Rattle.simulation.proofs.Lists.{same_some}
 use Rattle.simulation.proofs.Making.{refusal_of, formed_top, steady_length, few, bench_made, begins_made}
 use Rattle.simulation.proofs.Shaping.{steady_fit, input_widths, output_widths}
+use Rattle.simulation.proofs.Stopping.{none_created}
 use Rattle.simulation.proofs.bench.Bench.new.Goals as goal
 
 pub returns-in_err-sim-clause-too_many : goal.returns-in_err-sim-clause-too_many
@@ -83,3 +84,38 @@ returns-clause-begins g c = λ m s top has told.
     (ap (λ (x : State). x.outer) made ∙ c.in_ok-sim.ensures.outer m s top has)
     steady (ap contents made ∙ c.in_ok-sim.ensures.start m top)
     c.in_ok-readers.ensures.named c.in_ok-readers.ensures.begin c.in_ok-writers.ensures.others (c.in_ok-writers.ensures.made told)
+
+pub returns-in_err-sim-clause-stopped : goal.returns-in_err-sim-clause-stopped
+returns-in_err-sim-clause-stopped g c =
+    let p = err_from_is_err_and c.from_residual.result c.from_residual.ensures.1 in
+    rw (p.1) (λ told. none_created c.args.plan.outputs (g.F.Files.held c.args.files.now))
+
+pub returns-in_err-readers-clause-stopped : goal.returns-in_err-readers-clause-stopped
+returns-in_err-readers-clause-stopped g c =
+    let p = err_from_is_err_and c.from_residual-in_err-readers.result c.from_residual-in_err-readers.ensures.1 in
+    rw (p.1) (λ told. none_created c.args.plan.outputs (g.F.Files.held c.args.files.now))
+
+pub returns-in_err-stalled-clause-stopped : goal.returns-in_err-stalled-clause-stopped
+returns-in_err-stalled-clause-stopped g c =
+    let p = err_from_is_err_and c.from_residual-in_err-stalled.result c.from_residual-in_err-stalled.ensures.1 in
+    rw (p.1) (λ told. none_created c.args.plan.outputs (g.F.Files.held c.args.files.now))
+
+pub returns-in_err-offers-clause-stopped : goal.returns-in_err-offers-clause-stopped
+returns-in_err-offers-clause-stopped g c =
+    let p = err_from_is_err_and c.from_residual-in_err-offers.result c.from_residual-in_err-offers.ensures.1 in
+    rw (p.1) (λ told. none_created c.args.plan.outputs (g.F.Files.held c.args.files.now))
+
+pub returns-in_err-accepts-clause-stopped : goal.returns-in_err-accepts-clause-stopped
+returns-in_err-accepts-clause-stopped g c =
+    let p = err_from_is_err_and c.from_residual-in_err-accepts.result c.from_residual-in_err-accepts.ensures.1 in
+    rw (p.1) (λ told. none_created c.args.plan.outputs (g.F.Files.held c.args.files.now))
+
+pub returns-in_err-events-clause-stopped : goal.returns-in_err-events-clause-stopped
+returns-in_err-events-clause-stopped g c =
+    let p = err_from_is_err_and c.from_residual-in_err-events.result c.from_residual-in_err-events.ensures.1 in
+    rw (p.1) (λ told. none_created c.args.plan.outputs (g.F.Files.held c.args.files.now))
+
+pub returns-in_err-writers-clause-stopped : goal.returns-in_err-writers-clause-stopped
+returns-in_err-writers-clause-stopped g c =
+    let p = err_from_is_err_and c.from_residual-in_err-writers.result c.from_residual-in_err-writers.ensures.1 in
+    rw (p.1) c.in_err-writers.ensures.stopped

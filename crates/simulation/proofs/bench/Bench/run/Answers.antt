@@ -1,6 +1,6 @@
 use Rattle.std.proofs.Common.{◌≡◌, ◌⊎◌, ℕ, true, false, cond, List, ◌∷◌, Err, map, refl, ap, sym, ◌∙◌, subst, arith}
 use Rattle.std.specs.Prelude.{IsSome}
-use Rattle.std.proofs.lemmas.Result.{err_from_is_err_and, on_ok_weaker}
+use Rattle.std.proofs.lemmas.Result.{err_from_is_err_and, on_ok_weaker, on_err_weaker}
 use Rattle.mx_base.specs.Files.{Name}
 use Rattle.rtl_ir.specs.Flat.{top_of}
 use Rattle.rtl_ir.specs.Parts.{own_of}
@@ -11,12 +11,13 @@ use Rattle.simulation.specs.Answers.{Tells, Finishes, IsMissing}
 use Rattle.simulation.specs.Ends.End.{Done, Limit}
 use Rattle.simulation.specs.declared.stop.Stop.TheVariants as stops
 use Rattle.mx_base.specs.Counts.{Rose}
-use Rattle.simulation.specs.Outputs.{ChangesOnlyOutputs}
+use Rattle.simulation.specs.Outputs.{ChangesOnlyOutputs, HoldLinesBut}
 use Rattle.simulation.specs.Outward.{output_of, AreWhole, all_moved}
 use Rattle.simulation.specs.Benches.{Going}
 use Rattle.simulation.proofs.Benching.{bench_after}
 use Rattle.simulation.proofs.Running.{began, finishes, tells_end, others_then}
 use Rattle.simulation.proofs.Writing.{unchanged}
+use Rattle.simulation.proofs.Stopping.{on_err_under}
 use Rattle.simulation.proofs.bench.Bench.run.Goals as goal
 
 pub loop-edge-init : goal.loop-edge-init
@@ -134,3 +135,21 @@ returns-clause-tells g c = λ s is begins told.
     subst (λ n. Finishes stalls s named later (cond answer (Done n) (Limit n))) last
     (finishes stalls s now later b.sim b.inputs.items b.outputs.items l.edge named run answer (omega (arith, is.counted)) (λ _. last ∙ sym is.counted) done (subst (AreWhole later words) l.invariant.named whole)))
     (c.end-2.ensures.whole words run.put))
+
+pub returns-in_err-edge-clause-stopped : goal.returns-in_err-edge-clause-stopped
+returns-in_err-edge-clause-stopped g c =
+    let l = c.loop-edge in
+    let p = err_from_is_err_and c.from_residual.result c.from_residual.ensures.1 in
+    rw (p.1) (λ told. subst (λ (x : List (Name × ℕ)). (n : ℕ) × HoldLinesBut n x (g.F.Files.held c.edge.new.files)) l.invariant.named (c.in_err-edge.ensures.stopped (l.invariant.others.told ∙ told)))
+
+pub returns-then-done-clause-stopped : goal.returns-then-done-clause-stopped
+returns-then-done-clause-stopped g c =
+    let l = c.loop-edge in
+    on_err_under c.end.result _ (λ told.
+    on_err_weaker c.end.result (λ f. subst (λ (x : List (Name × ℕ)). (n : ℕ) × HoldLinesBut n x (g.F.Files.held c.end.new.files)) l.invariant.named (f (l.invariant.others.told ∙ told))) c.end.ensures.stopped)
+
+pub returns-clause-stopped : goal.returns-clause-stopped
+returns-clause-stopped g c =
+    let l = c.loop-edge in
+    on_err_under c.end-2.result _ (λ told.
+    on_err_weaker c.end-2.result (λ f. subst (λ (x : List (Name × ℕ)). (n : ℕ) × HoldLinesBut n x (g.F.Files.held c.end-2.new.files)) l.invariant.named (f (l.invariant.others.told ∙ told))) c.end-2.ensures.stopped)

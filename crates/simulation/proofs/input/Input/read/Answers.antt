@@ -1,16 +1,7 @@
-use Rattle.std.proofs.Common.{Err, is_some, inl, inr, ap, sym, ◌∙◌, refl}
+use Rattle.std.proofs.Common.{Err, ap, sym, ◌∙◌, refl}
 use Rattle.std.proofs.lemmas.Result.{err_from_is_err_and}
-use Rattle.simulation.proofs.Reading.{read_stands, read_ended, read_stopped, unread_ended, no_write, read_kind, turned, nothing_waits}
-use Rattle.simulation.proofs.input.Input.read.Goals.{then-is_some-via-then-is_some, then-is_some-via-else-is_some+then-self}
+use Rattle.simulation.proofs.Reading.{read_stands, read_ended, read_stopped, no_write, read_kind, nothing_waits}
 use Rattle.simulation.proofs.input.Input.read.Goals as goal
-
-pub returns-then-is_some-clause-ended : goal.returns-then-is_some-clause-ended
-returns-then-is_some-clause-ended g c = λ f left at.
-    unread_ended (g.F.Files.held c.args.files.now) f left c.args.self.now
-    (elim c.then-is_some.branch [
-      | then-is_some-via-then-is_some w ↦ inl (sym c.is_some.ensures ∙ w.if-is_some.true)
-      | then-is_some-via-else-is_some+then-self w ↦ inr w.if-self.true
-    ]) at
 
 pub returns-clause-ended : goal.returns-clause-ended
 returns-clause-ended g c = λ f left at.
@@ -28,7 +19,7 @@ returns-clause-ended g c = λ f left at.
 
 pub returns-clause-stands : goal.returns-clause-stands
 returns-clause-stands g c = λ f left at.
-    read_stands (g.F.Files.held c.args.files.now) f left c.args.self.now c.next.new.self c.in_ok-word.word _ refl refl (turned (is_some c.in_ok-word.word) c.is_none-self.result c.is_none-self.ensures)
+    read_stands (g.F.Files.held c.args.files.now) f left c.args.self.now c.next.new.self c.in_ok-word.word _ refl refl
     (nothing_waits c.args.self.now.waiting (sym c.is_some.ensures ∙ c.if-is_some.false))
     (record {
       name = c.in_ok-word.ensures.name;

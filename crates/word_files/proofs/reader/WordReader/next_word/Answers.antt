@@ -1,7 +1,8 @@
-use Rattle.std.proofs.Common.{Some, option_map, refl, sym, ap, ◌∙◌, arith}
+use Rattle.std.proofs.Common.{[], drop, Some, option_map, refl, sym, ap, ◌∙◌, arith}
+use Rattle.std.proofs.lemmas.Bool.{false≢true}
 use Rattle.std.proofs.lemmas.Bool.Decides.{nat_tests}
 use Rattle.word_files.specs.Hex.{word_of}
-use Rattle.word_files.specs.Lines.{lines_of}
+use Rattle.word_files.specs.Lines.{lines_from, lines_of}
 use Rattle.word_files.proofs.JudgeLemmas.{no_item, taken_line, taken_next}
 use Rattle.word_files.proofs.reader.WordReader.next_word.Goals as goal
 
@@ -10,6 +11,18 @@ returns-in-Ok-None-clause-line g c = λ file held follows.
     let s = c.args.self.now in
     let line = rw c.in-Ok-None.field-0-is at (c.in-Ok-None.ensures.line file held follows.ahead) in
     no_item (lines_of file) s.lines (follows.left ∙ line)
+
+pub returns-in-Ok-None-clause-follows : goal.returns-in-Ok-None-clause-follows
+returns-in-Ok-None-clause-follows g c = λ file held follows.
+    let s = c.args.self.now in
+    let line = rw c.in-Ok-None.field-0-is at (c.in-Ok-None.ensures.line file held follows.ahead) in
+    let place = rw c.in-Ok-None.field-0-is at c.in-Ok-None.ensures.place in
+    record {
+      unrefused = follows.unrefused;
+      ahead = c.in-Ok-None.ensures.ahead file held follows.ahead;
+      left = follows.left ∙ ap (λ n. lines_from [] (drop n file)) (sym place);
+      ended = λ e. no_item (lines_of file) s.lines (follows.left ∙ line);
+    }
 
 pub returns-in_default-clause-line : goal.returns-in_default-clause-line
 returns-in_default-clause-line g c = λ file held follows.
@@ -39,5 +52,6 @@ returns-clause-follows g c = λ file held follows.
     record {
       unrefused = follows.unrefused;
       ahead = c.in-Ok-Some.ensures.ahead file held follows.ahead;
+      ended = λ e. absurd (false≢true (sym c.requires.open ∙ e));
       left = taken_next file c.take_line.new.piece (lines_of file) s.lines s.bytes.place c.take_line.new.self.place c.in-Ok-Some.count c.in-Some.bits c.take_line.array_long follows.left line (sym c.parse_word.ensures ∙ c.in-Some.is);
     }
