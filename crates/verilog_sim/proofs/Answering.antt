@@ -1,13 +1,15 @@
--- The assignments that feed a net give it the value that all assignments give it.
-use Rattle.std.proofs.Common.{◌≡◌, ◌≢◌, ℕ, zero, suc, ◌+◌, ◌<◌, ◌≤◌, cond, eqb, Bool, true, false, List, [], ◌∷◌, length, get_or, set, Some, refl, sym, ap, ◌∙◌, subst, ⊎_elim, arith}
+-- The assignments that feed nets give them the values that all assignments give them.
+use Rattle.std.proofs.Common.{◌≡◌, ◌≢◌, ℕ, zero, suc, ◌+◌, ◌<◌, ◌≤◌, cond, Bool, true, false, not, ◌&&◌, List, [], ◌∷◌, length, get_or, set, Some, refl, sym, ap, ◌∙◌, subst, ⊎_elim, arith}
 use Rattle.std.specs.Prelude.{slice_get}
 use Rattle.std.specs.List.{filter}
-use Rattle.std.proofs.lemmas.Bool.{cases_eq, cases_lt}
+use Rattle.std.proofs.lemmas.Bool.{cases_eq, cases_lt, false≢true}
 use Rattle.std.proofs.lemmas.Option.{slice_get_within, slice_get-get_or}
 use Rattle.rtl_ir.specs.declared.design.Module.{Module}
 use Rattle.rtl_ir.specs.declared.design.Assign.{Assign}
 use Rattle.rtl_ir.specs.declared.design.Port.{Port}
-use Rattle.rtl_ir.specs.declared.design.Expr.TheVariants.{Net as Plain}
+use Rattle.mx_bits.specs.declared.word.Word.{Word}
+use Rattle.rtl_ir.specs.declared.design.Expr.{Expr}
+use Rattle.rtl_ir.specs.declared.design.Expr.TheVariants.{Net as Plain, Literal, Not, Binary, Concat, Repeat, Part, Choose, Cell}
 use Rattle.rtl_ir.specs.Value.{width_of, value, is_reg}
 use Rattle.rtl_ir.specs.Operands.{IsRead}
 use Rattle.rtl_ir.proofs.Ports.{value_agrees}
@@ -15,9 +17,9 @@ use Rattle.verilog_sim.specs.declared.offer.Offer.{Offer}
 use Rattle.verilog_sim.specs.declared.given.Counts.{Counts}
 use Rattle.verilog_sim.specs.Contents.{family_of, contents_of}
 use Rattle.verilog_sim.specs.Runnable.{IsRunnable, IsOrderOf, IsPartOf}
-use Rattle.verilog_sim.specs.Settled.{IsInOrder, AreWords, Settles, Progress}
-use Rattle.verilog_sim.specs.Feeding.{is_marked, marked_of, AreMarkedFrom, IsFeeding}
-use Rattle.verilog_sim.specs.Simulates.{IsEvaluatedBy, IsAnswered}
+use Rattle.verilog_sim.specs.Settled.{AreWords, Settles, Progress}
+use Rattle.verilog_sim.specs.Feeding.{is_marked, is_literal, marked_of, AreMarkedFrom, IsFeeding}
+use Rattle.verilog_sim.specs.Simulates.{AreConstant, IsEvaluated, IsEvaluatedBy}
 use Rattle.verilog_sim.proofs.InOrder.{at_start, one_more}
 use Rattle.verilog_sim.proofs.Evaluated.{evaluated}
 
@@ -48,6 +50,16 @@ module _ {A : Type 0} (p : A → Bool) where
       by_test rest true (suc i) (suc j) lt e f = let r = rest i j (omega arith) e f in let less = r.2 in (suc r.0, suc r.1, omega (arith, less), r.3, r.4)
       by_test rest false i j lt e f = let r = rest i j lt e f in let less = r.2 in (suc r.0, suc r.1, omega (arith, less), r.3, r.4)
 
+  -- what stands there passes
+  filtered_passes : (xs : List A) (i : ℕ) (x : A) → slice_get (filter p xs) i ≡ Some x → p x ≡ true
+  filtered_passes [] i x e = absurd (cc)
+  filtered_passes (y ∷ ys) i x e = by_test (λ j f. filtered_passes ys j x f) (p y) refl i e
+    where
+      by_test : ((j : ℕ) → slice_get (filter p ys) j ≡ Some x → p x ≡ true) → (b : Bool) → p y ≡ b → (i : ℕ) → slice_get (cond b (y ∷ filter p ys) (filter p ys)) i ≡ Some x → p x ≡ true
+      by_test rest true q zero e = (let r : y ≡ x = cc in subst (λ (z : A). p z ≡ true) r q)
+      by_test rest true q (suc i) e = rest i e
+      by_test rest false q i e = rest i e
+
   -- an element that passes is among them
   filtered_has : (xs : List A) (k : ℕ) (x : A) → slice_get xs k ≡ Some x → p x ≡ true → (i : ℕ) × (slice_get (filter p xs) i ≡ Some x)
   filtered_has [] k x e h = absurd (cc)
@@ -63,11 +75,11 @@ module _ {A : Type 0} (p : A → Bool) where
 pub part_of_order : (m : Module) (order : List Assign) → IsOrderOf m order → IsPartOf m order
 part_of_order m order o = record { in_order = o.in_order; from = o.from }
 
-pub part_of_feeding : (m : Module) (order feeding : List Assign) (net : ℕ) → IsOrderOf m order → IsFeeding order feeding net → IsPartOf m feeding
-part_of_feeding m order feeding net o f = subst (IsPartOf m) (sym f.are) (record { in_order = record { typed = typed; unread = unread; once = once }; from = from })
+pub part_of_feeding : (m : Module) (order feeding : List Assign) (IsWanted : ℕ → Type 0) → IsOrderOf m order → IsFeeding order feeding IsWanted → IsPartOf m feeding
+part_of_feeding m order feeding IsWanted o f = subst (IsPartOf m) (sym f.are) (record { in_order = record { typed = typed; unread = unread; once = once }; from = from })
   where
     test : Assign → Bool
-    test a = is_marked f.marks a.target
+    test a = is_marked f.marks a.target && not (is_literal a.expr)
 
     typed : (i : ℕ) (a : Assign) → slice_get (filter test order) i ≡ Some a → Rattle.rtl_ir.specs.Typed.IsTyped m (width_of m a.target) a.expr
     typed i a e = let k = filtered_at test order i a e in o.in_order.typed k.0 a k.1
@@ -133,49 +145,136 @@ target_in (b ∷ bs) n = ⊎_elim (λ q. found zero b refl q) (λ ne. later ne (
         by_place zero a e q = ne ((let s : b ≡ a = cc in ap (λ (x : Assign). x.target) s) ∙ q)
         by_place (suc i) a e q = f i a e q
 
+both_true : (a b : Bool) → a && b ≡ true → (a ≡ true) × (b ≡ true)
+both_true true true h = (refl, refl)
+both_true true false h = absurd (false≢true h)
+both_true false b h = absurd (false≢true h)
+
+not_true : (b : Bool) → not b ≡ true → b ≡ false
+not_true true h = absurd (false≢true h)
+not_true false h = refl
+
+-- no literal is among those that feed nets
+pub no_literal : (order feeding : List Assign) (IsWanted : ℕ → Type 0) → IsFeeding order feeding IsWanted → (i : ℕ) (a : Assign) → slice_get feeding i ≡ Some a → is_literal a.expr ≡ false
+no_literal order feeding IsWanted f i a at =
+    let at' : slice_get (marked_of f.marks order) i ≡ Some a = subst (λ (l : List Assign). slice_get l i ≡ Some a) f.are at in
+    not_true (is_literal a.expr) (both_true (is_marked f.marks a.target) (not (is_literal a.expr)) (filtered_passes (λ (x : Assign). is_marked f.marks x.target && not (is_literal x.expr)) order i a at')).1
+
+-- the word of a literal
+data LiteralOf (e : Expr) : Type 0 where
+  literal : (x : Word) → e ≡ Literal x → LiteralOf e
+  other : is_literal e ≡ false → LiteralOf e
+
+literal_of : (e : Expr) → LiteralOf e
+literal_of (Plain n) = other refl
+literal_of (Literal x) = literal x refl
+literal_of (Not n) = other refl
+literal_of (Binary s n o) = other refl
+literal_of (Concat n o) = other refl
+literal_of (Repeat k n) = other refl
+literal_of (Part n hi lo) = other refl
+literal_of (Choose n o p) = other refl
+literal_of (Cell k n) = other refl
+
+-- the target of a literal is not that of an assignment that is no literal
+pub literal_free :
+    (m : Module) (part : List Assign) → IsRunnable m → IsPartOf m part → ((i : ℕ) (a : Assign) → slice_get part i ≡ Some a → is_literal a.expr ≡ false)
+    → (k : ℕ) (a : Assign) (x : Word) → slice_get m.assigns k ≡ Some a → a.expr ≡ Literal x → (i : ℕ) (b : Assign) → slice_get part i ≡ Some b → b.target ≢ a.target
+literal_free m part r p none k a x at lit i b bt q =
+    let from = p.from i b bt in
+    let same : from.0 ≡ k = r.one from.0 k b a from.1 at q in
+    let at' : slice_get m.assigns k ≡ Some b = subst (λ (j : ℕ). slice_get m.assigns j ≡ Some b) same from.1 in
+    let e : b ≡ a = cc in
+    false≢true (sym (none i b bt) ∙ ap (λ (y : Assign). is_literal y.expr) e ∙ ap is_literal lit)
+
 module _
-    (m : Module) (order : List Assign) (marks : List Bool) (net : ℕ) (memories : List (List ℕ)) (old all part : List ℕ)
-    (o : IsInOrder m order) (p : AreMarkedFrom order net marks 0) (sa : Settles m order memories old all) (ss : Settles m (marked_of marks order) memories old part) where
+    (m : Module) (order : List Assign) (marks : List Bool) (memories : List (List ℕ)) (old all part : List ℕ) (run : IsRunnable m)
+    (o : IsOrderOf m order) (p : AreMarkedFrom order marks 0) (constant : AreConstant m old) (sa : Settles m order memories old all) (ss : Settles m (marked_of marks order) memories old part) where
   abbrev test : Assign → Bool
-  test a = is_marked marks a.target
+  test a = is_marked marks a.target && not (is_literal a.expr)
 
   untouched : (n : ℕ) → ((i : ℕ) (a : Assign) → slice_get order i ≡ Some a → a.target ≢ n) → get_or part n 0 ≡ get_or all n 0
   untouched n f = ss.others n (λ i a e. (let k = filtered_at test order i a e in f k.0 a k.1)) ∙ sym (sa.others n f)
 
-  agrees_before : (k i : ℕ) (a : Assign) → i < k → slice_get order i ≡ Some a → is_marked marks a.target ≡ true → get_or part a.target 0 ≡ get_or all a.target 0
-  agrees_before zero i a lt at mark = absurd (omega arith)
-  agrees_before (suc k) i a lt at mark =
-      let f = filtered_has test order i a at mark in
-      ss.assigned f.0 a f.1
-      ∙ value_agrees m (contents_of [] memories) (family_of part) (family_of all) (width_of m a.target) a.expr (λ n read. at_read (λ j b lt e mk. agrees_before k j b lt e mk) n read (p.closed i n a (omega arith) at mark read) (target_in order n))
-      ∙ sym (sa.assigned i a at)
+  -- a literal has its word in both
+  literal_agrees : (i : ℕ) (a : Assign) (x : Word) → slice_get order i ≡ Some a → a.expr ≡ Literal x → get_or part a.target 0 ≡ get_or all a.target 0
+  literal_agrees i a x at lit =
+      let from = o.from i a at in
+      let is : value m (contents_of [] memories) (family_of all) (width_of m a.target) a.expr ≡ x.bits = ap (value m (contents_of [] memories) (family_of all) (width_of m a.target)) lit in
+      ss.others a.target (λ j b e q. free j b e q)
+      ∙ constant from.0 a x from.1 lit
+      ∙ sym (sa.assigned i a at ∙ is)
     where
-      at_read : ((j : ℕ) (b : Assign) → j < k → slice_get order j ≡ Some b → is_marked marks b.target ≡ true → get_or part b.target 0 ≡ get_or all b.target 0) → (n : ℕ) → IsRead a.expr n → is_marked marks n ≡ true → TargetIn order n → get_or part n 0 ≡ get_or all n 0
-      at_read rest n read mk (missing f) = untouched n f
-      at_read rest n read mk (found j b e q) =
+      free : (j : ℕ) (b : Assign) → slice_get (marked_of marks order) j ≡ Some b → b.target ≢ a.target
+      free j b e q =
+          let k = filtered_at test order j b e in
+          let off = not_true (is_literal b.expr) (both_true (is_marked marks b.target) (not (is_literal b.expr)) (filtered_passes test order j b e)).1 in
+          let fa = o.from i a at in
+          let fb = o.from k.0 b k.1 in
+          let same : fb.0 ≡ fa.0 = run.one fb.0 fa.0 b a fb.1 fa.1 q in
+          let bt : slice_get m.assigns fa.0 ≡ Some b = subst (λ (n : ℕ). slice_get m.assigns n ≡ Some b) same fb.1 in
+          let e' : b ≡ a = (let at' = fa.1 in cc) in
+          false≢true (sym off ∙ ap (λ (y : Assign). is_literal y.expr) e' ∙ ap is_literal lit)
+
+  -- what an assignment reads agrees where all before it agree
+  reads_agree :
+      (i : ℕ) (a : Assign) → slice_get order i ≡ Some a → is_marked marks a.target ≡ true
+      → ((j : ℕ) (b : Assign) → j < i → slice_get order j ≡ Some b → is_marked marks b.target ≡ true → get_or part b.target 0 ≡ get_or all b.target 0)
+      → (n : ℕ) → IsRead a.expr n → get_or part n 0 ≡ get_or all n 0
+  reads_agree i a at mark rest n read = by_target (target_in order n)
+    where
+      marked_read : is_marked marks n ≡ true
+      marked_read = p.closed i n a (omega arith) at mark read
+
+      by_target : TargetIn order n → get_or part n 0 ≡ get_or all n 0
+      by_target (missing f) = untouched n f
+      by_target (found j b e q) =
           ⊎_elim
-          (λ less. subst (λ (x : ℕ). get_or part x 0 ≡ get_or all x 0) q (rest j b (omega arith) e (subst (λ (x : ℕ). is_marked marks x ≡ true) (sym q) mk)))
-          (λ ge. absurd (o.unread i j a b (omega arith) at e (subst (IsRead a.expr) (sym q) read)))
+          (λ less. subst (λ (x : ℕ). get_or part x 0 ≡ get_or all x 0) q (rest j b less e (subst (λ (x : ℕ). is_marked marks x ≡ true) (sym q) marked_read)))
+          (λ ge. absurd (o.in_order.unread i j a b (omega arith) at e (subst (IsRead a.expr) (sym q) read)))
           (cases_lt j i)
 
-  agrees : (n : ℕ) → is_marked marks n ≡ true → TargetIn order n → get_or part n 0 ≡ get_or all n 0
-  agrees n mark (missing f) = untouched n f
-  agrees n mark (found i a e q) = subst (λ (x : ℕ). get_or part x 0 ≡ get_or all x 0) q (agrees_before (suc i) i a (omega arith) e (subst (λ (x : ℕ). is_marked marks x ≡ true) (sym q) mark))
+  target_agrees :
+      (i : ℕ) (a : Assign) → slice_get order i ≡ Some a → is_marked marks a.target ≡ true
+      → ((n : ℕ) → IsRead a.expr n → get_or part n 0 ≡ get_or all n 0) → LiteralOf a.expr
+      → get_or part a.target 0 ≡ get_or all a.target 0
+  target_agrees i a at mark reads (literal x lit) = literal_agrees i a x at lit
+  target_agrees i a at mark reads (other off) =
+      let passes : test a ≡ true = ap (λ b. b && not (is_literal a.expr)) mark ∙ ap not off in
+      let f = filtered_has test order i a at passes in
+      ss.assigned f.0 a f.1
+      ∙ value_agrees m (contents_of [] memories) (family_of part) (family_of all) (width_of m a.target) a.expr reads
+      ∙ sym (sa.assigned i a at)
 
-  pub feeding_agrees : get_or part net 0 ≡ get_or all net 0
-  feeding_agrees = agrees net p.net_is (target_in order net)
+  agrees_before : (k i : ℕ) (a : Assign) → i < k → slice_get order i ≡ Some a → is_marked marks a.target ≡ true → get_or part a.target 0 ≡ get_or all a.target 0
+  agrees_before zero i a lt at mark = absurd (omega arith)
+  agrees_before (suc k) i a lt at mark = target_agrees i a at mark (reads_agree i a at mark (λ j b less e mk. agrees_before k j b (omega arith) e mk)) (literal_of a.expr)
 
-pub answered :
-    (m : Module) (order feeding : List Assign) (net : ℕ) (c : Counts) (reset : Bool) (steady : List ℕ) (offers : List Offer) (accepts holds : List Bool) (held new : List ℕ) (memories : List (List ℕ)) (answer : Bool)
-    → IsRunnable m → IsOrderOf m order → IsFeeding order feeding net → ((i : ℕ) (p : Port) → slice_get m.ports i ≡ Some p → is_reg m p.net ≡ false)
-    → IsEvaluatedBy m feeding c reset steady offers accepts holds held memories new → answer ≡ eqb (get_or new net 0) 1
-    → IsAnswered m net c reset steady offers accepts holds held memories new answer
-answered m order feeding net c reset steady offers accepts holds held new memories answer r o f wires e same =
+  pub feeding_agrees : (n : ℕ) → is_marked marks n ≡ true → get_or part n 0 ≡ get_or all n 0
+  feeding_agrees n mark = agrees (target_in order n)
+    where
+      agrees : TargetIn order n → get_or part n 0 ≡ get_or all n 0
+      agrees (missing f) = untouched n f
+      agrees (found i a e q) = subst (λ (x : ℕ). get_or part x 0 ≡ get_or all x 0) q (agrees_before (suc i) i a (omega arith) e (subst (λ (x : ℕ). is_marked marks x ≡ true) (sym q) mark))
+
+-- all nets have values, with which those of some nets agree
+pub record Completed
+    (m : Module) (IsWanted : ℕ → Type 0) (c : Counts) (reset : Bool) (steady : List ℕ) (offers : List Offer) (accepts holds : List Bool)
+    (held : List ℕ) (memories : List (List ℕ)) (new : List ℕ) : Type 0 where
+  pub values : List ℕ
+  pub evaluated : IsEvaluated m c reset steady offers accepts holds held memories values
+  pub same : (n : ℕ) → IsWanted n → get_or new n 0 ≡ get_or values n 0
+
+pub completed :
+    (m : Module) (order feeding : List Assign) (IsWanted : ℕ → Type 0) (c : Counts) (reset : Bool) (steady : List ℕ) (offers : List Offer) (accepts holds : List Bool) (held new : List ℕ) (memories : List (List ℕ))
+    → IsRunnable m → IsOrderOf m order → IsFeeding order feeding IsWanted → ((i : ℕ) (p : Port) → slice_get m.ports i ≡ Some p → is_reg m p.net ≡ false)
+    → IsEvaluatedBy m feeding c reset steady offers accepts holds held memories new
+    → Completed m IsWanted c reset steady offers accepts holds held memories new
+completed m order feeding IsWanted c reset steady offers accepts holds held new memories r o f wires e =
     let all = all_settled m order memories e.driven r o e.words in
     let part : Settles m (marked_of f.marks order) memories e.driven new = subst (λ (l : List Assign). Settles m l memories e.driven new) f.are e.settles in
     record {
-      words = record { nets = e.settles.nets; words = e.settles.words; depths = e.words.depths; cells = e.words.cells };
       values = all.0;
-      evaluated = evaluated m c reset steady offers accepts holds held all.0 memories order r o wires (record { driven = e.driven; words = e.words; kept = e.kept; given = e.given; settles = all.1 });
-      answer_is = same ∙ ap (λ x. eqb x 1) (feeding_agrees m order f.marks net memories e.driven all.0 new o.in_order f.marked all.1 part);
+      evaluated = evaluated m c reset steady offers accepts holds held all.0 memories order r o wires (record { driven = e.driven; words = e.words; kept = e.kept; constant = e.constant; given = e.given; settles = all.1 });
+      same = λ n w. feeding_agrees m order f.marks memories e.driven all.0 new r o f.marked e.constant all.1 part n (f.wanted n w);
     }

@@ -40,14 +40,14 @@ lines_around (c ∷ bs) (suc i) b e =
 
 -- the lines of a batch are safe where those of its entries are
 pub batch_safe :
-    {R : Type 0} (step : R → Step) (n k l : ℕ) (b : Batch) (items entries : List (Entry R))
-    → lines_in b ≡ map (line_of step) items → entries ≡ items → All (IsSafe n k l) (lines_in b) → All (IsSafe n k l) (map (line_of step) entries)
-batch_safe step n k l b items entries is same = subst (All (IsSafe n k l)) (is ∙ ap (map (line_of step)) (sym same))
+    {R : Type 0} (step : R → Step) (n k : ℕ) (b : Batch) (items entries : List (Entry R))
+    → lines_in b ≡ map (line_of step) items → entries ≡ items → All (IsSafe n k) (lines_in b) → All (IsSafe n k) (map (line_of step) entries)
+batch_safe step n k b items entries is same = subst (All (IsSafe n k)) (is ∙ ap (map (line_of step)) (sym same))
 
 pub batch_advances :
-    {R : Type 0} (step : R → Step) (ls : List ℕ) (memories : List (List ℕ)) (old new : List ℕ) (b : Batch) (items entries : List (Entry R))
-    → lines_in b ≡ map (line_of step) items → entries ≡ items → Advances ls (map (line_of step) entries) memories old new → Advances ls (lines_in b) memories old new
-batch_advances step ls memories old new b items entries is same = subst (λ (lines : List Line). Advances ls lines memories old new) (ap (map (line_of step)) same ∙ sym is)
+    {R : Type 0} (step : R → Step) (memories : List (List ℕ)) (old new : List ℕ) (b : Batch) (items entries : List (Entry R))
+    → lines_in b ≡ map (line_of step) items → entries ≡ items → Advances (map (line_of step) entries) memories old new → Advances (lines_in b) memories old new
+batch_advances step memories old new b items entries is same = subst (λ (lines : List Line). Advances lines memories old new) (ap (map (line_of step)) same ∙ sym is)
 
 -- what holds of all items holds of one
 pub one_of_all : {A : Type 0} (P : A → Type 0) (xs : List A) (i : ℕ) (x : A) → All P xs → slice_get xs i ≡ Some x → P x

@@ -3,7 +3,7 @@ use Rattle.std.proofs.Common.{◌≡◌, ℕ, zero, suc, eqb, Vec, Global, ◌+�
 use Rattle.std.specs.Prelude.{slice_get}
 use Rattle.std.proofs.lemmas.Bool.{cases_eq, cases_lt}
 use Rattle.std.proofs.lemmas.Nat.{pow_pos}
-use Rattle.std.proofs.lemmas.Option.{slice_get-get_or}
+use Rattle.std.proofs.lemmas.Option.{slice_get-get_or, slice_get_within}
 use Rattle.std.proofs.lemmas.List.{length-set, length-append, length-map, get_or-map, get_or_append_left, get_or-append_right, ext_get_or, with_items_is}
 use Rattle.rtl_ir.specs.declared.design.Design.{Design}
 use Rattle.std.specs.Vec.{with_items}
@@ -30,7 +30,8 @@ use Rattle.verilog_sim.specs.Simulates.{unnamed, outer_at, AreCounts, AreOffered
 use Rattle.verilog_sim.proofs.Shapes.{channel_at, channels_get, length_channels}
 use Rattle.verilog_sim.proofs.Outer.{SaysSame, outer_same, given_of}
 use Rattle.verilog_sim.proofs.Whole.{whole_fits, whole_after, whole_own}
-use Rattle.verilog_sim.proofs.Fronts.{ports_flat, net_in, steady_flat, offered_flat}
+use Rattle.verilog_sim.specs.Origins.{with_lists}
+use Rattle.verilog_sim.proofs.Fronts.{outer_same_ports, ports_flat, net_in, steady_flat, offered_flat}
 
 -- what a contract sees of a simulator
 abbrev pub state : Design → Counts → List Place → List ℕ → List ℕ → List (List ℕ) → State
@@ -56,6 +57,27 @@ stepped_back m c reset steady steady' offers accepts holds held held0 memories m
     (subst (λ (l : List (List ℕ)). IsStepped m c reset steady' offers accepts holds held0 l new held' memories') e
     (subst (λ (l : List ℕ). IsStepped m c reset steady' offers accepts holds l memories new held' memories') b
     (subst (λ (l : List ℕ). IsStepped m c reset l offers accepts holds held memories new held' memories') a s))))
+
+abbrev event_made : Bool → ℕ → Event
+event_made moved word = record { moved = moved; word = word }
+
+-- values that agree at the ports tell the same of a stream
+event_at_ports :
+    (new values : List ℕ) (ports : List Port) (k : ℕ)
+    → ((i : ℕ) (p : Port) → slice_get ports i ≡ Some p → get_or new p.net 0 ≡ get_or values p.net 0)
+    → k + 2 < length ports → event_of (family_of new) (channel_of ports k) ≡ event_of (family_of values) (channel_of ports k)
+event_at_ports new values ports k same lt =
+    ap (λ x. event_made (eqb x 1 && eqb (get_or new (port_net (slice_get ports (k + 2))) 0) 1) (get_or new (port_net (slice_get ports k)) 0)) (at (k + 1) (omega (arith, lt)))
+    ∙ ap (λ x. event_made (eqb (get_or values (port_net (slice_get ports (k + 1))) 0) 1 && eqb x 1) (get_or new (port_net (slice_get ports k)) 0)) (at (k + 2) lt)
+    ∙ ap (λ x. event_made (eqb (get_or values (port_net (slice_get ports (k + 1))) 0) 1 && eqb (get_or values (port_net (slice_get ports (k + 2))) 0) 1) x) (at k (omega (arith, lt)))
+  where
+    none : Port
+    none = record { net = 0; output = false }
+
+    at : (i : ℕ) → i < length ports → get_or new (port_net (slice_get ports i)) 0 ≡ get_or values (port_net (slice_get ports i)) 0
+    at i less =
+        let e : slice_get ports i ≡ Some (get_or ports i none) = slice_get-get_or ports i none less in
+        subst (λ (n : ℕ). get_or new n 0 ≡ get_or values n 0) (sym (ap port_net e)) (same i (get_or ports i none) e)
 
 abbrev idle : Event
 idle = record { moved = false; word = 0 }
@@ -99,9 +121,6 @@ all_nothing (x ∷ xs) b (suc k) = all_nothing xs b k
 none_said : (o : Outer) → SaysSame [] (map (λ (x : Channel). nothing) o.inputs) [] (map (λ (x : Channel). false) o.outputs) [] (map (λ (n : ℕ). false) o.holds)
 none_said o = record { offers_same = λ k. sym (all_nothing o.inputs nothing k); accepts_same = λ k. sym (all_nothing o.outputs false k); holds_same = λ k. sym (all_nothing o.holds false k) }
 
-abbrev event_made : Bool → ℕ → Event
-event_made moved word = record { moved = moved; word = word }
-
 pub kept_back :
     (m : Module) (c : Counts) (steady steady' held held' values values' : List ℕ) (memories memories' : List (List ℕ))
     → AreKept m c steady held values memories → steady ≡ steady' → held ≡ held' → values ≡ values' → memories ≡ memories' → AreKept m c steady' held' values' memories'
@@ -116,8 +135,34 @@ pub none_offered : (m : Module) (o : Outer) → AreOffered m o []
 none_offered m o = λ k c at. pow_pos (width_of m c.word)
 
 module _ {d : Design} {c : Counts} {pr : Program} {us : List Update} {ps : List Place} {steady held values : List ℕ} {memories : List (List ℕ)} (s : Simulates d c pr us ps steady held values memories) where
-  abbrev top : Module
-  top = s.is_flat.top
+  -- the module that is run in place of the flat one
+  abbrev pub run : Module
+  run = with_lists s.flat s.assigns us
+
+  run_outer : (sh : Shape) → outer_of sh run ≡ outer_of sh s.flat
+  run_outer sh = outer_same_ports s.flat run sh refl
+
+  -- what the one says the other says
+  evaluated_flat :
+      (reset : Bool) (steady' : List ℕ) (offers : List Offer) (accepts holds : List Bool) (held' : List ℕ) (memories' : List (List ℕ)) (new : List ℕ)
+      → IsEvaluated run c reset steady' offers accepts holds held' memories' new → IsEvaluated s.flat c reset steady' offers accepts holds held' memories' new
+  evaluated_flat reset steady' offers accepts holds held' memories' new e =
+      record {
+        words = record { nets = e.words.nets; words = e.words.words; depths = e.words.depths; cells = e.words.cells };
+        fits = s.stand.fits (contents_of held' memories') (family_of new) e.fits;
+        given = e.given;
+      }
+
+  stepped_flat :
+      (reset : Bool) (offers : List Offer) (accepts holds : List Bool) (new later : List ℕ) (memories' : List (List ℕ))
+      → IsStepped run c reset steady offers accepts holds held memories new later memories' → IsStepped s.flat c reset steady offers accepts holds held memories new later memories'
+  stepped_flat reset offers accepts holds new later memories' e =
+      record {
+        values = e.values;
+        evaluated = evaluated_flat reset steady offers accepts holds held memories e.values e.evaluated;
+        ports = e.ports;
+        after = e.after ∙ s.stand.after (contents_of held memories) (family_of e.values) e.evaluated.fits;
+      }
 
   pub top_is : (m : Module) → top_of d ≡ Some m → s.is_flat.top ≡ m
   top_is m e = let f = s.is_flat.is_top in cc
@@ -128,7 +173,7 @@ module _ {d : Design} {c : Counts} {pr : Program} {us : List Update} {ps : List 
   pub ready_at :
       (ports' : List Port) (us' : List Update) (steady' held' values' : List ℕ) (memories' : List (List ℕ)) (offers : List Offer) (m : Module)
       → top_of d ≡ Some m → ports' ≡ m.ports → us' ≡ us → steady' ≡ steady → held' ≡ held → values' ≡ values → memories' ≡ memories → AreOffered m (outer_top d c) offers
-      → IsReady s.flat ports' us' c steady' offers held' values' memories'
+      → IsReady run ports' us' c steady' offers held' values' memories'
   ready_at ports' us' steady' held' values' memories' offers m e pe ue se he ve me o =
       let q = top_is m e in
       let o' : AreOffered s.is_flat.top (outer_of (unnamed c) s.is_flat.top) offers =
@@ -136,15 +181,15 @@ module _ {d : Design} {c : Counts} {pr : Program} {us : List Update} {ps : List 
       record {
         simulable = s.simulable;
         ports_are = pe ∙ ap (λ (x : Module). x.ports) (sym q) ∙ sym (ports_flat d s.accepted s.is_flat);
-        updates_are = ue ∙ s.updates_are;
-        kept = kept_back s.flat c steady steady' held held' values values' memories memories' s.kept (sym se) (sym he) (sym ve) (sym me);
-        offered = offered_flat d s.accepted s.is_flat (unnamed c) offers o';
+        updates_are = ue;
+        kept = kept_back run c steady steady' held held' values values' memories memories' s.kept (sym se) (sym he) (sym ve) (sym me);
+        offered = subst (λ (u : Outer). AreOffered run u offers) (sym (run_outer (unnamed c))) (offered_flat d s.accepted s.is_flat (unnamed c) offers o');
       }
 
   -- the same simulator with other words
-  pub kept_on : (steady' held' values' : List ℕ) (memories' : List (List ℕ)) → AreKept s.flat c steady' held' values' memories' → Simulates d c pr us ps steady' held' values' memories'
+  pub kept_on : (steady' held' values' : List ℕ) (memories' : List (List ℕ)) → AreKept run c steady' held' values' memories' → Simulates d c pr us ps steady' held' values' memories'
   kept_on steady' held' values' memories' k =
-      record { accepted = s.accepted; flat = s.flat; is_flat = s.is_flat; simulable = s.simulable; program = s.program; updates_are = s.updates_are; has = s.has; kept = k }
+      record { accepted = s.accepted; flat = s.flat; is_flat = s.is_flat; assigns = s.assigns; stand = s.stand; simulable = s.simulable; program = s.program; has = s.has; kept = k }
 
   -- words may be set at a port that keeps one value
   pub set_kept : (k x : ℕ) → k < length steady → ((m : Module) → top_of d ≡ Some m → x < 2 ^ width_of m (get_or (outer_top d c).steady k 0)) → Simulates d c pr us ps (set steady k x) held values memories
@@ -155,8 +200,10 @@ module _ {d : Design} {c : Counts} {pr : Program} {us : List Update} {ps : List 
         words = s.kept.words;
         held_nets = s.kept.held_nets;
         held_words = s.kept.held_words;
+        loaded = s.kept.loaded;
+        constant = s.kept.constant;
         steady_ports = length-set steady k x ∙ s.kept.steady_ports;
-        steady_words = λ j less. ⊎_elim (λ e. here j e) (λ ne. subst (λ (y : ℕ). y < 2 ^ width_of s.flat (get_or (outer_of (unnamed c) s.flat).steady j 0)) (sym (get_or-set_other steady k j x 0 ne)) (s.kept.steady_words j (omega (arith, less, length-set steady k x)))) (cases_eq j k);
+        steady_words = λ j less. ⊎_elim (λ e. here j e) (λ ne. subst (λ (y : ℕ). y < 2 ^ width_of run (get_or (outer_of (unnamed c) run).steady j 0)) (sym (get_or-set_other steady k j x 0 ne)) (s.kept.steady_words j (omega (arith, less, length-set steady k x)))) (cases_eq j k);
       })
     where
       fits_flat : x < 2 ^ width_of s.flat (get_or (outer_of (unnamed c) s.flat).steady k 0)
@@ -164,10 +211,13 @@ module _ {d : Design} {c : Counts} {pr : Program} {us : List Update} {ps : List 
           subst (λ (w : ℕ). x < 2 ^ w) (sym (steady_flat d s.accepted s.is_flat (unnamed c) k))
           (subst (λ (o : Outer). x < 2 ^ width_of s.is_flat.top (get_or o.steady k 0)) (ap (λ o. outer_at o c) s.is_flat.is_top) (fits s.is_flat.top s.is_flat.is_top))
 
-      here : (j : ℕ) → j ≡ k → get_or (set steady k x) j 0 < 2 ^ width_of s.flat (get_or (outer_of (unnamed c) s.flat).steady j 0)
+      fits_run : x < 2 ^ width_of run (get_or (outer_of (unnamed c) run).steady k 0)
+      fits_run = subst (λ (o : Outer). x < 2 ^ width_of run (get_or o.steady k 0)) (sym (run_outer (unnamed c))) fits_flat
+
+      here : (j : ℕ) → j ≡ k → get_or (set steady k x) j 0 < 2 ^ width_of run (get_or (outer_of (unnamed c) run).steady j 0)
       here j e =
-          subst (λ (i : ℕ). get_or (set steady k x) i 0 < 2 ^ width_of s.flat (get_or (outer_of (unnamed c) s.flat).steady i 0)) (sym e)
-          (subst (λ (y : ℕ). y < 2 ^ width_of s.flat (get_or (outer_of (unnamed c) s.flat).steady k 0)) (sym (get_or-set_same steady k x 0 lt)) fits_flat)
+          subst (λ (i : ℕ). get_or (set steady k x) i 0 < 2 ^ width_of run (get_or (outer_of (unnamed c) run).steady i 0)) (sym e)
+          (subst (λ (y : ℕ). y < 2 ^ width_of run (get_or (outer_of (unnamed c) run).steady k 0)) (sym (get_or-set_same steady k x 0 lt)) fits_run)
 
   -- the value of a port is that of the flat module
   own_at : (v : Family) (k : ℕ) → v (net_at s.is_flat.top k) ≡ families_of s.is_flat.top ps v [] (net_at s.is_flat.top k)
@@ -214,6 +264,22 @@ module _ {d : Design} {c : Counts} {pr : Program} {us : List Update} {ps : List 
       ∙ ap (λ x. event_made (eqb (families_of s.is_flat.top ps v [] (net_at s.is_flat.top (k + 1))) 1 && eqb x 1) (v (net_at s.is_flat.top k))) (own_at v (k + 2))
       ∙ ap (λ x. event_made (eqb (families_of s.is_flat.top ps v [] (net_at s.is_flat.top (k + 1))) 1 && eqb (families_of s.is_flat.top ps v [] (net_at s.is_flat.top (k + 2))) 1) x) (own_at v k)
 
+  -- the ports of the top module, as many as were counted
+  pub ports_counted : (m : Module) → top_of d ≡ Some m → port_count c ≡ length m.ports
+  ports_counted m e = s.simulable.counted ∙ ap length (ports_flat d s.accepted s.is_flat) ∙ ap (λ (x : Module). length x.ports) (top_is m e)
+
+  -- as many streams as were counted
+  pub streams_counted : length (outer_top d c).inputs + length (outer_top d c).outputs ≡ c.inputs + c.outputs
+  streams_counted =
+      let n = s.simulable.counts in
+      let sh = s.simulable.shape in
+      subst (λ (o : Outer). length o.inputs + length o.outputs ≡ c.inputs + c.outputs) is_outer
+      (omega (arith, length_channels s.is_flat.top (first_input sh) sh.inputs, length_channels s.is_flat.top (first_output sh) sh.outputs, n.inputs, n.outputs))
+
+  -- the ports of a stream that is counted
+  within : (events : List Event) (k : ℕ) → length events ≡ length (outer_top d c).inputs + length (outer_top d c).outputs → k < length events → first_channel c + 3 * k + 2 < length s.is_flat.top.ports
+  within events k size lt = omega (arith, lt, size, streams_counted, ports_counted s.is_flat.top s.is_flat.is_top)
+
   edge_at :
       (offers : List Offer) (accepts holds : List Bool) (held' new : List ℕ) (memories' : List (List ℕ)) (events : List Event)
       → length offers ≡ length (outer_top d c).inputs → length accepts ≡ length (outer_top d c).outputs → length holds ≡ length (outer_top d c).holds
@@ -223,40 +289,37 @@ module _ {d : Design} {c : Counts} {pr : Program} {us : List Update} {ps : List 
       → IsEdge s.is_flat.top offers accepts holds (state d c ps steady held memories) (state d c ps steady held' memories') events
   edge_at offers accepts holds held' new memories' events lo la lh step size told =
       record {
-        family = families_of s.is_flat.top ps (family_of new);
-        settled = settled_is false offers offers accepts accepts holds holds new lo la lh (same_said offers accepts holds) step.evaluated;
-        after = after_state held' new memories' step.after;
-        events_are = subst (λ (o : Outer). events ≡ map (event_of (families_of s.is_flat.top ps (family_of new) [])) (o.inputs ++ o.outputs)) is_outer
-            (events_are s.is_flat.top c s.simulable.shape (families_of s.is_flat.top ps (family_of new) []) events s.simulable.counts (subst (λ (o : Outer). length events ≡ length o.inputs + length o.outputs) (sym is_outer) size)
-            (λ k e at. told k e at ∙ event_same (family_of new) (first_channel c + 3 * k)));
+        family = families_of s.is_flat.top ps (family_of step.values);
+        settled = settled_is false offers offers accepts accepts holds holds step.values lo la lh (same_said offers accepts holds) step.evaluated;
+        after = after_state held' step.values memories' step.after;
+        events_are = subst (λ (o : Outer). events ≡ map (event_of (families_of s.is_flat.top ps (family_of step.values) [])) (o.inputs ++ o.outputs)) is_outer
+            (events_are s.is_flat.top c s.simulable.shape (families_of s.is_flat.top ps (family_of step.values) []) events s.simulable.counts (subst (λ (o : Outer). length events ≡ length o.inputs + length o.outputs) (sym is_outer) size)
+            (λ k e at. told k e at ∙ event_at_ports new step.values s.is_flat.top.ports (first_channel c + 3 * k) (λ i p at'. step.ports i p (ap (λ (l : List Port). slice_get l i) (ports_flat d s.accepted s.is_flat) ∙ at')) (within events k size (slice_get_within events k e at)) ∙ event_same (family_of step.values) (first_channel c + 3 * k)));
       }
 
   pub edge_is :
       (m : Module) (offers : List Offer) (accepts holds : List Bool) (held' new : List ℕ) (memories' : List (List ℕ)) (events : List Event)
       → top_of d ≡ Some m
       → length offers ≡ length (outer_top d c).inputs → length accepts ≡ length (outer_top d c).outputs → length holds ≡ length (outer_top d c).holds
-      → IsStepped s.flat c false steady offers accepts holds held memories new held' memories'
+      → IsStepped run c false steady offers accepts holds held memories new held' memories'
       → length events ≡ length (outer_top d c).inputs + length (outer_top d c).outputs
       → ((k : ℕ) (e : Event) → slice_get events k ≡ Some e → e ≡ event_of (family_of new) (channel_of m.ports (first_channel c + 3 * k)))
       → IsEdge m offers accepts holds (state d c ps steady held memories) (state d c ps steady held' memories') events
   edge_is m offers accepts holds held' new memories' events e lo la lh step size told =
       let q = top_is m e in
       subst (λ (x : Module). IsEdge x offers accepts holds (state d c ps steady held memories) (state d c ps steady held' memories') events) q
-      (edge_at offers accepts holds held' new memories' events lo la lh step size
+      (edge_at offers accepts holds held' new memories' events lo la lh (stepped_flat false offers accepts holds new held' memories' step) size
       (subst (λ (x : Module). (k : ℕ) (e : Event) → slice_get events k ≡ Some e → e ≡ event_of (family_of new) (channel_of x.ports (first_channel c + 3 * k))) (sym q) told))
 
   settled_alone : (reset : Bool) (new : List ℕ) → IsEvaluated s.flat c reset steady [] [] [] held memories new → SettledAlone s.is_flat.top (state d c ps steady held memories) reset (families_of s.is_flat.top ps (family_of new))
   settled_alone reset new done =
       settled_is reset [] _ [] _ [] _ new (length-map (outer_top d c).inputs (λ (x : Channel). nothing)) (length-map (outer_top d c).outputs (λ (x : Channel). false)) (length-map (outer_top d c).holds (λ (n : ℕ). false)) (none_said (outer_top d c)) done
 
-  pub reset_is : (m : Module) (held' new : List ℕ) (memories' : List (List ℕ)) → top_of d ≡ Some m → IsStepped s.flat c true steady [] [] [] held memories new held' memories' → IsResetEdge m (state d c ps steady held memories) (state d c ps steady held' memories')
-  reset_is m held' new memories' e step =
+  pub reset_is : (m : Module) (held' new : List ℕ) (memories' : List (List ℕ)) → top_of d ≡ Some m → IsStepped run c true steady [] [] [] held memories new held' memories' → IsResetEdge m (state d c ps steady held memories) (state d c ps steady held' memories')
+  reset_is m held' new memories' e st =
+      let step = stepped_flat true [] [] [] new held' memories' st in
       subst (λ (x : Module). IsResetEdge x (state d c ps steady held memories) (state d c ps steady held' memories')) (top_is m e)
-      (record { family = families_of s.is_flat.top ps (family_of new); settled = settled_alone true new step.evaluated; after = after_state held' new memories' step.after })
-
-  -- the ports of the top module, as many as were counted
-  pub ports_counted : (m : Module) → top_of d ≡ Some m → port_count c ≡ length m.ports
-  ports_counted m e = s.simulable.counted ∙ ap length (ports_flat d s.accepted s.is_flat) ∙ ap (λ (x : Module). length x.ports) (top_is m e)
+      (record { family = families_of s.is_flat.top ps (family_of step.values); settled = settled_alone true step.values step.evaluated; after = after_state held' step.values memories' step.after })
 
   done_at : (new : List ℕ) (answer : Bool) → IsEvaluated s.flat c false steady [] [] [] held memories new → answer ≡ eqb (get_or new (port_net (slice_get s.is_flat.top.ports (length s.is_flat.top.ports - 1))) 0) 1 → IsDone s.is_flat.top (state d c ps steady held memories) answer
   done_at new answer done is =
@@ -272,22 +335,14 @@ module _ {d : Design} {c : Counts} {pr : Program} {us : List Update} {ps : List 
       last : net_at s.is_flat.top (length s.is_flat.top.ports - 1) ≡ (outer_top d c).done
       last = ap (net_at s.is_flat.top) place ∙ ap (λ (o : Outer). o.done) is_outer
 
-  pub done_is : (m : Module) (new : List ℕ) (answer : Bool) → top_of d ≡ Some m → IsEvaluated s.flat c false steady [] [] [] held memories new → answer ≡ eqb (get_or new (port_net (slice_get m.ports (length m.ports - 1))) 0) 1 → IsDone m (state d c ps steady held memories) answer
+  pub done_is : (m : Module) (new : List ℕ) (answer : Bool) → top_of d ≡ Some m → IsEvaluated run c false steady [] [] [] held memories new → answer ≡ eqb (get_or new (port_net (slice_get m.ports (length m.ports - 1))) 0) 1 → IsDone m (state d c ps steady held memories) answer
   done_is m new answer e done is =
       let q = top_is m e in
       subst (λ (x : Module). IsDone x (state d c ps steady held memories) answer) q
-      (done_at new answer done (subst (λ (x : Module). answer ≡ eqb (get_or new (port_net (slice_get x.ports (length x.ports - 1))) 0) 1) (sym q) is))
+      (done_at new answer (evaluated_flat false steady [] [] [] held memories new done) (subst (λ (x : Module). answer ≡ eqb (get_or new (port_net (slice_get x.ports (length x.ports - 1))) 0) 1) (sym q) is))
 
   -- the nets of the ports have values
   pub nets_within : (m : Module) (ports : List Port) (values' : List ℕ) → top_of d ≡ Some m → ports ≡ m.ports → length values' ≡ length s.flat.nets → (i : ℕ) (q : Port) → slice_get ports i ≡ Some q → q.net < length values'
   nets_within m ports values' e same len i q at =
       let at' : slice_get s.flat.ports i ≡ Some q = ap (λ (l : List Port). slice_get l i) (ports_flat d s.accepted s.is_flat ∙ ap (λ (x : Module). x.ports) (top_is m e) ∙ sym same) ∙ at in
       omega (arith, (s.simulable.formed i q at').net, len)
-
-  -- as many streams as were counted
-  pub streams_counted : length (outer_top d c).inputs + length (outer_top d c).outputs ≡ c.inputs + c.outputs
-  streams_counted =
-      let n = s.simulable.counts in
-      let sh = s.simulable.shape in
-      subst (λ (o : Outer). length o.inputs + length o.outputs ≡ c.inputs + c.outputs) is_outer
-      (omega (arith, length_channels s.is_flat.top (first_input sh) sh.inputs, length_channels s.is_flat.top (first_output sh) sh.outputs, n.inputs, n.outputs))

@@ -76,7 +76,7 @@ formed_moved b c inner n nets mems e f =
 pub formed_wider : (m n : Module) → length m.nets ≤ length n.nets → length m.mems ≤ length n.mems → (e : Expr) → IsFormedExpr m e → IsFormedExpr n e
 formed_wider m n nets mems e f = record { nets = λ k r. omega (arith, f.nets k r); mem = λ k r. omega (arith, f.mem k r); numbers = f.numbers }
 
-sign_typed : (s : Sign) (w a b x y : ℕ) → x ≡ a → y ≡ b → IsSignTyped s w a b → IsSignTyped s w x y
+pub sign_typed : (s : Sign) (w a b x y : ℕ) → x ≡ a → y ≡ b → IsSignTyped s w a b → IsSignTyped s w x y
 sign_typed s w a b x y e f t = subst (λ (i : ℕ). IsSignTyped s w i y) (sym e) (subst (λ (i : ℕ). IsSignTyped s w a i) (sym f) t)
 
 module _ (b c : ℕ) (inner n : Module) (s : Sits b c inner n) where

@@ -44,3 +44,4 @@ pub mod Facing
 pub mod Told
 pub mod GiftSteps
 pub mod CellSums
+pub mod Origins

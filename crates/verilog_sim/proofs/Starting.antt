@@ -1,15 +1,19 @@
 -- What a simulator holds before its first call is words, and the low bits of one word.
-use Rattle.std.proofs.Common.{◌≡◌, ℕ, zero, suc, ◌+◌, ◌%◌, ◌^◌, ◌<◌, ◌≤◌, Bool, true, false, cond, ltb, List, [], ◌∷◌, length, map, replicate, get_or, Some, refl, sym, ap, ◌∙◌, subst, ⊎_elim, arith}
+use Rattle.std.proofs.Common.{◌≡◌, ◌≢◌, ℕ, zero, suc, ◌+◌, ◌%◌, ◌^◌, ◌<◌, ◌≤◌, inl, inr, Bool, true, false, cond, ltb, List, [], ◌∷◌, length, map, replicate, get_or, set, Some, refl, sym, ap, ◌∙◌, subst, ⊎_elim, arith, get_or-set_other, get_or-set_same}
 use Rattle.std.specs.Prelude.{slice_get, nat_lt}
 use mathlib.Core.Path.{fun_ext}
-use Rattle.std.proofs.lemmas.Bool.{cases_lt, lt-ltb, le-ltb}
+use Rattle.std.proofs.lemmas.Bool.{cases_eq, cases_lt, lt-ltb, le-ltb, false≢true}
+use Rattle.std.proofs.lemmas.Option.{slice_get_within}
 use Rattle.std.proofs.lemmas.Nat.{pow_pos, mod_below}
-use Rattle.std.proofs.lemmas.List.{length-map, length-replicate, get_or-replicate, get_or_past}
+use Rattle.std.proofs.lemmas.List.{length-set, length-map, length-replicate, get_or-replicate, get_or_past}
 use Rattle.rtl_ir.specs.declared.design.Module.{Module}
 use Rattle.rtl_ir.specs.declared.design.Net.{Net}
 use Rattle.rtl_ir.specs.declared.design.Mem.{Mem}
+use Rattle.rtl_ir.specs.declared.design.Assign.{Assign}
+use Rattle.rtl_ir.specs.declared.design.Expr.TheVariants.{Literal}
+use Rattle.mx_bits.specs.declared.word.Word.{Word}
 use Rattle.rtl_ir.specs.Value.{width_of, net_width, is_reg, net_kept, depth_of, mem_depth}
-use Rattle.rtl_ir.specs.Typed.{word_width, mem_width}
+use Rattle.rtl_ir.specs.Typed.{word_width, mem_width, IsTyped}
 use Rattle.rtl_ir.specs.Rules.{IsAccepted, HoldsWords, AllHold}
 use Rattle.verilog_sim.specs.declared.given.Counts.{Counts}
 use Rattle.verilog_sim.specs.Contents.{contents_of}
@@ -22,7 +26,11 @@ use Rattle.verilog_sim.specs.Flattened.{IsFlat}
 use Rattle.verilog_sim.specs.Start.{held_at_start, words_at_start, IsFilled, filled_part}
 use Rattle.verilog_sim.specs.Start as start
 use Rattle.verilog_sim.proofs.Whole.{whole_filled}
-use Rattle.verilog_sim.specs.Simulates.{AreKept, unnamed}
+use Rattle.verilog_sim.specs.Runnable.{IsRunnable}
+use Rattle.verilog_sim.specs.Updates.{IsLoaded}
+use Rattle.verilog_sim.specs.First.{IsLiteralAt, AreLiteralsSet, AreFirst}
+use Rattle.verilog_sim.specs.Simulates.{AreConstant, AreKept, unnamed}
+use Rattle.verilog_sim.proofs.Evaluated.{loaded_regs, loaded_constants}
 use Rattle.rtl_ir.specs.Ports.{outer_of}
 use Rattle.verilog_sim.proofs.Driving.{same_all}
 
@@ -59,24 +67,106 @@ words_held m fill held memories eh em =
 zero_fits : (n k w : ℕ) → get_or (replicate n 0) k 0 < 2 ^ w
 zero_fits n k w = subst (λ (y : ℕ). y < 2 ^ w) (sym (same_all n k 0)) (pow_pos w)
 
+literal_bits : (x y : Word) → Literal x ≡ Literal y → x.bits ≡ y.bits
+literal_bits x y e = let q : x ≡ y = cc in ap (λ (w : Word). w.bits) q
+
+-- the word of a literal that is assigned to a net fits it
+literal_fits : (m : Module) → IsRunnable m → (n x : ℕ) → IsLiteralAt m.assigns n x → x < 2 ^ width_of m n
+literal_fits m r n x l =
+    let t = r.typed l.place l.assign l.at in
+    let width : l.word.width ≡ width_of m l.assign.target = subst (IsTyped m (width_of m l.assign.target)) l.literal t in
+    subst (λ (w : ℕ). x < 2 ^ w) (width ∙ ap (width_of m) l.target) (subst (λ (y : ℕ). y < 2 ^ l.word.width) (sym l.bits) l.word.fits)
+
+first_fits : (m : Module) (held values : List ℕ) → IsRunnable m → ((n : ℕ) → is_reg m n ≡ true → get_or held n 0 < 2 ^ width_of m n) → AreFirst m held values → (n : ℕ) → get_or values n 0 < 2 ^ width_of m n
+first_fits m held values r h f n = by_kind (is_reg m n) refl
+  where
+    by_kind : (b : Bool) → is_reg m n ≡ b → get_or values n 0 < 2 ^ width_of m n
+    by_kind true e = subst (λ (y : ℕ). y < 2 ^ width_of m n) (sym (f.loaded n e)) (h n e)
+    by_kind false e =
+        ⊎_elim (λ z. subst (λ (y : ℕ). y < 2 ^ width_of m n) (sym z) (pow_pos (width_of m n))) (λ l. literal_fits m r n (get_or values n 0) l) (f.others n (λ t. false≢true (sym e ∙ t)))
+
 pub start_kept :
     (m : Module) (c : Counts) (fill : ℕ) (steady held values : List ℕ) (memories : List (List ℕ))
-    → held ≡ map (held_at_start fill) m.nets → memories ≡ map (words_at_start fill) m.mems → values ≡ replicate (length m.nets) 0 → steady ≡ replicate (c.kernels + c.scalars) 0
+    → IsRunnable m → held ≡ map (held_at_start fill) m.nets → memories ≡ map (words_at_start fill) m.mems → AreFirst m held values → steady ≡ replicate (c.kernels + c.scalars) 0
     → AreKept m c steady held values memories
-start_kept m c fill steady held values memories eh em ev es =
+start_kept m c fill steady held values memories r eh em first es =
     record {
       blocks = ap length em ∙ length-map m.mems (words_at_start fill);
       words = record {
-        nets = ap length ev ∙ length-replicate (length m.nets) 0;
-        words = λ n. subst (λ (l : List ℕ). get_or l n 0 < 2 ^ width_of m n) (sym ev) (zero_fits (length m.nets) n (width_of m n));
+        nets = first.size;
+        words = first_fits m held values r (words_held m fill held memories eh em).regs first;
         depths = λ k. ap (λ (l : List (List ℕ)). length (get_or l k [])) em ∙ ap length (mems_at fill m.mems k) ∙ length-replicate (depth_of m k) (fill % 2 ^ word_width m k);
         cells = (words_held m fill held memories eh em).cells;
       };
       held_nets = ap length eh ∙ length-map m.nets (held_at_start fill);
       held_words = (words_held m fill held memories eh em).regs;
+      loaded = first.loaded;
+      constant = first.constant;
       steady_ports = ap length es ∙ length-replicate (c.kernels + c.scalars) 0;
       steady_words = λ k lt. subst (λ (l : List ℕ). get_or l k 0 < 2 ^ width_of m (get_or (outer_of (unnamed c) m).steady k 0)) (sym es) (zero_fits (c.kernels + c.scalars) k (width_of m (get_or (outer_of (unnamed c) m).steady k 0)));
     }
+
+-- literals are set one after another
+pub none_set : (assigns : List Assign) (old : List ℕ) → AreLiteralsSet assigns old old 0
+none_set assigns old = record { size = refl; each = λ k a x lt. absurd (omega arith); others = λ n. inl refl }
+
+module _ (assigns : List Assign) (old new : List ℕ) (i : ℕ) (a : Assign) (at : slice_get assigns i ≡ Some a) (p : AreLiteralsSet assigns old new i) where
+  same_assign : (k : ℕ) (b : Assign) → k ≡ i → slice_get assigns k ≡ Some b → a ≡ b
+  same_assign k b q e = let e' : slice_get assigns i ≡ Some b = subst (λ (x : ℕ). slice_get assigns x ≡ Some b) q e in cc
+
+  pub none_more : ((x : Word) → a.expr ≢ Literal x) → AreLiteralsSet assigns old new (i + 1)
+  none_more free =
+      record {
+        size = p.size;
+        each = λ k b x lt e lit. ⊎_elim (λ less. p.each k b x less e lit) (λ ge. absurd (free x (ap (λ (y : Assign). y.expr) (same_assign k b (omega arith) e) ∙ lit))) (cases_lt k i);
+        others = p.others;
+      }
+
+  pub one_more_set : (x : Word) → a.expr ≡ Literal x → a.target < length new → AreLiteralsSet assigns old (set new a.target x.bits) (i + 1)
+  one_more_set x lit lt =
+      record {
+        size = length-set new a.target x.bits ∙ p.size;
+        each = each;
+        others = λ n. ⊎_elim (λ e. inr (here n e)) (λ ne. ⊎_elim (λ z. inl (get_or-set_other new a.target n x.bits 0 ne ∙ z)) (λ l. inr (subst (IsLiteralAt assigns n) (sym (get_or-set_other new a.target n x.bits 0 ne)) l)) (p.others n)) (cases_eq n a.target);
+      }
+    where
+      here : (n : ℕ) → n ≡ a.target → IsLiteralAt assigns n (get_or (set new a.target x.bits) n 0)
+      here n e =
+          record {
+            place = i;
+            assign = a;
+            word = x;
+            at = at;
+            target = sym e;
+            literal = lit;
+            bits = ap (λ (k : ℕ). get_or (set new a.target x.bits) k 0) e ∙ get_or-set_same new a.target x.bits 0 lt;
+          }
+
+      each : (k : ℕ) (b : Assign) (y : Word) → k < i + 1 → slice_get assigns k ≡ Some b → b.expr ≡ Literal y → IsLiteralAt assigns b.target (get_or (set new a.target x.bits) b.target 0)
+      each k b y less e lit' =
+          ⊎_elim (λ q. here b.target q)
+          (λ ne. ⊎_elim (λ before. subst (IsLiteralAt assigns b.target) (sym (get_or-set_other new a.target b.target x.bits 0 ne)) (p.each k b y before e lit')) (λ ge. absurd (ne (sym (ap (λ (z : Assign). z.target) (same_assign k b (omega arith) e))))) (cases_lt k i))
+          (cases_eq b.target a.target)
+
+-- the values of nets before the first edge
+pub first_are :
+    (m : Module) (held zeros old new : List ℕ) → IsRunnable m → zeros ≡ replicate (length m.nets) 0 → AreLiteralsSet m.assigns zeros old (length m.assigns) → IsLoaded m.updates held old new → AreFirst m held new
+first_are m held zeros old new r z s l =
+    record {
+      size = l.size ∙ s.size ∙ ap length z ∙ length-replicate (length m.nets) 0;
+      loaded = loaded_regs m held old new r l;
+      constant = loaded_constants m held old new r l constant;
+      others = λ n free. (let same : get_or new n 0 ≡ get_or old n 0 = l.others n (λ j u e t. free (r.regs j n u e t)) in ⊎_elim (λ e. inl (same ∙ e ∙ ap (λ (x : List ℕ). get_or x n 0) z ∙ same_all (length m.nets) n 0)) (λ q. inr (subst (IsLiteralAt m.assigns n) (sym same) q)) (s.others n));
+    }
+  where
+    constant : AreConstant m old
+    constant k a x at lit =
+        let q = s.each k a x (slice_get_within m.assigns k a at) at lit in
+        let same : q.place ≡ k = r.one q.place k q.assign a q.at at q.target in
+        let at' : slice_get m.assigns k ≡ Some q.assign = subst (λ (j : ℕ). slice_get m.assigns j ≡ Some q.assign) same q.at in
+        let e : q.assign ≡ a = cc in
+        let word : Literal q.word ≡ Literal x = sym q.literal ∙ ap (λ (y : Assign). y.expr) e ∙ lit in
+        q.bits ∙ literal_bits q.word x word
 
 pub map_zero : (xs : List ℕ) → map {B = ℕ} (λ (n : ℕ). 0) xs ≡ replicate (length xs) 0
 map_zero [] = refl

@@ -3,7 +3,6 @@ use Rattle.std.proofs.Common.{◌≡◌, ℕ, zero, suc, ◌+◌, ◌-◌, ◌*�
 use Rattle.std.proofs.Math.ListN.{get_or-eq_default}
 use Rattle.std.proofs.Math.Nat.{suc-mul}
 use Rattle.std.proofs.lemmas.Bool.{ltb-false}
-use Rattle.std.proofs.lemmas.Option.{get_or_from_slice_get}
 use Rattle.rtl_ir.specs.declared.design.Module.{Module}
 use Rattle.rtl_ir.specs.declared.design.Sign.TheVariants.{Add, Sub, Mul, Div, And, Or, Xor, Eq, Lt}
 use Rattle.rtl_ir.specs.declared.design.Expr.{Expr}
@@ -50,28 +49,28 @@ cell_is cells a depth e = by_test (ltb a depth) refl
     by_test true f = refl
     by_test false f = get_or-eq_default cells 0 (let q : depth ≤ a = ltb-false a depth f in omega arith)
 
-pub step_is : (m : Module) (ls : List ℕ) (mems : List (List ℕ)) (v : Family) (w : ℕ) (e : Expr) (s : Step) → IsTyped m w e → IsStepOf m ls e s → 1 ≤ w → w ≤ 128 → ((n : ℕ) → v n < 2 ^ width_of m n) → HasDepths m mems → step_value ls mems v w s ≡ value m (contents_of [] mems) v w e
-step_is m ls mems v w (Plain n) (Copy a) t h some le range depths = ap v h
-step_is m ls mems v w (Literal x) (DoLiteral i) t h some le range depths = get_or_from_slice_get ls i x.bits 0 h
-step_is m ls mems v w (Not n) (DoNot a) t h some le range depths = ap (λ i. (2 ^ 128 - 1 - v i) % 2 ^ w) h ∙ low_not (v n) w le (at_width (v n) w (width_of m n) t (range n))
-step_is m ls mems v w (Binary Add n o) (DoAdd a b) t h some le range depths = ap (λ i. (v i + v b) % 2 ^ w) h.0 ∙ ap (λ i. (v n + v i) % 2 ^ w) h.1
-step_is m ls mems v w (Binary Sub n o) (DoSub a b) t h some le range depths =
+pub step_is : (m : Module) (mems : List (List ℕ)) (v : Family) (w : ℕ) (e : Expr) (s : Step) → IsTyped m w e → IsStepOf m e s → 1 ≤ w → w ≤ 128 → ((n : ℕ) → v n < 2 ^ width_of m n) → HasDepths m mems → step_value mems v w s ≡ value m (contents_of [] mems) v w e
+step_is m mems v w (Plain n) (Copy a) t h some le range depths = ap v h
+step_is m mems v w (Literal x) (DoLiteral word) t h some le range depths = h
+step_is m mems v w (Not n) (DoNot a) t h some le range depths = ap (λ i. (2 ^ 128 - 1 - v i) % 2 ^ w) h ∙ low_not (v n) w le (at_width (v n) w (width_of m n) t (range n))
+step_is m mems v w (Binary Add n o) (DoAdd a b) t h some le range depths = ap (λ i. (v i + v b) % 2 ^ w) h.0 ∙ ap (λ i. (v n + v i) % 2 ^ w) h.1
+step_is m mems v w (Binary Sub n o) (DoSub a b) t h some le range depths =
     ap (λ i. (v i + (2 ^ 128 - v b)) % 2 ^ 128 % 2 ^ w) h.0 ∙ ap (λ i. (v n + (2 ^ 128 - v i)) % 2 ^ 128 % 2 ^ w) h.1 ∙ low_difference (v n) (v o) w le (at_width (v o) w (width_of m o) t.1 (range o))
-step_is m ls mems v w (Binary Mul n o) (DoMul a b) t h some le range depths = ap (λ i. (v i * v b) % 2 ^ w) h.0 ∙ ap (λ i. (v n * v i) % 2 ^ w) h.1
-step_is m ls mems v w (Binary Div n o) (DoDiv a b) t h some le range depths = ap (λ i. quotient (v i) (v b)) h.0 ∙ ap (λ i. quotient (v n) (v i)) h.1
-step_is m ls mems v w (Binary And n o) (DoAnd a b) t h some le range depths = ap (λ i. bit_and (v i) (v b)) h.0 ∙ ap (λ i. bit_and (v n) (v i)) h.1
-step_is m ls mems v w (Binary Or n o) (DoOr a b) t h some le range depths = ap (λ i. bit_or (v i) (v b)) h.0 ∙ ap (λ i. bit_or (v n) (v i)) h.1
-step_is m ls mems v w (Binary Xor n o) (DoXor a b) t h some le range depths = ap (λ i. bit_xor (v i) (v b)) h.0 ∙ ap (λ i. bit_xor (v n) (v i)) h.1
-step_is m ls mems v w (Binary Eq n o) (DoEq a b) t h some le range depths = ap (λ i. cond (eqb (v i) (v b)) 1 0) h.0 ∙ ap (λ i. cond (eqb (v n) (v i)) 1 0) h.1
-step_is m ls mems v w (Binary Lt n o) (DoLt a b) t h some le range depths = ap (λ i. cond (ltb (v i) (v b)) 1 0) h.0 ∙ ap (λ i. cond (ltb (v n) (v i)) 1 0) h.1
-step_is m ls mems v w (Concat n o) (DoConcat a b low) t h some le range depths =
+step_is m mems v w (Binary Mul n o) (DoMul a b) t h some le range depths = ap (λ i. (v i * v b) % 2 ^ w) h.0 ∙ ap (λ i. (v n * v i) % 2 ^ w) h.1
+step_is m mems v w (Binary Div n o) (DoDiv a b) t h some le range depths = ap (λ i. quotient (v i) (v b)) h.0 ∙ ap (λ i. quotient (v n) (v i)) h.1
+step_is m mems v w (Binary And n o) (DoAnd a b) t h some le range depths = ap (λ i. bit_and (v i) (v b)) h.0 ∙ ap (λ i. bit_and (v n) (v i)) h.1
+step_is m mems v w (Binary Or n o) (DoOr a b) t h some le range depths = ap (λ i. bit_or (v i) (v b)) h.0 ∙ ap (λ i. bit_or (v n) (v i)) h.1
+step_is m mems v w (Binary Xor n o) (DoXor a b) t h some le range depths = ap (λ i. bit_xor (v i) (v b)) h.0 ∙ ap (λ i. bit_xor (v n) (v i)) h.1
+step_is m mems v w (Binary Eq n o) (DoEq a b) t h some le range depths = ap (λ i. cond (eqb (v i) (v b)) 1 0) h.0 ∙ ap (λ i. cond (eqb (v n) (v i)) 1 0) h.1
+step_is m mems v w (Binary Lt n o) (DoLt a b) t h some le range depths = ap (λ i. cond (ltb (v i) (v b)) 1 0) h.0 ∙ ap (λ i. cond (ltb (v n) (v i)) 1 0) h.1
+step_is m mems v w (Concat n o) (DoConcat a b low) t h some le range depths =
     ap (λ i. joined (v i) low (v b)) h.0 ∙ ap (λ i. joined (v n) low (v i)) h.1 ∙ ap (λ i. joined (v n) i (v o)) h.2 ∙ joined_is (v n) (v o) (width_of m n) (width_of m o) (range n) (range o) (omega (arith, t))
-step_is m ls mems v w (Repeat k n) (DoRepeat times low a) t h some le range depths =
+step_is m mems v w (Repeat k n) (DoRepeat times low a) t h some le range depths =
     ap (λ i. again (i - 1) low (v a)) h.0 ∙ ap (λ i. again (k - 1) i (v a)) h.1 ∙ ap (λ i. again (k - 1) (width_of m n) (v i)) h.2 ∙ repeat_is k (width_of m n) (v n) (some_times k (width_of m n) w t some) (omega (arith, t)) (range n)
-step_is m ls mems v w (Part n hi lo) (DoPart a low) t h some le range depths =
+step_is m mems v w (Part n hi lo) (DoPart a low) t h some le range depths =
     ap (λ i. (v i / 2 ^ low) % 2 ^ w) h.0 ∙ ap (λ i. (v n / 2 ^ i) % 2 ^ w) h.1 ∙ ap (λ i. (v n / 2 ^ lo) % 2 ^ i) (sym t.2)
-step_is m ls mems v w (Choose n o p) (DoChoose a b c) t h some le range depths =
+step_is m mems v w (Choose n o p) (DoChoose a b c) t h some le range depths =
     ap (λ i. cond (eqb (v i) 1) (v b) (v c)) h.0 ∙ ap (λ i. cond (eqb (v n) 1) (v i) (v c)) h.1 ∙ ap (λ i. cond (eqb (v n) 1) (v o) (v i)) h.2
-step_is m ls mems v w (Cell k n) (DoCell i a) t h some le range depths =
+step_is m mems v w (Cell k n) (DoCell i a) t h some le range depths =
     ap (λ j. get_or (get_or mems j []) (v a) 0) h.0 ∙ ap (λ j. get_or (get_or mems k []) (v j) 0) h.1 ∙ cell_is (get_or mems k []) (v n) (depth_of m k) (depths k)
-step_is m ls mems v w e s t h some le range depths = absurd h
+step_is m mems v w e s t h some le range depths = absurd h

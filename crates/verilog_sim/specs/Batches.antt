@@ -45,10 +45,10 @@ IsAddedLine l old new false = lines_in new ≡ lines_in old
 
 -- from values at which the assignments before these lines hold to values at which those of the lines hold too, for each
 -- module and each order of assignments in which the lines stand
-abbrev pub Advances : List ℕ → List Line → List (List ℕ) → List ℕ → List ℕ → Type 0
-Advances literals lines memories values later =
+abbrev pub Advances : List Line → List (List ℕ) → List ℕ → List ℕ → Type 0
+Advances lines memories values later =
     (m : Module) (order : List Assign) (old : List ℕ) (before rest : List Line)
-    → AreLinesOf m literals order ((before ++ lines) ++ rest)
+    → AreLinesOf m order ((before ++ lines) ++ rest)
     → IsInOrder m order
     → AreWords m old memories
     → Progress m order memories old values (length before)

@@ -1,5 +1,5 @@
 -- The lines of assignments.
-use Rattle.std.specs.Prelude.{◌≡◌, ◌≤◌, ℕ, true, List, [], ◌∷◌, ◌++◌, length, Some, slice_get}
+use Rattle.std.specs.Prelude.{◌≡◌, ◌≤◌, ℕ, true, List, length, Some, slice_get}
 use Rattle.rtl_ir.specs.declared.design.Module.{Module}
 use Rattle.rtl_ir.specs.declared.design.Assign.{Assign}
 use Rattle.rtl_ir.specs.declared.design.Sign.{Sign}
@@ -26,49 +26,34 @@ IsBinary Lt n o (DoLt a b) = (a ≡ n) × (b ≡ o)
 IsBinary s n o x = ⊥
 
 -- a step is that of an expression
-abbrev pub IsStepOf : Module → List ℕ → Expr → Step → Type 0
-IsStepOf m ls (Plain n) (Copy a) = a ≡ n
-IsStepOf m ls (Literal x) (DoLiteral i) = slice_get ls i ≡ Some x.bits
-IsStepOf m ls (Not n) (DoNot a) = a ≡ n
-IsStepOf m ls (Binary s n o) x = IsBinary s n o x
-IsStepOf m ls (Concat n o) (DoConcat a b low) = (a ≡ n) × (b ≡ o) × (low ≡ width_of m o)
-IsStepOf m ls (Repeat k n) (DoRepeat times low a) = (times ≡ k) × (low ≡ width_of m n) × (a ≡ n)
-IsStepOf m ls (Part n hi lo) (DoPart a low) = (a ≡ n) × (low ≡ lo)
-IsStepOf m ls (Choose n o p) (DoChoose a b c) = (a ≡ n) × (b ≡ o) × (c ≡ p)
-IsStepOf m ls (Cell k n) (DoCell i a) = (i ≡ k) × (a ≡ n)
-IsStepOf m ls e s = ⊥
+abbrev pub IsStepOf : Module → Expr → Step → Type 0
+IsStepOf m (Plain n) (Copy a) = a ≡ n
+IsStepOf m (Literal x) (DoLiteral word) = word ≡ x.bits
+IsStepOf m (Not n) (DoNot a) = a ≡ n
+IsStepOf m (Binary s n o) x = IsBinary s n o x
+IsStepOf m (Concat n o) (DoConcat a b low) = (a ≡ n) × (b ≡ o) × (low ≡ width_of m o)
+IsStepOf m (Repeat k n) (DoRepeat times low a) = (times ≡ k) × (low ≡ width_of m n) × (a ≡ n)
+IsStepOf m (Part n hi lo) (DoPart a low) = (a ≡ n) × (low ≡ lo)
+IsStepOf m (Choose n o p) (DoChoose a b c) = (a ≡ n) × (b ≡ o) × (c ≡ p)
+IsStepOf m (Cell k n) (DoCell i a) = (i ≡ k) × (a ≡ n)
+IsStepOf m e s = ⊥
 
 -- an assignment to a net of at most 64 bits that reads such nets alone
 pub record IsNarrow (m : Module) (a : Assign) : Type 0 where
   pub target : width_of m a.target ≤ 64
   pub reads : (n : ℕ) → IsRead a.expr n → width_of m n ≤ 64
 
-pub record IsLineOf (m : Module) (ls : List ℕ) (a : Assign) (line : Line) : Type 0 where
+pub record IsLineOf (m : Module) (a : Assign) (line : Line) : Type 0 where
   pub target : line.target ≡ a.target
   pub width : line.width ≡ width_of m a.target
-  pub step : IsStepOf m ls a.expr line.step
+  pub step : IsStepOf m a.expr line.step
   pub narrow : line.narrow ≡ true → IsNarrow m a
 
--- the step of an expression, in a table of literals that keeps those that it had
-pub record HasStep (m : Module) (e : Expr) (s : Step) (old new : List ℕ) : Type 0 where
-  pub step : IsStepOf m new e s
-  pub more : (i x : ℕ) → slice_get old i ≡ Some x → slice_get new i ≡ Some x
-
--- the step of a word that was added to the table of literals
-pub record IsAddedLiteral (word : ℕ) (s : Step) (old new : List ℕ) : Type 0 where
-  pub step : s ≡ DoLiteral (length old)
-  pub more : new ≡ old ++ word ∷ []
-
 -- the lines of the first so many assignments, in their order
-pub record AreLines (m : Module) (ls : List ℕ) (assigns : List Assign) (lines : List Line) (count : ℕ) : Type 0 where
+pub record AreLines (m : Module) (assigns : List Assign) (lines : List Line) (count : ℕ) : Type 0 where
   pub size : length lines ≡ count
-  pub each : (i : ℕ) (a : Assign) (l : Line) → slice_get assigns i ≡ Some a → slice_get lines i ≡ Some l → IsLineOf m ls a l
+  pub each : (i : ℕ) (a : Assign) (l : Line) → slice_get assigns i ≡ Some a → slice_get lines i ≡ Some l → IsLineOf m a l
 
 -- the lines of these assignments
-abbrev pub AreLinesOf : Module → List ℕ → List Assign → List Line → Type 0
-AreLinesOf m ls assigns lines = AreLines m ls assigns lines (length assigns)
-
--- the same in a table of literals that keeps those that it had
-pub record HasLines (m : Module) (assigns : List Assign) (lines : List Line) (old new : List ℕ) : Type 0 where
-  pub lines_are : AreLinesOf m new assigns lines
-  pub more : (i x : ℕ) → slice_get old i ≡ Some x → slice_get new i ≡ Some x
+abbrev pub AreLinesOf : Module → List Assign → List Line → Type 0
+AreLinesOf m assigns lines = AreLines m assigns lines (length assigns)

@@ -20,3 +20,5 @@ pub mod Parts
 pub mod Flattened
 pub mod Gifts
 pub mod CellSums
+pub mod First
+pub mod Origins

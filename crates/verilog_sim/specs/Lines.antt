@@ -5,32 +5,32 @@ use Rattle.verilog_sim.specs.declared.line.Step.{Step}
 use Rattle.verilog_sim.specs.declared.line.Step.TheVariants.{Copy, Literal, Not, Add, Sub, Mul, Div, And, Or, Xor, Eq, Lt, Concat, Repeat, Part, Choose, Cell}
 use Rattle.verilog_sim.specs.declared.line.Line.{Line}
 
--- the nets, memories and literals that a step reads are there, and its shifts are below 128
-abbrev pub IsStepSafe : ℕ → ℕ → ℕ → Step → Type 0
-IsStepSafe n k l (Copy a) = a < n
-IsStepSafe n k l (Literal i) = i < l
-IsStepSafe n k l (Not a) = a < n
-IsStepSafe n k l (Add a b) = (a < n) × (b < n)
-IsStepSafe n k l (Sub a b) = (a < n) × (b < n)
-IsStepSafe n k l (Mul a b) = (a < n) × (b < n)
-IsStepSafe n k l (Div a b) = (a < n) × (b < n)
-IsStepSafe n k l (And a b) = (a < n) × (b < n)
-IsStepSafe n k l (Or a b) = (a < n) × (b < n)
-IsStepSafe n k l (Xor a b) = (a < n) × (b < n)
-IsStepSafe n k l (Eq a b) = (a < n) × (b < n)
-IsStepSafe n k l (Lt a b) = (a < n) × (b < n)
-IsStepSafe n k l (Concat a b low) = (a < n) × (b < n) × (low < 128)
-IsStepSafe n k l (Repeat times low a) = (1 ≤ times) × (2 ≤ times → low < 128) × (a < n)
-IsStepSafe n k l (Part a low) = (a < n) × (low < 128)
-IsStepSafe n k l (Choose a b c) = (a < n) × (b < n) × (c < n)
-IsStepSafe n k l (Cell i a) = (i < k) × (a < n)
+-- the nets and memories that a step reads are there, and its shifts are below 128
+abbrev pub IsStepSafe : ℕ → ℕ → Step → Type 0
+IsStepSafe n k (Copy a) = a < n
+IsStepSafe n k (Literal word) = Unit {0}
+IsStepSafe n k (Not a) = a < n
+IsStepSafe n k (Add a b) = (a < n) × (b < n)
+IsStepSafe n k (Sub a b) = (a < n) × (b < n)
+IsStepSafe n k (Mul a b) = (a < n) × (b < n)
+IsStepSafe n k (Div a b) = (a < n) × (b < n)
+IsStepSafe n k (And a b) = (a < n) × (b < n)
+IsStepSafe n k (Or a b) = (a < n) × (b < n)
+IsStepSafe n k (Xor a b) = (a < n) × (b < n)
+IsStepSafe n k (Eq a b) = (a < n) × (b < n)
+IsStepSafe n k (Lt a b) = (a < n) × (b < n)
+IsStepSafe n k (Concat a b low) = (a < n) × (b < n) × (low < 128)
+IsStepSafe n k (Repeat times low a) = (1 ≤ times) × (2 ≤ times → low < 128) × (a < n)
+IsStepSafe n k (Part a low) = (a < n) × (low < 128)
+IsStepSafe n k (Choose a b c) = (a < n) × (b < n) × (c < n)
+IsStepSafe n k (Cell i a) = (i < k) × (a < n)
 
-pub record IsSafe (n k l : ℕ) (line : Line) : Type 0 where
+pub record IsSafe (n k : ℕ) (line : Line) : Type 0 where
   pub target : line.target < n
   pub some : 1 ≤ line.width
   pub at_most : line.width ≤ 128
   pub half : line.narrow ≡ true → line.width ≤ 64
-  pub step : IsStepSafe n k l line.step
+  pub step : IsStepSafe n k line.step
 
 -- the values of nets, or their low 64 bits
 abbrev pub read_by : Bool → List ℕ → ℕ → ℕ
@@ -46,21 +46,21 @@ again zero low word = word
 again (suc k) low word = joined (again k low word) low word
 
 -- the value of a step for a net of w bits
-abbrev pub step_value : List ℕ → List (List ℕ) → (ℕ → ℕ) → ℕ → Step → ℕ
-step_value ls mems v w (Copy a) = v a
-step_value ls mems v w (Literal i) = slice_index ls i
-step_value ls mems v w (Not a) = (2 ^ 128 - 1 - v a) % 2 ^ w
-step_value ls mems v w (Add a b) = (v a + v b) % 2 ^ w
-step_value ls mems v w (Sub a b) = (v a + (2 ^ 128 - v b)) % 2 ^ 128 % 2 ^ w
-step_value ls mems v w (Mul a b) = (v a * v b) % 2 ^ w
-step_value ls mems v w (Div a b) = quotient (v a) (v b)
-step_value ls mems v w (And a b) = bit_and (v a) (v b)
-step_value ls mems v w (Or a b) = bit_or (v a) (v b)
-step_value ls mems v w (Xor a b) = bit_xor (v a) (v b)
-step_value ls mems v w (Eq a b) = if nat_eq (v a) (v b) then 1 else 0
-step_value ls mems v w (Lt a b) = if nat_lt (v a) (v b) then 1 else 0
-step_value ls mems v w (Concat a b low) = joined (v a) low (v b)
-step_value ls mems v w (Repeat times low a) = again (times - 1) low (v a)
-step_value ls mems v w (Part a low) = (v a / 2 ^ low) % 2 ^ w
-step_value ls mems v w (Choose a b c) = if nat_eq (v a) 1 then v b else v c
-step_value ls mems v w (Cell i a) = slice_index (slice_index_or mems i []) (v a)
+abbrev pub step_value : List (List ℕ) → (ℕ → ℕ) → ℕ → Step → ℕ
+step_value mems v w (Copy a) = v a
+step_value mems v w (Literal word) = word
+step_value mems v w (Not a) = (2 ^ 128 - 1 - v a) % 2 ^ w
+step_value mems v w (Add a b) = (v a + v b) % 2 ^ w
+step_value mems v w (Sub a b) = (v a + (2 ^ 128 - v b)) % 2 ^ 128 % 2 ^ w
+step_value mems v w (Mul a b) = (v a * v b) % 2 ^ w
+step_value mems v w (Div a b) = quotient (v a) (v b)
+step_value mems v w (And a b) = bit_and (v a) (v b)
+step_value mems v w (Or a b) = bit_or (v a) (v b)
+step_value mems v w (Xor a b) = bit_xor (v a) (v b)
+step_value mems v w (Eq a b) = if nat_eq (v a) (v b) then 1 else 0
+step_value mems v w (Lt a b) = if nat_lt (v a) (v b) then 1 else 0
+step_value mems v w (Concat a b low) = joined (v a) low (v b)
+step_value mems v w (Repeat times low a) = again (times - 1) low (v a)
+step_value mems v w (Part a low) = (v a / 2 ^ low) % 2 ^ w
+step_value mems v w (Choose a b c) = if nat_eq (v a) 1 then v b else v c
+step_value mems v w (Cell i a) = slice_index (slice_index_or mems i []) (v a)

@@ -3,6 +3,8 @@ use Rattle.std.specs.Prelude.{◌≡◌, ℕ, ◌+◌, ◌-◌, ◌^◌, ◌<◌
 use Rattle.rtl_ir.specs.declared.design.Design.{Design}
 use Rattle.rtl_ir.specs.declared.design.Module.{Module}
 use Rattle.rtl_ir.specs.declared.design.Assign.{Assign}
+use Rattle.rtl_ir.specs.declared.design.Expr.TheVariants.{Literal}
+use Rattle.mx_bits.specs.declared.word.Word.{Word}
 use Rattle.rtl_ir.specs.declared.design.Port.{Port}
 use Rattle.rtl_ir.specs.declared.design.Update.{Update}
 use Rattle.rtl_ir.specs.Value.{width_of, is_reg}
@@ -18,9 +20,10 @@ use Rattle.verilog_sim.specs.Contents.{family_of, contents_of}
 use Rattle.verilog_sim.specs.Compiled.{AreLinesOf}
 use Rattle.verilog_sim.specs.Batches.{lines_of_all}
 use Rattle.verilog_sim.specs.Runnable.{IsRunnable, IsOrderOf}
-use Rattle.verilog_sim.specs.Feeding.{IsFeeding}
+use Rattle.verilog_sim.specs.Feeding.{IsFeeding, IsSeen}
 use Rattle.verilog_sim.specs.Settled.{AreWords, Settles}
 use Rattle.verilog_sim.specs.Sources.{IsGiven, AreApart, port_count}
+use Rattle.verilog_sim.specs.Origins.{with_lists, StandFor}
 use Rattle.verilog_sim.specs.Flattened.{IsFlat}
 use Rattle.verilog_sim.specs.declared.place.Place.{Place}
 use Rattle.verilog_sim.specs.Calls.{nothing}
@@ -54,25 +57,35 @@ pub record IsSimulable (m : Module) (c : Counts) : Type 0 where
   pub apart : AreApart m.ports
   pub formed : (i : ℕ) (p : Port) → slice_get m.ports i ≡ Some p → IsFormedPort m p
 
--- the lines of the assignments of a module in an order in which they can be evaluated, and of those that feed a net
+-- in an order in which the assignments of a module can be evaluated, the lines of those that feed the nets seen in an edge,
+-- and of those that feed one net
 pub record IsProgramOf (m : Module) (net : ℕ) (p : Program) : Type 0 where
   pub order : List Assign
   pub ordered : IsOrderOf m order
-  pub lines_are : AreLinesOf m p.literals.items order (lines_of_all p.all.items)
+  pub edge : List Assign
+  pub sees : IsFeeding order edge (IsSeen m)
+  pub edge_are : AreLinesOf m edge (lines_of_all p.edge.items)
   pub feeding : List Assign
-  pub feeds : IsFeeding order feeding net
-  pub feeding_are : AreLinesOf m p.literals.items feeding (lines_of_all p.feeding.items)
+  pub feeds : IsFeeding order feeding (λ n. n ≡ net)
+  pub feeding_are : AreLinesOf m feeding (lines_of_all p.feeding.items)
 
 -- the net of the last port
 abbrev pub last_net : List Port → ℕ
 last_net ports = port_net (slice_get ports (length ports - 1))
 
--- words of their widths stand in all registers, memories and nets, and at the ports that keep one value
+-- each net that is assigned a literal has its word
+abbrev pub AreConstant : Module → List ℕ → Type 0
+AreConstant m values = (k : ℕ) (a : Assign) (x : Word) → slice_get m.assigns k ≡ Some a → a.expr ≡ Literal x → slice_index values a.target ≡ x.bits
+
+-- words of their widths stand in all registers, memories and nets, and at the ports that keep one value, and the nets of
+-- registers and of literals have their words
 pub record AreKept (m : Module) (c : Counts) (steady held values : List ℕ) (memories : List (List ℕ)) : Type 0 where
   pub blocks : length memories ≡ length m.mems
   pub words : AreWords m values memories
   pub held_nets : length held ≡ length m.nets
   pub held_words : (n : ℕ) → is_reg m n ≡ true → slice_index held n < 2 ^ width_of m n
+  pub loaded : (n : ℕ) → is_reg m n ≡ true → slice_index values n ≡ slice_index held n
+  pub constant : AreConstant m values
   pub steady_ports : length steady ≡ c.kernels + c.scalars
   pub steady_words : (k : ℕ) → k < length steady → slice_index steady k < 2 ^ width_of m (slice_index (outer_of (unnamed c) m).steady k)
 
@@ -89,14 +102,15 @@ pub record IsEvaluated
       → p.output ≡ false
       → IsGiven c reset steady offers accepts holds i (slice_index new p.net)
 
--- the same as far as these assignments give values: the nets had others before, at registers those that they hold and at
--- inputs those that are given
+-- the same as far as these assignments give values: the nets had others before, at registers those that they hold, at
+-- literals their words and at inputs those that are given
 pub record IsEvaluatedBy
     (m : Module) (assigns : List Assign) (c : Counts) (reset : Bool) (steady : List ℕ) (offers : List Offer)
     (accepts holds : List Bool) (held : List ℕ) (memories : List (List ℕ)) (new : List ℕ) : Type 0 where
   pub driven : List ℕ
   pub words : AreWords m driven memories
   pub kept : (n : ℕ) → is_reg m n ≡ true → slice_index driven n ≡ slice_index held n
+  pub constant : AreConstant m driven
   pub given :
       (i : ℕ) (p : Port)
       → slice_get m.ports i ≡ Some p
@@ -104,11 +118,11 @@ pub record IsEvaluatedBy
       → IsGiven c reset steady offers accepts holds i (slice_index driven p.net)
   pub settles : Settles m assigns memories driven new
 
--- whether a net is 1 where all nets have their values, of which only some are new
+-- whether a net is 1 where all nets have their values, of which only some are new. Nothing is held that wasn't before
 pub record IsAnswered
     (m : Module) (net : ℕ) (c : Counts) (reset : Bool) (steady : List ℕ) (offers : List Offer) (accepts holds : List Bool)
     (held : List ℕ) (memories : List (List ℕ)) (new : List ℕ) (answer : Bool) : Type 0 where
-  pub words : AreWords m new memories
+  pub kept : AreKept m c steady held new memories
   pub values : List ℕ
   pub evaluated : IsEvaluated m c reset steady offers accepts holds held memories values
   pub answer_is : answer ≡ nat_eq (slice_index values net) 1
@@ -127,22 +141,26 @@ pub record IsReady
   pub kept : AreKept m c steady held values memories
   pub offered : AreOffered m (outer_of (unnamed c) m) offers
 
--- a simulator between two calls: it has the lines and the updates of the flat module of an accepted design
+-- a simulator between two calls: it has the updates, and the lines of the assignments, of a module that does the same as the
+-- flat module of an accepted design
 pub record Simulates
     (d : Design) (c : Counts) (p : Program) (updates : List Update) (places : List Place)
     (steady held values : List ℕ) (memories : List (List ℕ)) : Type 0 where
   pub accepted : IsAccepted d
   pub flat : Module
   pub is_flat : IsFlat d places flat
-  pub simulable : IsSimulable flat c
-  pub program : IsProgramOf flat (last_net flat.ports) p
-  pub updates_are : updates ≡ flat.updates
+  pub assigns : List Assign
+  pub stand : StandFor flat assigns updates
+  pub simulable : IsSimulable (with_lists flat assigns updates) c
+  pub program : IsProgramOf (with_lists flat assigns updates) (last_net flat.ports) p
   pub has : HasShape is_flat.top simulable.shape
-  pub kept : AreKept flat c steady held values memories
+  pub kept : AreKept (with_lists flat assigns updates) c steady held values memories
 
--- one edge: the values of all nets in it, and what registers and memories hold after it
+-- one edge: the values of all nets in it, which those of the ports still are, and what registers and memories hold after it
 pub record IsStepped
     (m : Module) (c : Counts) (reset : Bool) (steady : List ℕ) (offers : List Offer) (accepts holds : List Bool)
-    (held : List ℕ) (memories : List (List ℕ)) (values later : List ℕ) (words : List (List ℕ)) : Type 0 where
+    (held : List ℕ) (memories : List (List ℕ)) (new later : List ℕ) (words : List (List ℕ)) : Type 0 where
+  pub values : List ℕ
   pub evaluated : IsEvaluated m c reset steady offers accepts holds held memories values
+  pub ports : (i : ℕ) (p : Port) → slice_get m.ports i ≡ Some p → slice_index new p.net ≡ slice_index values p.net
   pub after : contents_of later words ≡ after_edge m (contents_of held memories) (family_of values)

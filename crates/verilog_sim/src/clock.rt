@@ -1,4 +1,4 @@
-// What the registers and memories hold: read before an edge, written after it.
+// What the registers and memories hold: written after an edge, and given to the registers then.
 ghost use Rattle.std.specs.Prelude.{◌≡◌, ◌⊎◌, ℕ, ◌<◌, List, [], length, All, Some, slice_get, slice_index, slice_index_or};
 ghost use Rattle.rtl_ir.specs.declared.design.Module.{Module};
 ghost use Rattle.rtl_ir.specs.declared.design.Update.{Update};

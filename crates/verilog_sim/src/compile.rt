@@ -4,7 +4,7 @@ ghost use Rattle.rtl_ir.specs.Typed.{IsTyped};
 ghost use Rattle.rtl_ir.specs.Formed.{IsFormedExpr};
 ghost use Rattle.rtl_ir.specs.Value.{width_of};
 ghost use Rattle.verilog_sim.specs.Lines.{IsSafe};
-ghost use Rattle.verilog_sim.specs.Compiled.{IsBinary, AreLinesOf, HasStep, HasLines, IsAddedLiteral, IsNarrow};
+ghost use Rattle.verilog_sim.specs.Compiled.{IsBinary, IsStepOf, AreLinesOf, IsNarrow};
 ghost use Rattle.verilog_sim.specs.Batches.{lines_of_all};
 ghost use Rattle.verilog_sim.specs.Runnable.{IsRunnable, IsPartOf};
 
@@ -15,53 +15,44 @@ use mx_base::NoMemory;
 use rtl_ir::{Assign, Expr, Module, NetId, Sign};
 use std::alloc::Global;
 
-/// The lines of a module in the order in which they are evaluated, those of them that feed a net, and
-/// the literals of both.
+/// The lines of a module that are evaluated in an edge, in this order, and those of them that feed a
+/// net.
 #[derive(Drop)]
 pub(crate) struct Program {
-    pub(crate) all: Vec<Batch>,
+    pub(crate) edge: Vec<Batch>,
     pub(crate) feeding: Vec<Batch>,
-    pub(crate) literals: Vec<u128>,
 }
 
 /// The lines of both orders of a module.
 pub(crate) fn compile(alloc: Global, module: &Module, orders: &Orders) -> Result<Program, NoMemory>
-    requires all { IsPartOf module.now orders.now.all.items }
+    requires edge { IsPartOf module.now orders.now.edge.items }
     requires feeding { IsPartOf module.now orders.now.feeding.items }
     requires runnable { IsRunnable module.now }
-    ensures all { IfOk result (λ p. AreLinesOf module.now p.literals.items orders.now.all.items (lines_of_all p.all.items)) }
-    ensures feeding { IfOk result (λ p. AreLinesOf module.now p.literals.items orders.now.feeding.items (lines_of_all p.feeding.items)) }
+    ensures edge { IfOk result (λ p. AreLinesOf module.now orders.now.edge.items (lines_of_all p.edge.items)) }
+    ensures feeding { IfOk result (λ p. AreLinesOf module.now orders.now.feeding.items (lines_of_all p.feeding.items)) }
 {
-    let mut literals = Vec::new(alloc);
-    let lines = lines_of(alloc, module, orders.all.as_slice(), &mut literals)?;
-    let feeding = lines_of(alloc, module, orders.feeding.as_slice(), &mut literals)?;
+    let lines = lines_of(alloc, module, orders.edge.as_slice())?;
+    let feeding = lines_of(alloc, module, orders.feeding.as_slice())?;
     Ok(Program {
-        all: batches_of(alloc, lines.as_slice())?,
+        edge: batches_of(alloc, lines.as_slice())?,
         feeding: batches_of(alloc, feeding.as_slice())?,
-        literals,
     })
 }
 
-/// The lines of these assignments. Their literals are added to the table.
-fn lines_of(
-    alloc: Global,
-    module: &Module,
-    order: &[Assign],
-    literals: &mut Vec<u128>,
-) -> Result<Vec<Line>, NoMemory>
+/// The lines of these assignments.
+fn lines_of(alloc: Global, module: &Module, order: &[Assign]) -> Result<Vec<Line>, NoMemory>
     requires runnable { IsRunnable module.now }
     requires order { IsPartOf module.now order.now }
-    ensures { IfOk result (λ lines. HasLines module.now order.now lines.items literals.old.items literals.new.items) }
+    ensures { IfOk result (λ lines. AreLinesOf module.now order.now lines.items) }
 {
     let mut lines = Vec::new(alloc);
     for assign in order {
         let width = module.width(assign.target);
-        let step = step_of(module, &assign.expr, literals)?;
         lines.push(Line {
             target: assign.target,
             width,
             narrow: is_narrow(alloc, module, assign),
-            step,
+            step: step_of(module, &assign.expr),
         })?;
     }
     Ok(lines)
@@ -80,15 +71,14 @@ pub(crate) fn is_narrow(alloc: Global, module: &Module, assign: &Assign) -> bool
     module.width(assign.target) <= 64
 }
 
-/// The step of an expression. The word of a literal is added to the table.
-#[tactic(auto, using(crate::proofs::Compiling::literal_step))]
-fn step_of(module: &Module, expr: &Expr, literals: &mut Vec<u128>) -> Result<Step, NoMemory>
+/// The step of an expression.
+fn step_of(module: &Module, expr: &Expr) -> Step
     requires formed { IsFormedExpr module.now expr.now }
-    ensures { IfOk result (λ step. HasStep module.now expr.now step literals.old.items literals.new.items) }
+    ensures { IsStepOf module.now expr.now result }
 {
-    Ok(match *expr {
+    match *expr {
         Expr::Net(a) => Step::Copy(a),
-        Expr::Literal(word) => literal(word.bits(), literals)?,
+        Expr::Literal(word) => Step::Literal(word.bits()),
         Expr::Not(a) => Step::Not(a),
         Expr::Binary(sign, a, b) => binary(sign, a, b),
         Expr::Concat(a, b) => Step::Concat(a, b, module.width(b)),
@@ -96,16 +86,7 @@ fn step_of(module: &Module, expr: &Expr, literals: &mut Vec<u128>) -> Result<Ste
         Expr::Part(a, _, lo) => Step::Part(a, lo),
         Expr::Choose(a, b, c) => Step::Choose(a, b, c),
         Expr::Cell(k, a) => Step::Cell(k, a),
-    })
-}
-
-/// The step of a literal whose word is added to the table.
-fn literal(word: u128, literals: &mut Vec<u128>) -> Result<Step, NoMemory>
-    ensures { IfOk result (λ step. IsAddedLiteral word step literals.old.items literals.new.items) }
-{
-    let number = literals.len();
-    literals.push(word)?;
-    Ok(Step::Literal(number))
+    }
 }
 
 fn binary(sign: Sign, a: NetId, b: NetId) -> Step

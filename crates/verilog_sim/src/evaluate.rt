@@ -3,6 +3,7 @@ ghost use Rattle.std.specs.Prelude.{◌≡◌, ℕ, ◌+◌, ◌*◌, ◌<◌, �
 ghost use Rattle.rtl_ir.specs.declared.design.Module.{Module};
 ghost use Rattle.rtl_ir.specs.declared.design.Assign.{Assign};
 ghost use Rattle.rtl_ir.specs.declared.design.Port.{Port};
+ghost use Rattle.rtl_ir.specs.declared.design.Update.{Update};
 ghost use Rattle.rtl_ir.specs.Ports.{port_net};
 ghost use Rattle.verilog_sim.specs.declared.offer.Event.{Event};
 ghost use Rattle.verilog_sim.specs.Calls.{event_of};
@@ -24,34 +25,32 @@ use crate::settle::settle;
 use crate::values::Values;
 use rtl_ir::{NetId, Port, Update};
 
-/// Gives nets of a flat module their values: registers, inputs and the targets of these batches.
+/// Gives nets of a flat module their values: inputs and the targets of these batches. The registers
+/// have theirs before.
 pub(crate) fn evaluate(
     ports: &[Port],
-    updates: &[Update],
     counts: Counts,
-    literals: &[u128],
     batches: &[Batch],
     given: &Given<'_>,
-    held: &[u128],
     memories: &[Memory],
     values: &mut Values,
 )
-    requires { (m : Module) × (assigns : List Assign)
-        × IsReady m ports.now updates.now counts given.now.steady.now given.now.offers.now held.now values.old memories.now
-        × IsPartOf m assigns × AreLinesOf m literals.now assigns (lines_of_all batches.now) }
+    requires { (m : Module) × (assigns : List Assign) × (updates : List Update) × (held : List ℕ)
+        × IsReady m ports.now updates counts given.now.steady.now given.now.offers.now held values.old memories.now
+        × IsPartOf m assigns × AreLinesOf m assigns (lines_of_all batches.now) }
     // each module for which all is there
-    ensures { (m : Module) (assigns : List Assign)
-        → IsReady m ports.now updates.now counts given.now.steady.now given.now.offers.now held.now values.old memories.now
-        → IsPartOf m assigns → AreLinesOf m literals.now assigns (lines_of_all batches.now)
+    ensures { (m : Module) (assigns : List Assign) (updates : List Update) (held : List ℕ)
+        → IsReady m ports.now updates counts given.now.steady.now given.now.offers.now held values.old memories.now
+        → IsPartOf m assigns → AreLinesOf m assigns (lines_of_all batches.now)
         → IsEvaluatedBy m assigns counts given.now.reset given.now.steady.now given.now.offers.now
-        given.now.accepts.now given.now.holds.now held.now memories.now values.new }
+        given.now.accepts.now given.now.holds.now held memories.now values.new }
 {
-    load(updates, held, values);
     drive(ports, counts, given, values);
-    settle(batches, literals, memories, values);
+    settle(batches, memories, values);
 }
 
-/// One edge: gives each net its value, and writes registers and memories.
+/// One edge: gives each net its value, and writes registers and memories. After it the registers
+/// have their new values.
 pub(crate) fn step(
     ports: &[Port],
     updates: &[Update],
@@ -73,40 +72,33 @@ pub(crate) fn step(
         × IsStepped m counts given.now.reset given.now.steady.now given.now.offers.now
         given.now.accepts.now given.now.holds.now held.old memories.old values.new held.new memories.new }
 {
-    let batches = program.all.as_slice();
-    let literals = program.literals.as_slice();
-    evaluate(
-        ports, updates, counts, literals, batches, given, held, memories, values,
-    );
+    let batches = program.edge.as_slice();
+    evaluate(ports, counts, batches, given, memories, values);
     clock(updates, values, held, memories);
+    load(updates, held, values);
 }
 
 /// Whether the last port is 1. Nets that have no part in that may keep older values.
 pub(crate) fn is_done(
     ports: &[Port],
-    updates: &[Update],
     counts: Counts,
     program: &Program,
     given: &Given<'_>,
-    held: &[u128],
     memories: &[Memory],
     values: &mut Values,
 ) -> bool
-    requires { (m : Module)
-        × IsReady m ports.now updates.now counts given.now.steady.now given.now.offers.now held.now values.old memories.now
+    requires { (m : Module) × (updates : List Update) × (held : List ℕ)
+        × IsReady m ports.now updates counts given.now.steady.now given.now.offers.now held values.old memories.now
         × IsProgramOf m (last_net ports.now) program.now }
     // each module for which all is there
-    ensures { (m : Module)
-        → IsReady m ports.now updates.now counts given.now.steady.now given.now.offers.now held.now values.old memories.now
+    ensures { (m : Module) (updates : List Update) (held : List ℕ)
+        → IsReady m ports.now updates counts given.now.steady.now given.now.offers.now held values.old memories.now
         → IsProgramOf m (last_net ports.now) program.now
         → IsAnswered m (last_net ports.now) counts given.now.reset given.now.steady.now given.now.offers.now
-        given.now.accepts.now given.now.holds.now held.now memories.now values.new result }
+        given.now.accepts.now given.now.holds.now held memories.now values.new result }
 {
     let batches = program.feeding.as_slice();
-    let literals = program.literals.as_slice();
-    evaluate(
-        ports, updates, counts, literals, batches, given, held, memories, values,
-    );
+    evaluate(ports, counts, batches, given, memories, values);
     value_at(ports, values, ports.len() - 1) == 1
 }
 

@@ -10,15 +10,35 @@ use mx_base::NoMemory;
 use rtl_ir::{Assign, Expr, Module, Sign};
 use std::alloc::Global;
 
-/// An assignment, the level of its target, and the number of its operation.
+/// The kinds of batches, in the order in which they follow one another within a level.
+#[derive(Clone, Copy, Drop, PartialEq, Eq, PartialOrd, Ord)]
+pub(crate) enum Kind {
+    General,
+    Alias,
+    Complement,
+    Sum,
+    Difference,
+    Product,
+    Conjunction,
+    Disjunction,
+    ExclusiveOr,
+    Equality,
+    Less,
+    Concatenation,
+    PartSelect,
+    Choice,
+    MemoryRead,
+}
+
+/// An assignment, the level of its target, and the kind of its batches.
 #[derive(Clone, Copy, Drop)]
 pub(crate) struct Ranked {
     pub(crate) level: u64,
-    pub(crate) operation: u8,
+    pub(crate) kind: Kind,
     pub(crate) assign: Assign,
 }
 
-/// The same assignments by level, and those of one level by operation.
+/// The same assignments by level, and those of one level by kind.
 pub(crate) fn by_level(
     alloc: Global,
     module: &Module,
@@ -30,7 +50,7 @@ pub(crate) fn by_level(
 {
     let levels = levels_of(alloc, module, order)?;
     let mut ranked = rank_all(alloc, module, order, levels.as_slice())?;
-    ranked.sort_by_key(|item| item.operation)?;
+    ranked.sort_by_key(|item| item.kind)?;
     ranked.sort_by_key(|item| item.level)?;
     assigns_of(alloc, ranked.as_slice())
 }
@@ -84,7 +104,7 @@ fn rank_all(
     for assign in order {
         items.push(Ranked {
             level: levels[assign.target.index()],
-            operation: operation_number(alloc, module, assign),
+            kind: kind_of(alloc, module, assign),
             assign: *assign,
         })?;
     }
@@ -101,34 +121,33 @@ fn assigns_of(alloc: Global, ranked: &[Ranked]) -> Result<Vec<Assign>, NoMemory>
     Ok(assigns)
 }
 
-/// The number of the operation of an assignment among those that have batches of their own, and 0
-/// of any other.
-fn operation_number(alloc: Global, module: &Module, assign: &Assign) -> u8 {
+/// The kind of the batches that the line of an assignment may stand in.
+fn kind_of(alloc: Global, module: &Module, assign: &Assign) -> Kind {
     if !is_narrow(alloc, module, assign) {
-        return 0;
+        return Kind::General;
     }
     match assign.expr {
-        Expr::Literal(_) | Expr::Repeat(_, _) => 0,
-        Expr::Net(_) => 1,
-        Expr::Not(_) => 2,
-        Expr::Binary(sign, _, _) => sign_number(sign),
-        Expr::Concat(_, _) => 11,
-        Expr::Part(_, _, _) => 12,
-        Expr::Choose(_, _, _) => 13,
-        Expr::Cell(_, _) => 14,
+        Expr::Literal(_) | Expr::Repeat(_, _) => Kind::General,
+        Expr::Net(_) => Kind::Alias,
+        Expr::Not(_) => Kind::Complement,
+        Expr::Binary(sign, _, _) => kind_of_sign(sign),
+        Expr::Concat(_, _) => Kind::Concatenation,
+        Expr::Part(_, _, _) => Kind::PartSelect,
+        Expr::Choose(_, _, _) => Kind::Choice,
+        Expr::Cell(_, _) => Kind::MemoryRead,
     }
 }
 
-fn sign_number(sign: Sign) -> u8 {
+fn kind_of_sign(sign: Sign) -> Kind {
     match sign {
-        Sign::Div => 0,
-        Sign::Add => 3,
-        Sign::Sub => 4,
-        Sign::Mul => 5,
-        Sign::And => 6,
-        Sign::Or => 7,
-        Sign::Xor => 8,
-        Sign::Eq => 9,
-        Sign::Lt => 10,
+        Sign::Add => Kind::Sum,
+        Sign::Sub => Kind::Difference,
+        Sign::Mul => Kind::Product,
+        Sign::Div => Kind::General,
+        Sign::And => Kind::Conjunction,
+        Sign::Or => Kind::Disjunction,
+        Sign::Xor => Kind::ExclusiveOr,
+        Sign::Eq => Kind::Equality,
+        Sign::Lt => Kind::Less,
     }
 }

@@ -24,6 +24,7 @@ mod narrow;
 mod offer;
 mod operations;
 mod order;
+mod origin;
 mod parts;
 mod place;
 mod settle;

@@ -9,11 +9,11 @@ use crate::values::Values;
 use rtl_ir::{MemId, NetId};
 
 /// The right side of an assignment, with the widths that it needs. The operands are nets and
-/// memories by number, and a literal is the number of a word in a table.
+/// memories by number.
 #[derive(Clone, Copy, Drop)]
 pub(crate) enum Step {
     Copy(NetId),
-    Literal(usize),
+    Literal(u128),
     Not(NetId),
     Add(NetId, NetId),
     Sub(NetId, NetId),
@@ -77,30 +77,24 @@ pub(crate) fn reduce_half(number: u64, width: u8) -> u64
 }
 
 /// The value of a line.
-pub(crate) fn value_of(line: Line, literals: &[u128], memories: &[Memory], values: &Values) -> u128
-    requires safe { IsSafe (length values.now) (length memories.now) (length literals.now) line }
-    ensures { result ≡ step_value literals.now memories.now (λ n. slice_index values.now n) line.width line.step }
+pub(crate) fn value_of(line: Line, memories: &[Memory], values: &Values) -> u128
+    requires safe { IsSafe (length values.now) (length memories.now) line }
+    ensures { result ≡ step_value memories.now (λ n. slice_index values.now n) line.width line.step }
 {
-    wide_value(line.step, line.width, literals, memories, values)
+    wide_value(line.step, line.width, memories, values)
 }
 
 /// The value of a step for a net of so many bits.
 #[tactic(auto, using(mx_bits::proofs::Reducing::reducing))]
-fn wide_value(
-    step: Step,
-    width: u8,
-    literals: &[u128],
-    memories: &[Memory],
-    values: &Values,
-) -> u128
+fn wide_value(step: Step, width: u8, memories: &[Memory], values: &Values) -> u128
     requires some { 1 ≤ width }
     requires at_most { width ≤ 128 }
-    requires safe { IsStepSafe (length values.now) (length memories.now) (length literals.now) step }
-    ensures { result ≡ step_value literals.now memories.now (λ n. slice_index values.now n) width step }
+    requires safe { IsStepSafe (length values.now) (length memories.now) step }
+    ensures { result ≡ step_value memories.now (λ n. slice_index values.now n) width step }
 {
     match step {
         Step::Copy(a) => values.get(a),
-        Step::Literal(i) => literals[i],
+        Step::Literal(word) => word,
         Step::Not(a) => reduce(!values.get(a), width),
         Step::Add(a, b) => reduce(values.get(a).wrapping_add(values.get(b)), width),
         Step::Sub(a, b) => reduce(values.get(a).wrapping_sub(values.get(b)), width),

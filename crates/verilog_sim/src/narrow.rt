@@ -15,10 +15,10 @@ pub(crate) fn settle_entries<R: Operation>(
     memories: &[Memory],
     low: &mut [u64],
 )
-    requires safe { (l : ℕ) × All (IsSafe (length low.old) (length memories.now) l) (map (line_of R.step) entries.now) }
+    requires safe { All (IsSafe (length low.old) (length memories.now)) (map (line_of R.step) entries.now) }
     // whatever the high bits are
-    ensures { (ls high : List ℕ) → length low.old ≡ length high
-        → Advances ls (map (line_of R.step) entries.now) memories.now (words low.old high) (words low.new high) }
+    ensures { (high : List ℕ) → length low.old ≡ length high
+        → Advances (map (line_of R.step) entries.now) memories.now (words low.old high) (words low.new high) }
 {
     for entry in entries {
         low[entry.target.index()] = entry.reads.value(entry.width, memories, low);

@@ -19,9 +19,9 @@ pub(crate) trait Operation: Copy {
     fn value(&self, width: u8, memories: &[Memory], low: &[u64]) -> u64
         requires some { 1 ≤ width }
         requires at_most { width ≤ 64 }
-        requires safe { (l : ℕ) × IsStepSafe (length low.now) (length memories.now) l (step self.now) }
-        ensures { (ls : List ℕ) → step_value ls memories.now (λ n. slice_index low.now n % 2 ^ 64) width (step self.now) < 2 ^ 64
-            → result ≡ step_value ls memories.now (λ n. slice_index low.now n % 2 ^ 64) width (step self.now) };
+        requires safe { IsStepSafe (length low.now) (length memories.now) (step self.now) }
+        ensures { step_value memories.now (λ n. slice_index low.now n % 2 ^ 64) width (step self.now) < 2 ^ 64
+            → result ≡ step_value memories.now (λ n. slice_index low.now n % 2 ^ 64) width (step self.now) };
 }
 
 /// The low 64 bits of the value of a net.

@@ -1,15 +1,18 @@
 // An order in which the assignments of a module can be evaluated.
-ghost use Rattle.std.specs.Prelude.{◌≡◌, ℕ, ◌≤◌, ◌<◌, ◌^◌, List, [], length, Option, Some, slice_get, slice_index, replicate, IfOk};
+ghost use Rattle.std.specs.Prelude.{◌≡◌, ℕ, ◌≤◌, ◌<◌, ◌^◌, true, List, [], length, Option, Some, slice_get, slice_index, replicate, IfOk};
 ghost use Rattle.rtl_ir.specs.declared.design.Assign.{Assign};
 ghost use Rattle.rtl_ir.specs.Operands.{reads, IsRead};
 ghost use Rattle.verilog_sim.specs.Runnable.{IsRunnable, IsOrderOf};
 ghost use Rattle.verilog_sim.specs.Drivers.{AreDrivers, IsGathered};
-ghost use Rattle.verilog_sim.specs.Feeding.{AreMarkedFrom, AreReadsMarked, IsFeeding, marked_of};
+ghost use Rattle.rtl_ir.specs.declared.design.Port.{Port};
+ghost use Rattle.rtl_ir.specs.declared.design.Update.{Update};
+ghost use Rattle.verilog_sim.specs.Feeding;
+ghost use Rattle.verilog_sim.specs.Feeding.{is_marked, AreMarkedFrom, AreReadsMarked, IsFeeding, marked_of, IsSeen, ArePortsIn, AreNetsBelow, AreNetsMarked, AreOrders};
 
 use crate::level::by_level;
 use digraph::{Found, Row, rank};
 use mx_base::{List, NoMemory};
-use rtl_ir::{Assign, Expr, Module, NetId};
+use rtl_ir::{Assign, Expr, Module, NetId, Port, Target, Update};
 use std::alloc::Global;
 
 /// Which nets each net reads, and the number of its assignment where it has one.
@@ -19,30 +22,34 @@ struct Drivers {
     by_net: Vec<Option<usize>>,
 }
 
-/// The assignments of a module, each after those whose targets it reads, and in the same order those
-/// that feed one of its nets.
+/// The assignments of a module that give the values seen in an edge, each after those whose targets it
+/// reads, and in the same order those that feed one of its nets. Literals are in neither.
 #[derive(Drop)]
 pub(crate) struct Orders {
-    pub(crate) all: Vec<Assign>,
+    pub(crate) edge: Vec<Assign>,
     pub(crate) feeding: Vec<Assign>,
 }
 
-/// Both orders of a module, with the assignments that feed this net.
+/// Both orders of a module whose assignments stand each after those whose targets it reads, with
+/// those that feed this net.
 pub(crate) fn both_orders(alloc: Global, module: &Module, net: NetId) -> Result<Orders, NoMemory>
     requires runnable { IsRunnable module.now }
-    requires small { length module.now.nets ≤ 2 ^ 32 }
+    requires ordered { IsOrderOf module.now module.now.assigns }
+    requires ports { ArePortsIn module.now }
     requires net { net < length module.now.nets }
-    ensures { IfOk result (λ o. IsOrderOf module.now o.all.items × IsFeeding o.all.items o.feeding.items net) }
+    ensures { IfOk result (λ o. AreOrders module.now net o.edge.items o.feeding.items) }
 {
-    let order = in_order(alloc, module)?;
-    let all = by_level(alloc, module, order.as_slice())?;
-    let marks = marks_of(alloc, module, all.as_slice(), net)?;
-    let feeding = marked(alloc, all.as_slice(), marks.as_slice())?;
-    Ok(Orders { all, feeding })
+    let all = by_level(alloc, module, module.assigns.as_slice())?;
+    let seen = seen_nets(alloc, module)?;
+    let one = one_net(alloc, module.nets.len(), net)?;
+    Ok(Orders {
+        edge: feeding(alloc, module, all.as_slice(), seen)?,
+        feeding: feeding(alloc, module, all.as_slice(), one)?,
+    })
 }
 
 /// The assignments of a module, each after those whose targets it reads.
-fn in_order(alloc: Global, module: &Module) -> Result<Vec<Assign>, NoMemory>
+pub(crate) fn in_order(alloc: Global, module: &Module) -> Result<Vec<Assign>, NoMemory>
     requires runnable { IsRunnable module.now }
     requires small { length module.now.nets ≤ 2 ^ 32 }
     ensures { IfOk result (λ order. IsOrderOf module.now order.items) }
@@ -129,30 +136,107 @@ fn gather(
     Ok(order)
 }
 
-/// Marks a net and all nets on which its value depends.
-fn marks_of(
-    alloc: Global,
-    module: &Module,
-    order: &[Assign],
-    net: NetId,
-) -> Result<Vec<bool>, NoMemory>
+/// Marks the nets that are seen in an edge: those of ports, and those that updates read or write.
+fn seen_nets(alloc: Global, module: &Module) -> Result<Vec<bool>, NoMemory>
     requires runnable { IsRunnable module.now }
-    requires order { IsOrderOf module.now order.now }
-    requires net { net < length module.now.nets }
-    ensures marked { IfOk result (λ marks. AreMarkedFrom order.now net marks.items 0) }
+    requires ports { ArePortsIn module.now }
+    ensures seen { IfOk result (λ marks. (n : ℕ) → IsSeen module.now n → is_marked marks.items n ≡ true) }
     ensures size { IfOk result (λ marks. length marks.items ≡ length module.now.nets) }
 {
     let mut marks = vec![in alloc; false; module.nets.len()]?;
+    mark_ports(module.ports.as_slice(), marks.as_mut_slice());
+    mark_updates(module.updates.as_slice(), marks.as_mut_slice());
+    Ok(marks)
+}
+
+/// Marks one of so many nets.
+fn one_net(alloc: Global, nets: usize, net: NetId) -> Result<Vec<bool>, NoMemory>
+    requires { net < nets }
+    ensures net { IfOk result (λ marks. is_marked marks.items net ≡ true) }
+    ensures size { IfOk result (λ marks. length marks.items ≡ nets) }
+{
+    let mut marks = vec![in alloc; false; nets]?;
     marks[net.index()] = true;
+    Ok(marks)
+}
+
+/// Marks the nets of ports.
+fn mark_ports(ports: &[Port], marks: &mut [bool])
+    requires { (i : ℕ) (p : Port) → slice_get ports.now i ≡ Some p → p.net < length marks.old }
+    ensures kept { (n : ℕ) → is_marked marks.old n ≡ true → is_marked marks.new n ≡ true }
+    ensures ports { (i : ℕ) (p : Port) → slice_get ports.now i ≡ Some p → is_marked marks.new p.net ≡ true }
+{
+    for port in ports {
+        marks[port.net.index()] = true;
+    }
+}
+
+/// Marks the nets that updates read, and the registers that they write.
+fn mark_updates(updates: &[Update], marks: &mut [bool])
+    requires { (i : ℕ) (u : Update) → slice_get updates.now i ≡ Some u → AreNetsBelow (length marks.old) u }
+    ensures kept { (n : ℕ) → is_marked marks.old n ≡ true → is_marked marks.new n ≡ true }
+    ensures updates { (i : ℕ) (u : Update) → slice_get updates.now i ≡ Some u → AreNetsMarked marks.new u }
+{
+    for update in updates {
+        mark_update(update, marks);
+    }
+}
+
+/// Marks the nets of an update.
+fn mark_update(update: &Update, marks: &mut [bool])
+    requires { AreNetsBelow (length marks.old) update.now }
+    ensures kept { (n : ℕ) → is_marked marks.old n ≡ true → is_marked marks.new n ≡ true }
+    ensures nets { AreNetsMarked marks.new update.now }
+{
+    let net = match update.target {
+        Target::Reg(net) => net,
+        Target::Cell(_, address) => address,
+    };
+    mark(update.enable, marks);
+    mark(update.value, marks);
+    mark(net, marks);
+}
+
+fn mark(net: NetId, marks: &mut [bool])
+    requires { net < length marks.old }
+    ensures kept { (n : ℕ) → is_marked marks.old n ≡ true → is_marked marks.new n ≡ true }
+    ensures net { is_marked marks.new net ≡ true }
+{
+    marks[net.index()] = true;
+}
+
+/// The assignments, but literals, on which the values of marked nets depend, in their order.
+fn feeding(
+    alloc: Global,
+    module: &Module,
+    order: &[Assign],
+    mut marks: Vec<bool>,
+) -> Result<Vec<Assign>, NoMemory>
+    requires runnable { IsRunnable module.now }
+    requires order { IsOrderOf module.now order.now }
+    requires size { length marks.items ≡ length module.now.nets }
+    ensures { IfOk result (λ l. IsFeeding order.now l.items (λ n. is_marked marks.items n ≡ true)) }
+{
+    mark_fed(alloc, module, order, marks.as_mut_slice());
+    marked(alloc, order, marks.as_slice())
+}
+
+/// Marks all nets on which the values of marked nets depend.
+fn mark_fed(alloc: Global, module: &Module, order: &[Assign], marks: &mut [bool])
+    requires runnable { IsRunnable module.now }
+    requires order { IsOrderOf module.now order.now }
+    requires size { length marks.old ≡ length module.now.nets }
+    ensures kept { (n : ℕ) → is_marked marks.old n ≡ true → is_marked marks.new n ≡ true }
+    ensures marked { AreMarkedFrom order.now marks.new 0 }
+{
     let mut left = order.len();
     while left > 0 {
         left -= 1;
         let assign = order[left];
         if marks[assign.target.index()] {
-            mark_reads(alloc, &assign.expr, marks.as_mut_slice());
+            mark_reads(alloc, &assign.expr, marks);
         }
     }
-    Ok(marks)
 }
 
 /// Marks the nets that an expression reads.
@@ -166,16 +250,22 @@ fn mark_reads(alloc: Global, expr: &Expr, marks: &mut [bool])
     }
 }
 
-/// The assignments to marked nets, in their order.
+/// The assignments to marked nets, but literals, in their order.
 fn marked(alloc: Global, order: &[Assign], marks: &[bool]) -> Result<Vec<Assign>, NoMemory>
     requires { (i : ℕ) (a : Assign) → slice_get order.now i ≡ Some a → a.target < length marks.now }
     ensures { IfOk result (λ l. l.items ≡ marked_of marks.now order.now) }
 {
     let mut picked = Vec::new(alloc);
     for assign in order {
-        if marks[assign.target.index()] {
+        if marks[assign.target.index()] && !is_literal(&assign.expr) {
             picked.push(*assign)?;
         }
     }
     Ok(picked)
+}
+
+fn is_literal(expr: &Expr) -> bool
+    ensures { result ≡ Feeding.is_literal expr.now }
+{
+    matches!(expr, Expr::Literal(_))
 }

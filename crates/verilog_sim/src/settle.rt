@@ -13,24 +13,24 @@ use crate::memory::Memory;
 use crate::values::Values;
 
 /// Gives each target of the lines of these batches its value, in their order.
-pub(crate) fn settle(batches: &[Batch], literals: &[u128], memories: &[Memory], values: &mut Values)
-    requires safe { All (IsSafe (length values.old) (length memories.now) (length literals.now)) (lines_of_all batches.now) }
+pub(crate) fn settle(batches: &[Batch], memories: &[Memory], values: &mut Values)
+    requires safe { All (IsSafe (length values.old) (length memories.now)) (lines_of_all batches.now) }
     // the assignments, in this order, of each module whose lines these are
-    ensures { (m : Module) (assigns : List Assign) → AreLinesOf m literals.now assigns (lines_of_all batches.now) → IsInOrder m assigns
+    ensures { (m : Module) (assigns : List Assign) → AreLinesOf m assigns (lines_of_all batches.now) → IsInOrder m assigns
         → AreWords m values.old memories.now → Settles m assigns memories.now values.old values.new }
 {
     for batch in batches {
-        settle_batch(batch, literals, memories, values);
+        settle_batch(batch, memories, values);
     }
 }
 
-fn settle_batch(batch: &Batch, literals: &[u128], memories: &[Memory], values: &mut Values)
-    requires safe { All (IsSafe (length values.old) (length memories.now) (length literals.now)) (lines_in batch.now) }
-    ensures advances { Advances literals.now (lines_in batch.now) memories.now values.old values.new }
+fn settle_batch(batch: &Batch, memories: &[Memory], values: &mut Values)
+    requires safe { All (IsSafe (length values.old) (length memories.now)) (lines_in batch.now) }
+    ensures advances { Advances (lines_in batch.now) memories.now values.old values.new }
     ensures size { length values.new ≡ length values.old }
 {
     match batch {
-        Batch::General(lines) => settle_lines(lines.as_slice(), literals, memories, values),
+        Batch::General(lines) => settle_lines(lines.as_slice(), memories, values),
         Batch::Aliases(entries) => values.settle(entries.as_slice(), memories),
         Batch::Complements(entries) => values.settle(entries.as_slice(), memories),
         Batch::Sums(entries) => values.settle(entries.as_slice(), memories),
@@ -49,13 +49,13 @@ fn settle_batch(batch: &Batch, literals: &[u128], memories: &[Memory], values: &
 }
 
 /// Gives each target of these lines its value, in their order.
-fn settle_lines(lines: &[Line], literals: &[u128], memories: &[Memory], values: &mut Values)
-    requires safe { All (IsSafe (length values.old) (length memories.now) (length literals.now)) lines.now }
-    ensures advances { Advances literals.now lines.now memories.now values.old values.new }
+fn settle_lines(lines: &[Line], memories: &[Memory], values: &mut Values)
+    requires safe { All (IsSafe (length values.old) (length memories.now)) lines.now }
+    ensures advances { Advances lines.now memories.now values.old values.new }
     ensures size { length values.new ≡ length values.old }
 {
     for line in lines {
-        let value = value_of(*line, literals, memories, values);
+        let value = value_of(*line, memories, values);
         values.set(line.target, value);
     }
 }

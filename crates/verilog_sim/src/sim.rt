@@ -14,12 +14,13 @@ ghost use Rattle.verilog_sim.specs.Start.{all_cells, IsFilled, IsRefusal, filled
 use crate::cells::count_cells;
 use crate::compile::{Program, compile};
 use crate::evaluate::{is_done, net_of_last, step, tell};
-use crate::flatten::{Flat, flatten};
+use crate::flatten::flatten;
 use crate::given::{Counts, Given, counts_of};
 use crate::memory::Memory;
 use crate::order::both_orders;
+use crate::origin::at_origins;
 use crate::place::Place;
-use crate::start::{memories, registers};
+use crate::start::{first_values, memories, registers};
 use crate::values::Values;
 use crate::{Event, Offer, SimError};
 use mx_base::List;
@@ -99,18 +100,21 @@ impl<'a> Sim<'a> {
             return Err(SimError::TooManyCells(cells));
         }
         let counts = counts_of(interface);
-        let Flat { module, places } = flatten(alloc, design)?;
+        let flat = flatten(alloc, design)?;
+        let module = at_origins(alloc, flat.module)?;
         let done = net_of_last(module.ports.as_slice());
         let orders = both_orders(alloc, &module, done)?;
+        let held = registers(alloc, &module, fill)?;
+        let values = first_values(alloc, &module, held.as_slice())?;
         Ok(Sim {
             design,
             counts,
             program: compile(alloc, &module, &orders)?,
-            places,
+            places: flat.places,
             steady: vec![in alloc; 0; counts.kernels + counts.scalars]?,
-            held: registers(alloc, &module, fill)?,
+            held,
             memories: memories(alloc, &module, fill)?,
-            values: Values::zeros(alloc, module.nets.len())?,
+            values,
             updates: module.updates,
         })
     }
@@ -166,11 +170,9 @@ impl<'a> Sim<'a> {
         let ports = self.design.top().ports.as_slice();
         is_done(
             ports,
-            self.updates.as_slice(),
             self.counts,
             &self.program,
             &given,
-            self.held.as_slice(),
             self.memories.as_slice(),
             &mut self.values,
         )

@@ -1,14 +1,18 @@
 // What a simulator holds before its first call.
-ghost use Rattle.std.specs.Prelude.{◌≡◌, ℕ, ◌^◌, ◌-◌, min, length, map, Some, slice_get, IfOk};
+ghost use Rattle.std.specs.Prelude.{◌≡◌, ℕ, ◌^◌, ◌-◌, ◌<◌, min, length, map, Some, slice_get, IfOk};
 ghost use Rattle.rtl_ir.specs.declared.design.Net.{Net};
 ghost use Rattle.rtl_ir.specs.declared.design.Mem.{Mem};
-ghost use Rattle.verilog_sim.specs.Runnable.{IsSizedNet, IsSizedMem};
+ghost use Rattle.rtl_ir.specs.declared.design.Assign.{Assign};
+ghost use Rattle.verilog_sim.specs.Runnable.{IsRunnable, IsSizedNet, IsSizedMem};
 ghost use Rattle.verilog_sim.specs.Start.{held_at_start, words_at_start};
+ghost use Rattle.verilog_sim.specs.First.{AreFirst, AreLiteralsSet};
 
+use crate::clock::load;
 use crate::line::reduce;
 use crate::memory::Memory;
+use crate::values::Values;
 use mx_base::NoMemory;
-use rtl_ir::Module;
+use rtl_ir::{Assign, Expr, Module};
 use std::alloc::Global;
 
 /// The low bits of a word in each register, and 0 at each other net.
@@ -35,4 +39,33 @@ pub(crate) fn memories(alloc: Global, module: &Module, fill: u128) -> Result<Vec
         memories.push(Memory::new(alloc, word, memory.depth)?)?;
     }
     Ok(memories)
+}
+
+/// The values of nets before the first edge: the words of registers and of literals, and 0 at all
+/// others.
+pub(crate) fn first_values(
+    alloc: Global,
+    module: &Module,
+    held: &[u128],
+) -> Result<Values, NoMemory>
+    requires runnable { IsRunnable module.now }
+    requires held { length held.now ≡ length module.now.nets }
+    ensures { IfOk result (λ values. AreFirst module.now held.now values) }
+{
+    let mut values = Values::zeros(alloc, module.nets.len())?;
+    set_literals(module.assigns.as_slice(), &mut values);
+    load(module.updates.as_slice(), held, &mut values);
+    Ok(values)
+}
+
+/// Gives each net that is assigned a literal its word.
+fn set_literals(assigns: &[Assign], values: &mut Values)
+    requires { (k : ℕ) (a : Assign) → slice_get assigns.now k ≡ Some a → a.target < length values.old }
+    ensures { AreLiteralsSet assigns.now values.old values.new (length assigns.now) }
+{
+    for assign in assigns {
+        if let Expr::Literal(word) = assign.expr {
+            values.set(assign.target, word.bits());
+        }
+    }
 }

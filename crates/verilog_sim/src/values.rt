@@ -65,8 +65,8 @@ impl Values {
 
     /// Gives each target of the lines of one operation its value, in their order.
     pub(crate) fn settle<R: Operation>(&mut self, entries: &[Entry<R>], memories: &[Memory])
-        requires safe { (l : ℕ) × All (IsSafe (length self.old) (length memories.now) l) (map (line_of R.step) entries.now) }
-        ensures advances { (ls : List ℕ) → Advances ls (map (line_of R.step) entries.now) memories.now self.old self.new }
+        requires safe { All (IsSafe (length self.old) (length memories.now)) (map (line_of R.step) entries.now) }
+        ensures advances { Advances (map (line_of R.step) entries.now) memories.now self.old self.new }
         ensures size { length self.new ≡ length self.old }
     {
         settle_entries(entries, memories, self.low.as_mut_slice());

@@ -11,15 +11,13 @@ step_of-requires c =
     record { formed = (c.requires.runnable.assigns from.0 c.assign-item.result from.1).expr }
 
 pub loop-assign-init : goal.loop-assign-init
-loop-assign-init c = (rw c.new-lines.ensures.items (none_compiled_at c.args.module.now c.args.literals.now.items c.args.order.now), λ i x e. e)
+loop-assign-init c = rw c.new-lines.ensures.items (none_compiled_at c.args.module.now c.args.order.now)
 
 pub loop-assign-preserved : goal.loop-assign-preserved
 loop-assign-preserved c =
     let i = c.loop-assign.assign-index in
     let a = c.assign-item.result in
-    let line : Line = record { target = a.target; width = c.width-width.result; narrow = c.is_narrow.result; step = c.in_ok-step.step } in
-    let at = slice_get_read c.args.order.now (length c.args.order.now) i a refl c.loop-assign-test.true c.assign-item.is in (
-      rw c.in_ok-push.ensures.items
-          (one_compiled c.args.module.now c.loop-assign.literals.items c.step_of.new.literals.items c.args.order.now c.loop-assign.lines.items i a line at refl c.width-width.ensures c.is_narrow.ensures c.in_ok-step.ensures c.loop-assign.invariant.0),
-      λ j x e. c.in_ok-step.ensures.more j x (c.loop-assign.invariant.1 j x e),
-    )
+    let line : Line = record { target = a.target; width = c.width-width.result; narrow = c.is_narrow.result; step = c.step_of.result } in
+    let at = slice_get_read c.args.order.now (length c.args.order.now) i a refl c.loop-assign-test.true c.assign-item.is in
+    rw c.in_ok-push.ensures.items
+    (one_compiled c.args.module.now c.args.order.now c.loop-assign.lines.items i a line at refl c.width-width.ensures c.is_narrow.ensures c.step_of.ensures c.loop-assign.invariant)

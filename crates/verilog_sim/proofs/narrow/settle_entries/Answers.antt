@@ -18,23 +18,23 @@ use Rattle.verilog_sim.proofs.narrow.settle_entries.Goals as goal
 line_at : {R : Type 0} (step : R → Step) (entries : List (Entry R)) (i : ℕ) (e : Entry R) → i < length entries → e ≡ get_or entries i e → slice_get (map (line_of step) entries) i ≡ Some (line_of step e)
 line_at step entries i e lt is = mapped_at (line_of step) entries i e (slice_get_read entries (length entries) i e refl lt is)
 
-entry_safe : {R : Type 0} (step : R → Step) (entries : List (Entry R)) (n k l i : ℕ) (e : Entry R) → All (IsSafe n k l) (map (line_of step) entries) → i < length entries → e ≡ get_or entries i e → IsSafe n k l (line_of step e)
-entry_safe step entries n k l i e all lt is = one_of_all (IsSafe n k l) (map (line_of step) entries) i (line_of step e) all (line_at step entries i e lt is)
+entry_safe : {R : Type 0} (step : R → Step) (entries : List (Entry R)) (n k i : ℕ) (e : Entry R) → All (IsSafe n k) (map (line_of step) entries) → i < length entries → e ≡ get_or entries i e → IsSafe n k (line_of step e)
+entry_safe step entries n k i e all lt is = one_of_all (IsSafe n k) (map (line_of step) entries) i (line_of step e) all (line_at step entries i e lt is)
 
 pub value-requires-clause-some : goal.value-requires-clause-some
-value-requires-clause-some g c = (entry_safe g.R.Operation.step c.args.entries.now _ _ _ c.loop-entry.entry-index c.entry-item.result c.requires.safe.1 c.loop-entry-test.true c.entry-item.is).some
+value-requires-clause-some g c = (entry_safe g.R.Operation.step c.args.entries.now _ _ c.loop-entry.entry-index c.entry-item.result c.requires.safe c.loop-entry-test.true c.entry-item.is).some
 
 pub value-requires-clause-at_most : goal.value-requires-clause-at_most
-value-requires-clause-at_most g c = (entry_safe g.R.Operation.step c.args.entries.now _ _ _ c.loop-entry.entry-index c.entry-item.result c.requires.safe.1 c.loop-entry-test.true c.entry-item.is).half refl
+value-requires-clause-at_most g c = (entry_safe g.R.Operation.step c.args.entries.now _ _ c.loop-entry.entry-index c.entry-item.result c.requires.safe c.loop-entry-test.true c.entry-item.is).half refl
 
 pub value-requires-clause-safe : goal.value-requires-clause-safe
 value-requires-clause-safe g c =
-    let safe = entry_safe g.R.Operation.step c.args.entries.now _ _ _ c.loop-entry.entry-index c.entry-item.result c.requires.safe.1 c.loop-entry-test.true c.entry-item.is in
-    (c.requires.safe.0, subst (λ (n : ℕ). IsStepSafe n (length c.args.memories.now) c.requires.safe.0 (g.R.Operation.step c.entry-item.result.reads)) (sym c.loop-entry.auto.low) safe.step)
+    let safe = entry_safe g.R.Operation.step c.args.entries.now _ _ c.loop-entry.entry-index c.entry-item.result c.requires.safe c.loop-entry-test.true c.entry-item.is in
+    (subst (λ (n : ℕ). IsStepSafe n (length c.args.memories.now) (g.R.Operation.step c.entry-item.result.reads)) (sym c.loop-entry.auto.low) safe.step)
 
 pub bounds-low-index : goal.bounds-low-index
 bounds-low-index g c =
-    let safe = entry_safe g.R.Operation.step c.args.entries.now _ _ _ c.loop-entry.entry-index c.entry-item.result c.requires.safe.1 c.loop-entry-test.true c.entry-item.is in
+    let safe = entry_safe g.R.Operation.step c.args.entries.now _ _ c.loop-entry.entry-index c.entry-item.result c.requires.safe c.loop-entry-test.true c.entry-item.is in
     omega (arith, safe.target, c.index.ensures.number, c.loop-entry.auto.low)
 
 pub loop-entry-preserved : goal.loop-entry-preserved
@@ -47,19 +47,19 @@ loop-entry-preserved g c =
     let low = c.loop-entry.low in
     let memories = c.args.memories.now in
     let lines = map (line_of step) c.args.entries.now in
-    let safe = entry_safe step c.args.entries.now _ _ _ i e c.requires.safe.1 c.loop-entry-test.true c.entry-item.is in
+    let safe = entry_safe step c.args.entries.now _ _ i e c.requires.safe c.loop-entry-test.true c.entry-item.is in
     let at = line_at step c.args.entries.now i e c.loop-entry-test.true c.entry-item.is in
-    λ ls high size m order old before rest are o h p.
+    λ high size m order old before rest are o h p.
     let same : length low ≡ length high = c.loop-entry.auto.low ∙ size in
-    let now = c.loop-entry.invariant ls high size m order old before rest are o h p in
-    let below = target_below m ls order memories before lines rest old (words low high) i (length before + i) l are at refl now in
+    let now = c.loop-entry.invariant high size m order old before rest are o h p in
+    let below = target_below m order memories before lines rest old (words low high) i (length before + i) l are at refl now in
     let both = get_words low high e.target same in
     let none : get_or high e.target 0 ≡ 0 = omega (arith, below, both) in
-    let is = subst (λ (f : ℕ → ℕ). step_value ls memories f e.width (step e.reads) < 2 ^ 64 → x ≡ step_value ls memories f e.width (step e.reads)) (read_low low high same) (c.value.ensures ls) in
+    let is = subst (λ (f : ℕ → ℕ). step_value memories f e.width (step e.reads) < 2 ^ 64 → x ≡ step_value memories f e.width (step e.reads)) (read_low low high same) c.value.ensures in
     rw c.index.ensures.number
     (subst (λ (v : List ℕ). Progress m order memories old v (length before + (i + 1))) (sym (set_low low high e.target x same none))
-    (line_between m ls order memories before lines rest old (words low high) i l x true (λ _. refl) are o h at (omega (arith, safe.target, c.loop-entry.auto.low, length_words low high same)) safe.some safe.at_most (λ f. is (f refl)) now))
+    (line_between m order memories before lines rest old (words low high) i l x true (λ _. refl) are o h at (omega (arith, safe.target, c.loop-entry.auto.low, length_words low high same)) safe.some safe.at_most (λ f. is (f refl)) now))
 
 pub returns : goal.returns
-returns g c = λ ls high size m order old before rest are o h p.
-    lines_between m order c.args.memories.now before (map (line_of g.R.Operation.step) c.args.entries.now) old (words c.loop-entry.low high) c.loop-entry.entry-index (omega (arith, c.loop-entry-test.false, c.loop-entry.auto.entry-index-end, length-map c.args.entries.now (line_of g.R.Operation.step))) (c.loop-entry.invariant ls high size m order old before rest are o h p)
+returns g c = λ high size m order old before rest are o h p.
+    lines_between m order c.args.memories.now before (map (line_of g.R.Operation.step) c.args.entries.now) old (words c.loop-entry.low high) c.loop-entry.entry-index (omega (arith, c.loop-entry-test.false, c.loop-entry.auto.entry-index-end, length-map c.args.entries.now (line_of g.R.Operation.step))) (c.loop-entry.invariant high size m order old before rest are o h p)

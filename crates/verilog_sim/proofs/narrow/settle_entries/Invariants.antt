@@ -10,10 +10,10 @@ use Rattle.verilog_sim.proofs.narrow.settle_entries.Given as goal
 
 abbrev pub invariant-loop-entry : goal.invariant-loop-entry
 invariant-loop-entry g l =
-    (ls high : List ℕ)
+    (high : List ℕ)
     → length l.fn.low ≡ length high
     → (m : Module) (order : List Assign) (old : List ℕ) (before rest : List Line)
-    → AreLinesOf m ls order ((before ++ map (line_of g.R.Operation.step) l.entries) ++ rest)
+    → AreLinesOf m order ((before ++ map (line_of g.R.Operation.step) l.entries) ++ rest)
     → IsInOrder m order
     → AreWords m old l.memories
     → Progress m order l.memories old (words l.fn.low high) (length before)

@@ -1,11 +1,16 @@
-use Rattle.std.proofs.Common.{◌≡◌, List, Some, length, subst, ap, arith}
-use Rattle.std.specs.Prelude.{slice_get}
+use Rattle.std.proofs.Common.{◌≡◌, ℕ, true, List, subst, sym}
 use Rattle.rtl_ir.specs.declared.design.Assign.{Assign}
+use Rattle.verilog_sim.specs.Feeding.{is_marked, IsFeeding}
+use Rattle.verilog_sim.proofs.Marking.{feeding_fewer}
 use Rattle.verilog_sim.proofs.order.both_orders.Goals as goal
 
-pub marked-requires : goal.marked-requires
-marked-requires c = λ i a at.
-    let at' = subst (λ (l : List Assign). slice_get l i ≡ Some a) c.as_slice-3.ensures.value at in
-    let from = c.in_ok-all.ensures.from i a at' in
-    let lt = (c.requires.runnable.assigns from.0 a from.1).target in
-    omega (arith, lt, ap length c.as_slice-4.ensures.value, c.in_ok-marks.ensures.size)
+pub returns : goal.returns
+returns c =
+    record {
+      order = c.in_ok-all.all.items;
+      ordered = c.in_ok-all.ensures;
+      sees = feeding_fewer _ _ _ _ c.in_ok-seen.ensures.seen (subst (λ (l : List Assign). IsFeeding l c.in_ok-feeding.field-0.items (λ n. is_marked c.in_ok-seen.seen.items n ≡ true)) c.as_slice-2.ensures.value c.in_ok-feeding.ensures);
+      feeds = feeding_fewer _ _ _ _
+          (λ n e. subst (λ (k : ℕ). is_marked c.in_ok-one.one.items k ≡ true) (sym e) c.in_ok-one.ensures.net)
+          (subst (λ (l : List Assign). IsFeeding l c.in_ok-feeding-2.field-0.items (λ n. is_marked c.in_ok-one.one.items n ≡ true)) c.as_slice-3.ensures.value c.in_ok-feeding-2.ensures);
+    }

@@ -12,12 +12,12 @@ pub value_of-value-requires : goal.value_of-value-requires
 value_of-value-requires c =
     let i = c.loop-line.line-index in
     rw c.loop-line.invariant.0
-    (record { safe = subst (IsSafe (length c.args.values.now) (length c.args.memories.now) (length c.args.literals.now)) (sym c.line-item.is) (c.requires.safe i c.line-item.result c.loop-line-test.true) })
+    (record { safe = subst (IsSafe (length c.args.values.now) (length c.args.memories.now)) (sym c.line-item.is) (c.requires.safe i c.line-item.result c.loop-line-test.true) })
 
 pub set-requires : goal.set-requires
 set-requires c =
     let i = c.loop-line.line-index in
-    let safe = subst (IsSafe (length c.args.values.now) (length c.args.memories.now) (length c.args.literals.now)) (sym c.line-item.is) (c.requires.safe i c.line-item.result c.loop-line-test.true) in
+    let safe = subst (IsSafe (length c.args.values.now) (length c.args.memories.now)) (sym c.line-item.is) (c.requires.safe i c.line-item.result c.loop-line-test.true) in
     omega (arith, safe.target, c.loop-line.invariant.0)
 
 pub loop-line-init : goal.loop-line-init
@@ -33,10 +33,10 @@ loop-line-preserved c =
     let l = c.line-item.result in
     let i = c.loop-line.line-index in
     let at : slice_get c.args.lines.now i ≡ Some l = slice_get_read c.args.lines.now (length c.args.lines.now) i l refl c.loop-line-test.true c.line-item.is in
-    let safe = subst (IsSafe (length c.args.values.now) (length c.args.memories.now) (length c.args.literals.now)) (sym c.line-item.is) (c.requires.safe i l c.loop-line-test.true) in
+    let safe = subst (IsSafe (length c.args.values.now) (length c.args.memories.now)) (sym c.line-item.is) (c.requires.safe i l c.loop-line-test.true) in
     rw c.set.ensures (
       length-set c.loop-line.values l.target c.value_of-value.result ∙ c.loop-line.invariant.0,
-      λ m order old before rest are o h p. line_between m c.args.literals.now order c.args.memories.now before c.args.lines.now rest old c.loop-line.values i l c.value_of-value.result false (λ e. absurd (false≢true e)) are o h at (omega (arith, safe.target, c.loop-line.invariant.0)) safe.some safe.at_most (λ _. c.value_of-value.ensures) (c.loop-line.invariant.1 m order old before rest are o h p),
+      λ m order old before rest are o h p. line_between m order c.args.memories.now before c.args.lines.now rest old c.loop-line.values i l c.value_of-value.result false (λ e. absurd (false≢true e)) are o h at (omega (arith, safe.target, c.loop-line.invariant.0)) safe.some safe.at_most (λ _. c.value_of-value.ensures) (c.loop-line.invariant.1 m order old before rest are o h p),
     )
 
 pub returns-clause-advances : goal.returns-clause-advances

@@ -10,7 +10,7 @@ abbrev pub invariant-loop-line : goal.invariant-loop-line
 invariant-loop-line l =
     (length l.values ≡ length l.fn.values)
     × ((m : Module) (order : List Assign) (old : List ℕ) (before rest : List Line)
-    → AreLinesOf m l.literals order ((before ++ l.lines) ++ rest)
+    → AreLinesOf m order ((before ++ l.lines) ++ rest)
     → IsInOrder m order
     → AreWords m old l.memories
     → Progress m order l.memories old l.fn.values (length before)

@@ -10,14 +10,14 @@ use Rattle.verilog_sim.specs.Contents.{family_of}
 use Rattle.verilog_sim.specs.Channels.{channel_of, first_channel}
 use Rattle.verilog_sim.specs.Calls.{event_of, IsEdge}
 use Rattle.verilog_sim.specs.Simulates.{last_net, AreOffered}
-use Rattle.verilog_sim.proofs.Edges.{state, back, kept_back, ready_at, kept_on, stepped_back, nets_within, ports_counted, streams_counted, edge_is}
+use Rattle.verilog_sim.proofs.Edges.{run, state, back, kept_back, ready_at, kept_on, stepped_back, nets_within, ports_counted, streams_counted, edge_is}
 use Rattle.verilog_sim.proofs.sim.Sim.edge.Goals as goal
 
 pub step-requires : goal.step-requires
 step-requires c =
     let x = c.self.inside in
     let s = c.self.invariant in
-    (s.flat, last_net s.flat.ports, ready_at s c.as_slice-ports.result.now c.as_slice-2.result.now c.as_slice.result.now c.as_mut_slice.result.now x.values c.as_mut_slice-2.result.now c.args.offers.now c.top.result.now c.top.ensures c.as_slice-ports.ensures c.as_slice-2.ensures c.as_slice.ensures.value c.as_mut_slice.ensures.value refl c.as_mut_slice-2.ensures.value (subst (λ (st : State). (m : Module) → top_of st.design ≡ Some m → AreOffered m st.outer c.args.offers.now) (sym c.self.view_is) c.requires.words c.top.result.now c.top.ensures), s.program)
+    (run s, last_net s.flat.ports, ready_at s c.as_slice-ports.result.now c.as_slice-2.result.now c.as_slice.result.now c.as_mut_slice.result.now x.values c.as_mut_slice-2.result.now c.args.offers.now c.top.result.now c.top.ensures c.as_slice-ports.ensures c.as_slice-2.ensures c.as_slice.ensures.value c.as_mut_slice.ensures.value refl c.as_mut_slice-2.ensures.value (subst (λ (st : State). (m : Module) → top_of st.design ≡ Some m → AreOffered m st.outer c.args.offers.now) (sym c.self.view_is) c.requires.words c.top.result.now c.top.ensures), s.program)
 
 pub tell-requires-clause-counted : goal.tell-requires-clause-counted
 tell-requires-clause-counted c = ports_counted c.self.invariant c.top.result.now c.top.ensures ∙ ap length (sym c.as_slice-ports.ensures)
@@ -26,7 +26,7 @@ pub tell-requires-clause-nets : goal.tell-requires-clause-nets
 tell-requires-clause-nets c =
     let x = c.self.inside in
     let s = c.self.invariant in
-    let done = c.step.ensures s.flat (last_net s.flat.ports) (ready_at s c.as_slice-ports.result.now c.as_slice-2.result.now c.as_slice.result.now c.as_mut_slice.result.now x.values c.as_mut_slice-2.result.now c.args.offers.now c.top.result.now c.top.ensures c.as_slice-ports.ensures c.as_slice-2.ensures c.as_slice.ensures.value c.as_mut_slice.ensures.value refl c.as_mut_slice-2.ensures.value (subst (λ (st : State). (m : Module) → top_of st.design ≡ Some m → AreOffered m st.outer c.args.offers.now) (sym c.self.view_is) c.requires.words c.top.result.now c.top.ensures)) s.program in
+    let done = c.step.ensures (run s) (last_net s.flat.ports) (ready_at s c.as_slice-ports.result.now c.as_slice-2.result.now c.as_slice.result.now c.as_mut_slice.result.now x.values c.as_mut_slice-2.result.now c.args.offers.now c.top.result.now c.top.ensures c.as_slice-ports.ensures c.as_slice-2.ensures c.as_slice.ensures.value c.as_mut_slice.ensures.value refl c.as_mut_slice-2.ensures.value (subst (λ (st : State). (m : Module) → top_of st.design ≡ Some m → AreOffered m st.outer c.args.offers.now) (sym c.self.view_is) c.requires.words c.top.result.now c.top.ensures)) s.program in
     nets_within s c.top.result.now c.as_slice-ports.result.now c.step.new.values c.top.ensures c.as_slice-ports.ensures
     done.0.words.nets
 
@@ -38,22 +38,22 @@ pub invariant_of-self : goal.invariant_of-self
 invariant_of-self c =
     let x = c.self.inside in
     let s = c.self.invariant in
-    let done = c.step.ensures s.flat (last_net s.flat.ports) (ready_at s c.as_slice-ports.result.now c.as_slice-2.result.now c.as_slice.result.now c.as_mut_slice.result.now x.values c.as_mut_slice-2.result.now c.args.offers.now c.top.result.now c.top.ensures c.as_slice-ports.ensures c.as_slice-2.ensures c.as_slice.ensures.value c.as_mut_slice.ensures.value refl c.as_mut_slice-2.ensures.value (subst (λ (st : State). (m : Module) → top_of st.design ≡ Some m → AreOffered m st.outer c.args.offers.now) (sym c.self.view_is) c.requires.words c.top.result.now c.top.ensures)) s.program in
+    let done = c.step.ensures (run s) (last_net s.flat.ports) (ready_at s c.as_slice-ports.result.now c.as_slice-2.result.now c.as_slice.result.now c.as_mut_slice.result.now x.values c.as_mut_slice-2.result.now c.args.offers.now c.top.result.now c.top.ensures c.as_slice-ports.ensures c.as_slice-2.ensures c.as_slice.ensures.value c.as_mut_slice.ensures.value refl c.as_mut_slice-2.ensures.value (subst (λ (st : State). (m : Module) → top_of st.design ≡ Some m → AreOffered m st.outer c.args.offers.now) (sym c.self.view_is) c.requires.words c.top.result.now c.top.ensures)) s.program in
     let held : c.step.new.held ≡ (with_items x.held c.step.new.held).items = sym (back x.held c.step.new.held c.as_mut_slice.result.now c.step.auto.held c.as_mut_slice.ensures.value) in
     let memories : c.step.new.memories ≡ (with_items x.memories c.step.new.memories).items = sym (back x.memories c.step.new.memories c.as_mut_slice-2.result.now c.step.auto.memories c.as_mut_slice-2.ensures.value) in
     let values : c.step.new.values ≡ c.step.new.values = refl in
     kept_on s x.steady.items (with_items x.held c.step.new.held).items c.step.new.values (with_items x.memories c.step.new.memories).items
-    (kept_back s.flat x.counts c.as_slice.result.now x.steady.items c.step.new.held (with_items x.held c.step.new.held).items c.step.new.values c.step.new.values c.step.new.memories (with_items x.memories c.step.new.memories).items done.0 c.as_slice.ensures.value held values memories)
+    (kept_back (run s) x.counts c.as_slice.result.now x.steady.items c.step.new.held (with_items x.held c.step.new.held).items c.step.new.values c.step.new.values c.step.new.memories (with_items x.memories c.step.new.memories).items done.0 c.as_slice.ensures.value held values memories)
 
 pub returns-clause-edge : goal.returns-clause-edge
 returns-clause-edge c = λ m e.
     let x = c.self.inside in
     let s = c.self.invariant in
-    let done = c.step.ensures s.flat (last_net s.flat.ports) (ready_at s c.as_slice-ports.result.now c.as_slice-2.result.now c.as_slice.result.now c.as_mut_slice.result.now x.values c.as_mut_slice-2.result.now c.args.offers.now c.top.result.now c.top.ensures c.as_slice-ports.ensures c.as_slice-2.ensures c.as_slice.ensures.value c.as_mut_slice.ensures.value refl c.as_mut_slice-2.ensures.value (subst (λ (st : State). (m : Module) → top_of st.design ≡ Some m → AreOffered m st.outer c.args.offers.now) (sym c.self.view_is) c.requires.words c.top.result.now c.top.ensures)) s.program in
+    let done = c.step.ensures (run s) (last_net s.flat.ports) (ready_at s c.as_slice-ports.result.now c.as_slice-2.result.now c.as_slice.result.now c.as_mut_slice.result.now x.values c.as_mut_slice-2.result.now c.args.offers.now c.top.result.now c.top.ensures c.as_slice-ports.ensures c.as_slice-2.ensures c.as_slice.ensures.value c.as_mut_slice.ensures.value refl c.as_mut_slice-2.ensures.value (subst (λ (st : State). (m : Module) → top_of st.design ≡ Some m → AreOffered m st.outer c.args.offers.now) (sym c.self.view_is) c.requires.words c.top.result.now c.top.ensures)) s.program in
     let held : c.step.new.held ≡ (with_items x.held c.step.new.held).items = sym (back x.held c.step.new.held c.as_mut_slice.result.now c.step.auto.held c.as_mut_slice.ensures.value) in
     let memories : c.step.new.memories ≡ (with_items x.memories c.step.new.memories).items = sym (back x.memories c.step.new.memories c.as_mut_slice-2.result.now c.step.auto.memories c.as_mut_slice-2.ensures.value) in
     let top : top_of x.design.now ≡ Some m = subst (λ (st : State). top_of st.design ≡ Some m) (sym c.self.view_is) e in
-    let stepped = stepped_back s.flat x.counts false c.as_slice.result.now x.steady.items c.args.offers.now c.args.accepts.now c.args.holds.now c.as_mut_slice.result.now x.held.items c.as_mut_slice-2.result.now x.memories.items c.step.new.values c.step.new.held (with_items x.held c.step.new.held).items c.step.new.memories (with_items x.memories c.step.new.memories).items done.1 c.as_slice.ensures.value c.as_mut_slice.ensures.value c.as_mut_slice-2.ensures.value held memories in
+    let stepped = stepped_back (run s) x.counts false c.as_slice.result.now x.steady.items c.args.offers.now c.args.accepts.now c.args.holds.now c.as_mut_slice.result.now x.held.items c.as_mut_slice-2.result.now x.memories.items c.step.new.values c.step.new.held (with_items x.held c.step.new.held).items c.step.new.memories (with_items x.memories c.step.new.memories).items done.1 c.as_slice.ensures.value c.as_mut_slice.ensures.value c.as_mut_slice-2.ensures.value held memories in
     let values : c.step.new.values ≡ c.step.new.values = refl in
     let ports : c.as_slice-ports.result.now ≡ m.ports = c.as_slice-ports.ensures ∙ ap (λ (y : Module). y.ports) (let f = c.top.ensures in let q : c.top.result.now ≡ m = cc in q) in
     let told = subst (λ (l : List ℕ). (k : ℕ) (t : Event) → slice_get c.tell.new.events k ≡ Some t → t ≡ event_of (family_of l) (channel_of m.ports (first_channel x.counts + 3 * k))) values
