@@ -1,0 +1,3 @@
+mod PortValues
+mod Edges
+mod Driving
