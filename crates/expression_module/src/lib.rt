@@ -6,6 +6,3 @@ mod ports;
 mod steps;
 
 pub use design::kernel_design;
-
-#[cfg(test)]
-mod tests;

@@ -6,6 +6,3 @@ mod program;
 
 pub use pattern::Pattern;
 pub use program::program_stalls;
-
-#[cfg(test)]
-mod tests;

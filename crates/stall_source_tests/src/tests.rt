@@ -1,5 +1,5 @@
 // Answers of the program's pattern, computed by another program.
-use super::*;
+use stall_source::{Pattern, program_stalls};
 use std::test::Fail;
 
 #[test]

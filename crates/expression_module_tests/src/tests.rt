@@ -1,7 +1,7 @@
 ghost use Rattle.std.specs.Prelude.{IfOk};
 ghost use Rattle.expression_module.specs.Designs.{IsSound};
 
-use crate::kernel_design;
+use expression_module::kernel_design;
 use expression_source::{Project, Step};
 use mx_base::{List, NoMemory, Text};
 use mx_bits::Op;
