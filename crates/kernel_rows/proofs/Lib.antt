@@ -3,3 +3,9 @@ pub mod LiteralBits
 mod NextOperand
 mod SignPairs
 mod HostPairs
+pub mod OperationKept
+pub mod ArraysKept
+pub mod RowsKept
+pub mod FillingTurns
+pub mod RowsDone
+pub mod CompoundSigns

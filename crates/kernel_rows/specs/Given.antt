@@ -21,3 +21,8 @@ IsGiven state outcome (Err e) = IsRefused outcome e
 abbrev pub IsDone : State → Outcome → Result Done EvalError → Type 0
 IsDone state outcome (Ok done) = outcome ≡ Does done.calls done.value state
 IsDone state outcome (Err e) = IsRefused outcome e
+
+-- a value that was given makes nothing; a refusal stays
+abbrev pub done_of : Result Value EvalError → Result Done EvalError
+done_of (Ok value) = Ok (record { calls = []; value = value })
+done_of (Err e) = Err e

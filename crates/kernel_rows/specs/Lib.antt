@@ -3,3 +3,5 @@ pub mod Planned
 pub mod Fit
 pub mod Operation
 pub mod KernelArgs
+pub mod Kept
+pub mod Filling

@@ -1,7 +1,8 @@
 // The kernels that a manager adds.
-ghost use Rattle.std.specs.Prelude.{◌≡◌, ◌<◌, ◌^◌, length, OnErr};
+ghost use Rattle.std.specs.Prelude.{◌≡◌, OnErr};
 ghost use Rattle.kernel_meaning.specs.ManagerRows as Rows;
 ghost use Rattle.kernel_rows.specs.Given.{IsGiven};
+ghost use Rattle.kernel_rows.specs.Kept.{IsKept, ValueKeeps};
 ghost use Rattle.kernel_rows.specs.KernelArgs.{AreArgs, arg_of};
 
 use kernel_meaning::{Arg, EvalError, Made, State, Value};
@@ -12,6 +13,7 @@ use std::alloc::Global;
 /// its further parameters.
 ///
 /// Its errors are `NoMemory`, and `WrongKind` of a value that is no number, boolean or type.
+#[tactic(auto, using(crate::proofs::RowsKept::added_keeps))]
 pub fn kernel_added(
     alloc: Global,
     at: u32,
@@ -20,13 +22,16 @@ pub fn kernel_added(
     values: &[Value],
     state: &mut State,
 ) -> Result<Value, EvalError>
-    requires { length state.old.plan.kernels < 2 ^ 32 }
+    requires { IsKept state.old }
     ensures done { IsGiven state.new
         (Rows.kernel_added at name.now class values.now state.old) result }
+    ensures keeps { ValueKeeps state.old state.new result }
     ensures err { OnErr result (state.new ≡ state.old) }
 {
     let args = args_of(alloc, at, values)?;
-    let number = state.plan.kernels.len() as u32;
+    let Ok(number) = u32::try_from(state.plan.kernels.len()) else {
+        return Err(EvalError::NoMemory);
+    };
     let name = name.copy(alloc)?;
     state.plan.kernels.push(Made { name, class, args })?;
     Ok(Value::Block(number))
