@@ -1,0 +1,13 @@
+pub mod Parts
+pub mod Types
+pub mod MethodTables
+pub mod KernelNumbers
+pub mod Parameters
+pub mod Newest
+pub mod Members
+pub mod Places
+pub mod Decimals
+pub mod Dotted
+pub mod Same
+pub mod Calling
+pub mod FitPlans
