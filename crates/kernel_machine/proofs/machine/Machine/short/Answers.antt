@@ -1,0 +1,23 @@
+-- `&&` and `||` begin with their first operand.
+use Rattle.std.proofs.Common.{refl, arith}
+use Rattle.kernel_meaning.specs.Run.{expr}
+use Rattle.kernel_machine.specs.Going.{go, standing}
+use Rattle.kernel_machine.proofs.Places.{how-many, two-parts}
+use Rattle.kernel_machine.proofs.Moves.{short-odd}
+use Rattle.kernel_machine.proofs.machine.Machine.short.Goals as goal
+
+pub returns-then-expression-ne2-clause-does : goal.returns-then-expression-ne2-clause-does
+returns-then-expression-ne2-clause-does c =
+    let many = how-many c.args.class.now.cells c.args.expression.now.id
+    c.args.expression.now.children.now in
+    short-odd (standing c.args.class.now c.args.self.now) c.args.either
+    c.args.expression.now.span.from _
+    c.args.self.now.state _ (λ e. absurd (omega arith))
+
+pub returns-clause-does : goal.returns-clause-does
+unfolding go expr
+returns-clause-does c =
+    let is = two-parts c.args.class.now.cells c.args.expression.now c.part-2.result c.part.result
+    (omega arith) c.part-2.ensures c.part.ensures in
+    let pushed = c.in_ok-push.ensures.ok in
+    rw (is, pushed) refl

@@ -1,0 +1,6 @@
+pub mod Left
+pub mod Going
+pub mod Falls
+pub mod Fit
+pub mod Answers
+pub mod Positions
