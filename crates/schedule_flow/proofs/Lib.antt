@@ -1,0 +1,13 @@
+pub mod Cuts
+pub mod Sending
+pub mod Trail
+pub mod Starting
+pub mod Tightening
+pub mod Linking
+pub mod Waiting
+pub mod Searching
+pub mod Reaching
+pub mod Finding
+pub mod Found
+pub mod Balancing
+pub mod Finishing

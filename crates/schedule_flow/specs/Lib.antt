@@ -1,0 +1,8 @@
+pub mod Network
+pub mod Adjacency
+pub mod Queue
+pub mod Reach
+pub mod Search
+pub mod Balance
+pub mod Best
+pub mod Earliest

@@ -1,0 +1,152 @@
+// The best times, and the flow that shows that none cost less.
+ghost use Rattle.std.specs.Prelude.{◌≡◌, ℕ, ◌+◌, ◌*◌, ◌<◌, ◌≤◌, ◌^◌, pos, ◌≤ℤ◌, length, OnOk, IfOk, IfErr};
+ghost use Rattle.cycle_find.specs.Constraints.{numbers_of, Solves};
+ghost use Rattle.schedule_problem.specs.Flow.{flow_of, excess};
+ghost use Rattle.schedule_problem.specs.Optimum.{IsProblem, IsBest, IsCheapest, IsEarliest};
+ghost use Rattle.schedule_flow.specs.Network.{weights};
+ghost use Rattle.schedule_flow.specs.Balance.{IsOnWay};
+ghost use Rattle.schedule_flow.specs.Best.{HasNoTimes};
+
+use crate::adjacency::adjacency_of;
+use crate::balance::send_all;
+use crate::earliest::earliest;
+use crate::network::Residual;
+use cycle_find::{Cycle, SolveError, solve};
+use mx_base::{List, NoMemory};
+use schedule_problem::{Answer, Problem};
+use std::alloc::{AllocError, Global};
+
+/// Why there are no times.
+#[derive(Drop)]
+pub enum BestError {
+    /// A simple closed walk whose needs sum above 0, so that no times are legal.
+    Cycle(Cycle),
+    /// No memory was left.
+    NoMemory,
+}
+
+impl From<NoMemory> for BestError {
+    ghost from_gives = { λ _ e. e ≡ NoMemory };
+
+    ghost use Rattle.schedule_flow.specs.declared.solver.BestError.TheVariants.{NoMemory};
+
+    fn from(_: NoMemory) -> Self {
+        BestError::NoMemory
+    }
+}
+
+impl From<AllocError> for BestError {
+    ghost from_gives = { λ _ e. e ≡ NoMemory };
+
+    ghost use Rattle.schedule_flow.specs.declared.solver.BestError.TheVariants.{NoMemory};
+
+    fn from(_: AllocError) -> Self {
+        BestError::NoMemory
+    }
+}
+
+/// The best times: legal ones from 0 that cost least, and of those the ones that are nowhere later than
+/// others; and a flow that is worth what they cost. `Cycle` comes exactly where no times are legal.
+pub fn best(alloc: Global, problem: &Problem) -> Result<Answer, BestError>
+    requires { IsProblem problem.now }
+    ensures best { IfOk result (IsBest problem.now) }
+    ensures small { IfOk result (λ a. (j : ℕ) → flow_of a.flow j < 2 ^ 63) }
+    ensures cheapest { IfOk result (λ a. IsCheapest problem.now (numbers_of a.times)) }
+    ensures earliest { IfOk result (λ a. IsEarliest problem.now (numbers_of a.times)) }
+    ensures cycle { IfErr result (HasNoTimes problem.now) }
+{
+    let (answer, _network) = best_counted(alloc, problem)?;
+    Ok(answer)
+}
+
+/// The answer of `best`, and the network in which its flow was sent, in at most as many paths as the
+/// weights of the terms sum to.
+pub fn best_counted(alloc: Global, problem: &Problem) -> Result<(Answer, Residual), BestError>
+    requires { IsProblem problem.now }
+    ensures best { IfOk result (λ r. IsBest problem.now r.0) }
+    ensures small { IfOk result (λ r. (j : ℕ) → flow_of r.0.flow j < 2 ^ 63) }
+    ensures cheapest { IfOk result (λ r. IsCheapest problem.now (numbers_of r.0.times)) }
+    ensures earliest { IfOk result (λ r. IsEarliest problem.now (numbers_of r.0.times)) }
+    ensures network { IfOk result (λ r. r.1.problem ≡ problem.now) }
+    ensures flow { IfOk result (λ r. r.1.flow ≡ r.0.flow) }
+    ensures counted { IfOk result (λ r. pos r.1.sends ≤ℤ weights problem.now) }
+    ensures cycle { IfErr result (HasNoTimes problem.now) }
+{
+    let legal = legal_times(alloc, problem)?;
+    let mut net = Residual::new(alloc, problem, &legal)?;
+    let x = balance(alloc, problem, &mut net, &legal)?;
+    let times = earliest(alloc, problem, net.flow(), &x)?;
+    let flow = Vec::from_slice(alloc, net.flow())?;
+    let answer = Answer {
+        times: List::from_vec(times),
+        flow: List::from_vec(flow),
+    };
+    Ok((answer, net))
+}
+
+/// The least legal times from 0.
+fn legal_times(alloc: Global, problem: &Problem) -> Result<Vec<i64>, BestError>
+    requires { IsProblem problem.now }
+    ensures one_each { IfOk result (λ x. length x.items ≡ problem.now.arcs.nodes) }
+    ensures legal { IfOk result (λ x. Solves (numbers_of x.items) problem.now.arcs.list) }
+    ensures low { IfOk result (λ x. (v : ℕ) → pos 0 ≤ℤ numbers_of x.items v) }
+    ensures high { IfOk result (λ x. (v : ℕ) → numbers_of x.items v ≤ℤ pos (2 ^ 60)) }
+    ensures cycle { IfErr result (HasNoTimes problem.now) }
+{
+    match solve(alloc, &problem.arcs) {
+        Ok(times) => Ok(times),
+        Err(SolveError::NoMemory) => Err(BestError::NoMemory),
+        Err(SolveError::Cycle(cycle)) => Err(BestError::Cycle(cycle)),
+    }
+}
+
+/// Sends all surplus from legal times on. It answers the numbers that are then tight.
+fn balance(
+    alloc: Global,
+    problem: &Problem,
+    net: &mut Residual,
+    times: &[i64],
+) -> Result<Vec<i128>, NoMemory>
+    requires problem { IsProblem problem.now }
+    requires light { weights problem.now ≤ℤ pos (2 ^ 52) }
+    requires network { net.old.problem ≡ problem.now }
+    requires empty { (j : ℕ) → flow_of net.old.flow j ≡ 0 }
+    requires fresh { net.old.sends ≡ 0 }
+    requires one_each { length times.now ≡ problem.now.arcs.nodes }
+    requires legal { Solves (numbers_of times.now) problem.now.arcs.list }
+    requires low { (v : ℕ) → pos 0 ≤ℤ numbers_of times.now v }
+    requires high { (v : ℕ) → numbers_of times.now v ≤ℤ pos (2 ^ 60) }
+    ensures one_each { IfOk result (λ x. length x.items ≡ problem.now.arcs.nodes) }
+    ensures on_way { IfOk result (λ x. IsOnWay problem.now (numbers_of x.items) net.new) }
+    ensures balanced { OnOk result ((v : ℕ) → v < problem.now.arcs.nodes → excess problem.now (flow_of net.new.flow) v ≤ℤ pos 0) }
+{
+    let links = adjacency_of(alloc, &problem.arcs)?;
+    let nodes = problem.arcs.nodes as usize;
+    let mut place = vec![in alloc; 0u32; nodes]?;
+    let mut via = vec![in alloc; 0u32; nodes]?;
+    let mut distance = vec![in alloc; 0u128; nodes]?;
+    let mut x = wide(alloc, times)?;
+    send_all(
+        alloc,
+        problem,
+        &links,
+        net,
+        x.as_mut_slice(),
+        place.as_mut_slice(),
+        via.as_mut_slice(),
+        distance.as_mut_slice(),
+    )?;
+    Ok(x)
+}
+
+/// The same numbers in more bits.
+fn wide(alloc: Global, times: &[i64]) -> Result<Vec<i128>, AllocError>
+    ensures len { IfOk result (λ y. length y.items ≡ length times.now) }
+    ensures same { IfOk result (λ y. (v : ℕ) → numbers_of y.items v ≡ numbers_of times.now v) }
+{
+    let mut y = Vec::new(alloc);
+    for v in times {
+        y.push(*v as i128)?;
+    }
+    Ok(y)
+}
