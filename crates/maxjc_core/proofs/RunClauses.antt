@@ -12,7 +12,7 @@ use Rattle.simulation.specs.Answers.{IsMissing, IsOrFails, Finishes, Breaks, end
 use Rattle.simulation.specs.Ends as ends
 use Rattle.simulation.specs.Ends.{End, Stopped}
 use Rattle.simulation.specs.Inputs as lines
-use Rattle.simulation.specs.Outputs.{ChangesOnlyOutputs}
+use Rattle.simulation.specs.Outputs.{ChangesOnlyOutputs, Leaves}
 use Rattle.simulation.specs.Plans.{setup_of}
 use Rattle.simulation.specs.Runs.{Setup}
 use Rattle.simulation.specs.declared.plan.Plan.{Plan}
@@ -24,7 +24,7 @@ use Rattle.maxjc_core.specs.Ends.{IsCutOff, IsQuiet}
 use Rattle.maxjc_core.specs.Lines.{Cause, TooManyCells}
 use Rattle.maxjc_core.specs.Refusals.{IfCause, stop_cause}
 use Rattle.maxjc_core.specs.RunCauses.{IsFaulty, StandsIn, LacksFile, LacksInput}
-use Rattle.maxjc_core.specs.RunEnds.{IsRunTo, IsRunDone, IsRunLimited, RefusesRun, ReadFails, ChangesOutputs}
+use Rattle.maxjc_core.specs.RunEnds.{IsRunTo, IsRunDone, IsRunLimited, RefusesRun, ReadFails, ChangesOutputs, LeavesOutputs}
 use Rattle.maxjc_core.specs.RunStops.{end_status, end_line, stop_status}
 use Rattle.maxjc_core.specs.declared.status.Status.{Status}
 use Rattle.maxjc_core.specs.declared.status.Status.TheVariants.{Done, Refused, ReadFault, WriteFault, NoMemory, EdgeLimit}
@@ -146,6 +146,19 @@ others_so {held = held} {now = now} {d = d} made sim changes told =
     let l = loaded_of (made.loaded told) in
     ⊎_elim (λ large. inl (sim.too_many large).1)
     (λ small. inr (l, small_of l made small, of_loaded l made (λ (s : Setup) (outputs : List (Name × ℕ)). ChangesOnlyOutputs outputs held now) changes))
+    (cases_lt (2 ^ 26) (all_cells d))
+
+-- what a run leaves, that ended or that was stopped
+pub leaves_ended : {names : RunNames} {stalls : Answers} {held now : Held} {d : Design} {p : Plan} (o : Outcome) → IsMade names held d p → IsSimulated stalls d p held now (Ok o) → IsSome held → LeavesOutputs stalls names held now
+leaves_ended {stalls = stalls} {now = now} o made sim told =
+    let l = loaded_of (made.loaded told) in
+    inr (l, small_ok l made sim, inr (end_of o, of_loaded l made (λ (s : Setup) (outputs : List (Name × ℕ)). Finishes stalls s outputs now (end_of o)) (sim.tells made.can.is.top made.can.is.shape made.can.is.is_top made.can.is.is_run.has told)))
+
+pub leaves_stopped : {names : RunNames} {stalls : Answers} {held now : Held} {d : Design} {p : Plan} {result : Result Outcome Stop} → IsMade names held d p → IsSimulated stalls d p held now result → (IsSome held → Leaves p.outputs held now) → IsSome held → LeavesOutputs stalls names held now
+leaves_stopped {held = held} {now = now} {d = d} made sim leaves told =
+    let l = loaded_of (made.loaded told) in
+    ⊎_elim (λ large. inl (sim.too_many large).1)
+    (λ small. inr (l, small_of l made small, inl (of_loaded l made (λ (s : Setup) (outputs : List (Name × ℕ)). Leaves outputs held now) (leaves told))))
     (cases_lt (2 ^ 26) (all_cells d))
 
 -- a refusal of a run has a cause that stands, and what it leaves in the files

@@ -7,7 +7,7 @@ use Rattle.stall_source.specs.Stalls.{Answers}
 use Rattle.verilog_sim.specs.Start.{all_cells}
 use Rattle.simulation.specs.Inputs as lines
 use Rattle.simulation.specs.Ends.{End, Done, Limit, Stopped}
-use Rattle.simulation.specs.Outputs.{ChangesOnlyOutputs}
+use Rattle.simulation.specs.Outputs.{ChangesOnlyOutputs, Leaves}
 use Rattle.simulation.specs.Answers.{Finishes, Breaks, IsInterrupted, IsMissing}
 use Rattle.maxjc_core.specs.Command.{RunNames, said_more}
 use Rattle.maxjc_core.specs.Lines.{Cause, TooManyCells, BadLine, WordRange, line_of}
@@ -75,3 +75,12 @@ pub data ReadFails (stalls : Answers) (names : RunNames) (before now : Held) (co
 -- the files are as before; or a run was begun, and no file but its outputs has changed
 abbrev pub ChangesOutputs : RunNames → Held → Held → Type 0
 ChangesOutputs names before now = (now ≡ before) ⊎ ((l : IsLoaded names before) × IsSmall l × ChangesOnlyOutputs l.fit.plan.outputs before now)
+
+-- The files are as before; or a run was begun. Where it ended, the output files hold all words that left. Where it was stopped,
+-- that was when one of them was to be created, and then those before it, in the order of their ports, are empty and those behind
+-- it as before; or when all were there, and then each but at most one holds the lines of some words.
+abbrev pub LeavesOutputs : Answers → RunNames → Held → Held → Type 0
+LeavesOutputs stalls names before now =
+    (now ≡ before)
+    ⊎ ((l : IsLoaded names before) × IsSmall l
+    × (Leaves l.fit.plan.outputs before now ⊎ ((end : End) × Finishes stalls (setup l) l.fit.plan.outputs now end)))

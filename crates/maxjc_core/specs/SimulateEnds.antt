@@ -12,7 +12,7 @@ use Rattle.maxjc_core.specs.Lines.{Cause}
 use Rattle.maxjc_core.specs.Loading.{IsLoaded, setup}
 use Rattle.maxjc_core.specs.Outside.{Outside}
 use Rattle.maxjc_core.specs.RunCauses.{IsSmall, StandsIn, LacksFile, LacksInput}
-use Rattle.maxjc_core.specs.RunEnds.{IsRunDone, IsRunLimited, IsRunRefused, ReadFails, ChangesOutputs}
+use Rattle.maxjc_core.specs.RunEnds.{IsRunDone, IsRunLimited, IsRunRefused, ReadFails, ChangesOutputs, LeavesOutputs}
 use Rattle.maxjc_core.specs.Writing.{WritesAllWords}
 use Rattle.maxjc_core.specs.declared.status.Status.{Status}
 use Rattle.maxjc_core.specs.declared.status.Status.TheVariants.{Done, Refused, ReadFault, NoMemory, EdgeLimit}
@@ -54,3 +54,5 @@ pub record EndsSimulate (stalls : Answers) (names : RunNames) (before after : Ou
   pub missing_input : LacksInput stalls names before.held → IsCutOff status
   -- no file changes but where a run begins, and there its outputs alone
   pub others : IsSome before.held → ChangesOutputs names before.held after.held
+  -- whatever stopped a run, its outputs were created in the order of their ports
+  pub leaves : IsSome before.held → LeavesOutputs stalls names before.held after.held

@@ -10,7 +10,7 @@ ghost use Rattle.maxjc_core.specs.Command.{said_more};
 ghost use Rattle.maxjc_core.specs.Lines.{Cause, line_of};
 ghost use Rattle.maxjc_core.specs.Loading.{IsLoaded, setup};
 ghost use Rattle.maxjc_core.specs.RunCauses.{IsSmall, StandsIn, LacksFile, LacksInput};
-ghost use Rattle.maxjc_core.specs.RunEnds.{IsRunDone, IsRunLimited, IsRunRefused, ReadFails, ChangesOutputs};
+ghost use Rattle.maxjc_core.specs.RunEnds.{IsRunDone, IsRunLimited, IsRunRefused, ReadFails, ChangesOutputs, LeavesOutputs};
 ghost use Rattle.maxjc_core.specs.Refusals.{stop_cause, IfCause};
 ghost use Rattle.maxjc_core.specs.RunStops.{end_status, end_line, stop_status};
 ghost use Rattle.simulation.specs.declared.stop.Stop.TheVariants as stops;
@@ -156,6 +156,10 @@ pub fn run_simulate<F: Files, S: Say, G: Fn(u64, u64, u32) -> bool>(
 
     // No file changes but where a run begins, and there its outputs alone.
     ensures others { IsSome (F.held files.old) → ChangesOutputs (run_told names.entry) (F.held files.old) (F.held files.new) }
+
+    // Whatever stopped a run, its outputs were created in the order of their ports.
+    ensures leaves { IsSome (F.held files.old) → LeavesOutputs (G.post stalls.now.test)
+        (run_told names.entry) (F.held files.old) (F.held files.new) }
 {
     match load(alloc, files, names) {
         Ok(

@@ -52,5 +52,6 @@ returns-in-Some-Simulate-clause-simulate g c = λ names is.
       missing_quiet = e.missing_quiet;
       missing_input = e.missing_input;
       others = e.others;
+      leaves = e.leaves;
     } in
     subst (λ (n : RunNames). EndsSimulate stalls n before after c.run_simulate.result) same ends
