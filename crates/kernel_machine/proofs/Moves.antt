@@ -540,3 +540,8 @@ pub planned-reads : (class : ClassView) (machine : Machine) (part : Option ℕ) 
     ≡ operands_left class.cells (standing class machine) (P.ForRow row) b.span.from part from count
     [] machine.state (rest class machine)
 planned-reads class machine part b row from count e p = rw (sym e, p) refl
+
+pub leads-error : (class : ClassView) (answer : Answer) (e : EvalError) (new : Machine)
+    → answer ≡ Refused e → Leads class answer (Err e) new
+leads-error class answer E.NoMemory new h = tt
+leads-error class answer _ new h = h

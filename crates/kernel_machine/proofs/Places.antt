@@ -23,7 +23,7 @@ use Rattle.std.proofs.Common.{
 use Rattle.std.specs.Prelude.{Option, Bool, nat_lt, slice_get}
 use Rattle.std.proofs.lemmas.Bool.Decides.{nat_tests}
 use Rattle.maxj_syntax.specs.Cells.{Cell}
-use Rattle.maxj_syntax.specs.Tree.{Tree, Nil, Cons}
+use Rattle.maxj_syntax.specs.Tree.{Tree, Trees, Nil, Cons}
 use Rattle.kernel_meaning.specs.Nodes.{child_by, tree_at}
 use Rattle.kernel_meaning.specs.Plans.{number_of_trees}
 use Rattle.kernel_plans.specs.declared.branch.Branch.{Branch}
@@ -119,3 +119,26 @@ four-parts cells b first second third fourth h says then third_says last =
     ∙ ap (Cons (tree_of cells second)) (third_says cells (omega arith)
     ∙ ap (Cons (tree_of cells third)) (last cells (omega arith)
     ∙ ap (Cons (tree_of cells fourth)) (from-past cells b.id b.children.now 4 (omega arith)))))
+
+pub parts-many : (cells : List Cell) (tree : Tree) (b : Branch) → tree ≡ branch_tree cells b
+    → number_of_trees (parts tree) ≡ length b.children.now
+parts-many cells tree b e = rw e (how-many cells b.id b.children.now)
+
+-- the second of two parts
+second-by : (trees others : Trees) (tree : Tree) → number_of_trees trees ≡ 2
+    → from_place 1 trees ≡ Cons tree others → (first : Tree) × (trees ≡ Cons first (Cons tree Nil))
+second-by Nil others tree two e = absurd (cc)
+second-by (Cons a Nil) others tree two e = absurd (cc)
+second-by (Cons a (Cons b Nil)) others tree two e = (a, ap (λ t. Cons a (Cons t Nil)) (same e))
+  where
+    same : Cons b Nil ≡ Cons tree others → b ≡ tree
+    same e = cc
+second-by (Cons a (Cons b (Cons c trees))) others tree two e = absurd (cc)
+
+pub second-of-two : (cells : List Cell) (b : Branch) (second : Option ℕ)
+    → length b.children.now ≡ 2 → IsPart b 1 second
+    → (first : Tree) × (trees_of cells b.id b.children.now ≡ Cons first (Cons (tree_of cells second)
+    Nil))
+second-of-two cells b second two says =
+    second-by (trees_of cells b.id b.children.now) _ (tree_of cells second)
+    (how-many cells b.id b.children.now ∙ two) (says cells (omega arith))

@@ -1,32 +1,25 @@
 -- What small answers of the machine's functions say.
-use Rattle.std.specs.Prelude.{
-  ◌≡◌,
-  ◌⊎◌,
-  ◌&&◌,
-  ℕ,
-  suc,
-  List,
-  codes,
-  is_none,
-  Bool,
-  true,
-  false,
-  Result,
-  Ok,
-  Err,
-}
+use Rattle.std.specs.Prelude.{◌≡◌, ◌<◌, ◌≤◌, ◌⊎◌, ◌&&◌, ℕ, suc, List, codes, is_none, Bool, true, false, Result, Ok, Err, length, Option, Some, None}
 use Rattle.kernel_meaning.specs.declared.error.EvalError.{EvalError}
 use Rattle.kernel_meaning.specs.declared.error.EvalError.TheVariants as E
 use Rattle.kernel_meaning.specs.declared.state.State.{State}
 use Rattle.kernel_meaning.specs.declared.value.Value.{Value}
 use Rattle.kernel_meaning.specs.declared.value.Value.TheVariants as V
+use Rattle.kernel_meaning.specs.declared.value.Spot.{Spot}
+use Rattle.kernel_meaning.specs.Ways.{spot_in}
 use Rattle.std.specs.Str.{bytes_eq}
-use Rattle.maxj_syntax.specs.Tree.{Trees}
+use Rattle.maxj_syntax.specs.Cells.{Cell}
+use Rattle.maxj_syntax.specs.Tree.{Trees, Cons}
 use Rattle.maxj_syntax.specs.declared.tree.NodeKind.TheVariants as N
 use Rattle.kernel_plans.specs.declared.branch.Branch.{Branch}
-use Rattle.kernel_meaning.specs.Answer.{Next, Refused, chosen}
+use Rattle.kernel_meaning.specs.Answer.{Next, Then, Refused, chosen, used}
+use Rattle.kernel_meaning.specs.Constructors.{set_fields}
 use Rattle.kernel_meaning.specs.Methods.{params_of}
-use Rattle.kernel_meaning.specs.Run.{named}
+use Rattle.kernel_meaning.specs.Plans.{number_of_trees}
+use Rattle.kernel_meaning.specs.Run.{Place, named}
+use Rattle.kernel_plans.specs.Classes.{ClassView, members}
+use Rattle.kernel_plans.specs.Trees.{branch_tree}
+use Rattle.kernel_machine.specs.Left.{from_place}
 use Rattle.kernel_machine.specs.declared.machine.Machine.{Machine}
 
 -- a step is counted, where one is left
@@ -42,6 +35,14 @@ IsCondition at value (Ok holds) = value ≡ V.Flag holds
 IsCondition at value (Err e) =
     (state : State) (first_way second_way : Next) →
     chosen at value state first_way second_way ≡ Refused e
+
+-- a value that is set, or why there is none
+abbrev pub IsPresent : ℕ → Value → Result Value EvalError → Type 0
+IsPresent at value (Ok present) =
+    (present ≡ value)
+    × ((state : State) (next : Then) → used at value state next ≡ next present state)
+IsPresent at value (Err e) =
+    (state : State) (next : Then) → used at value state next ≡ Refused e
 
 -- the name of a kernel, or why there is none; want of memory says nothing
 abbrev pub IsNamed : ℕ → List Value → Result (List ℕ) EvalError → Type 0
@@ -63,3 +64,42 @@ NamesKernel members argument true =
 NamesKernel members argument false =
     (argument.kind ≡ N.Call → ⊥)
     ⊎ (argument.kind ≡ N.Call) × (are_settings members argument.word.now ≡ false)
+
+-- the spot of an element, or why there is none
+abbrev pub IsSpot : ℕ → Value → Value → State → Result Spot EvalError → Type 0
+IsSpot at array index state (Ok spot) =
+    (next : Spot → Next) → spot_in at array index state next ≡ next spot state
+IsSpot at array index state (Err e) =
+    (next : Spot → Next) → spot_in at array index state next ≡ Refused e
+
+-- the same of an index that must be set
+abbrev pub IsSpotOf : ℕ → Value → Value → State → Result Spot EvalError → Type 0
+IsSpotOf at array index state (Ok spot) =
+    (next : Spot → Next)
+    → used at index state (λ index state. spot_in at array index state next) ≡ next spot state
+IsSpotOf at array index state (Err e) =
+    (next : Spot → Next)
+    → used at index state (λ index state. spot_in at array index state next) ≡ Refused e
+
+-- a member is a field with its type, or it is passed over
+abbrev pub IsField : Branch → Bool → Type 0
+IsField member true = (member.kind ≡ N.Field) × (0 < length member.children.now)
+IsField member false =
+    (cells : List Cell) (here : Place) (others : Trees) (state : State) (next : Next) →
+    set_fields here (Cons (branch_tree cells member) others) state next
+    ≡ set_fields here others state next
+
+-- the next field from a place on, with the place behind it; those before it are none
+abbrev pub IsNextField : ClassView → ℕ → Option (ℕ × Branch) → Type 0
+IsNextField class from None =
+    (here : Place) (state : State) (next : Next) →
+    set_fields here (from_place from (members class)) state next ≡ next state
+IsNextField class from (Some (behind, member)) =
+    (from < behind)
+    × (behind ≤ number_of_trees (members class))
+    × (member.kind ≡ N.Field)
+    × (0 < length member.children.now)
+    × ((here : Place) (state : State) (next : Next) →
+    set_fields here (from_place from (members class)) state next
+    ≡ set_fields here
+    (Cons (branch_tree class.cells member) (from_place behind (members class))) state next)

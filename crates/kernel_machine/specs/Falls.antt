@@ -14,16 +14,16 @@ use Rattle.kernel_machine.specs.declared.machine.Event.TheVariants.{Ended}
 use Rattle.kernel_machine.specs.declared.machine.Machine.{Machine}
 use Rattle.kernel_machine.specs.Left.{parts}
 
--- braces that wait for an element, after so many
+-- the elements of braces from a place on
 abbrev pub elements_weight : ClassView → Option ℕ → ℕ → ℕ
 elements_weight class node place =
-    16 + 16 * (number_of_trees (parts (tree_of class.cells node)) - place)
+    32 * (number_of_trees (parts (tree_of class.cells node)) - place)
 
 abbrev pub weight : ClassView → Task → ℕ
 weight class (T.Operands _ _ _ _ _ _) = 48
 weight class (T.Indexed _ _ _) = 32
 weight class (T.Combine _ _ _) = 24
-weight class (T.Elements braces _ values) = elements_weight class braces (length values)
+weight class (T.Elements braces _ values) = elements_weight class braces (length values) - 8
 weight class (T.Fields place _ _) = 16 + 32 * (number_of_trees (members class) - place)
 weight class _ = 16
 

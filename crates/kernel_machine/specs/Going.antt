@@ -185,3 +185,9 @@ Leads class answer (Ok (Makes calls)) new = answer ≡ with_calls calls (answer_
 Leads class answer (Ok Ended) new = answer ≡ Finished new.state
 Leads class answer (Err NoMemory) new = Unit {0}
 Leads class answer (Err e) new = answer ≡ Refused e
+
+-- the run is what is left of the machine, or a refusal; want of memory says nothing
+abbrev pub Starts : ClassView → Answer → Result Machine EvalError → Type 0
+Starts class run (Ok machine) = run ≡ answer_of class machine
+Starts class run (Err NoMemory) = Unit {0}
+Starts class run (Err e) = run ≡ Refused e

@@ -215,11 +215,14 @@ assign_at here at value spot state next =
     expr here value state
     (λ value state. used at value state (λ value state. put at spot value state next))
 
+abbrev pub stepped_at : ℕ → List ℕ → Spot → State → Next → Answer
+stepped_at at sign spot state next =
+    used at (content spot state) state
+    (λ old state. does (stepped sign at old state) (λ value state. put at spot value state next))
+
 abbrev pub set_at : Place → Tree → Spot → State → Next → Answer
 set_at here (Node kind sign span (Cons place Nil)) spot state next =
-    used span.from (content spot state) state
-    (λ old state. does (stepped sign span.from old state)
-    (λ value state. put span.from spot value state next))
+    stepped_at span.from sign spot state next
 set_at here (Node kind sign span (Cons place (Cons value Nil))) spot state next =
     decided (bytes_eq sign (codes "=")) state
     (λ state. assign_at here span.from value spot state next)
@@ -267,6 +270,13 @@ braces_run here of tree state next =
     braces (place_of tree) of (number_of_trees (parts tree)) state
     (λ inner state. inits here (place_of tree) inner (parts tree) [] state
     (λ values state. braced inner values state next))
+
+-- what stands for a value of this type: braces, or an expression
+abbrev pub value_run : Place → Declared → Tree → State → Then → Answer
+value_run here of (Node N.Braces word span trees) state next =
+    braces_run here of (Node N.Braces word span trees) state next
+value_run here of (Node kind word span trees) state next =
+    expr here (Node kind word span trees) state next
 
 abbrev pub elements_left : Place → Declared → Tree → ℕ → List Value → State → Then → Answer
 elements_left here of tree place values state next =

@@ -4,3 +4,4 @@ pub mod Falls
 pub mod Fit
 pub mod Answers
 pub mod Positions
+pub mod Followed

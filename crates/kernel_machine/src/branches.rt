@@ -25,12 +25,12 @@ impl Machine {
         node: Part,
         place: usize,
     ) -> Result<Event, EvalError>
-        requires fit { IsFitMachine self.old }
+        requires fit { IsFitMachine class.now self.old }
         ensures does { Leads class.now (branches (standing class.now self.old) at
             (from_place place (parts (tree_of class.now.cells node))) self.old.state
             (after class.now self.old) (leaving class.now self.old)) result self.new }
         ensures falls { CostsBelow class.now (idle class.now self.old + 17) result self.new }
-        ensures fit { OnOk result (IsFitMachine self.new) }
+        ensures fit { OnOk result (IsFitMachine class.now self.new) }
     {
         let parts = branch_at(class.tree(), node);
         let count = parts.children.len();
@@ -62,7 +62,7 @@ impl Machine {
         body: Part,
         value: &Value,
     ) -> Result<Event, EvalError>
-        requires fit { IsFitMachine self.old }
+        requires fit { IsFitMachine class.now self.old }
         ensures does { Leads class.now (chosen at value.now self.old.state
             (λ state. exec (standing class.now self.old) (tree_of class.now.cells body) state
             (after class.now self.old) (leaving class.now self.old))
@@ -70,7 +70,7 @@ impl Machine {
             (from_place place (parts (tree_of class.now.cells node))) state
             (after class.now self.old) (leaving class.now self.old))) result self.new }
         ensures falls { CostsBelow class.now (idle class.now self.old + 17) result self.new }
-        ensures fit { OnOk result (IsFitMachine self.new) }
+        ensures fit { OnOk result (IsFitMachine class.now self.new) }
     {
         if condition(at, value)? {
             self.now = Now::Exec(body);

@@ -25,12 +25,12 @@ impl Machine {
     // The statements of a method or constructor begin.
     #[tactic(auto, unfolding(crate::specs::Going::go, crate::specs::Going::back_of))]
     pub(crate) fn body(&mut self, class: &Class<'_>, block: Part) -> Result<Event, EvalError>
-        requires fit { IsFitMachine self.old }
+        requires fit { IsFitMachine class.now self.old }
         ensures does { Leads class.now (block_of (standing class.now self.old)
             (tree_of class.now.cells block) self.old.state (after class.now self.old)
             (leaving class.now self.old)) result self.new }
         ensures falls { CostsBelow class.now (idle class.now self.old + 17) result self.new }
-        ensures fit { OnOk result (IsFitMachine self.new) }
+        ensures fit { OnOk result (IsFitMachine class.now self.new) }
     {
         let statements = branch_at(class.tree(), block);
         match statements.kind {
@@ -43,10 +43,10 @@ impl Machine {
     #[tactic(auto, unfolding(crate::specs::Going::go, crate::specs::Going::back_of))]
     pub(crate) fn leave(&mut self, class: &Class<'_>, value: Value) -> Result<Event, EvalError>
         requires value { IsFit value }
-        requires fit { IsFitMachine self.old }
+        requires fit { IsFitMachine class.now self.old }
         ensures does { Leads class.now (back_of class.now self.old.callers value self.old.state) result self.new }
         ensures falls { CostsBelow class.now (idle class.now self.old + 1) result self.new }
-        ensures fit { OnOk result (IsFitMachine self.new) }
+        ensures fit { OnOk result (IsFitMachine class.now self.new) }
     {
         match self.callers.pop() {
             None => Ok(Event::Ended),
@@ -69,12 +69,12 @@ impl Machine {
         values: List<Value>,
     ) -> Result<Event, EvalError>
         requires values { AreFit values }
-        requires fit { IsFitMachine self.old }
+        requires fit { IsFitMachine class.now self.old }
         ensures does { Leads class.now (call_to (library_of class.now.library) (members class.now)
             (64 - length self.old.callers) name.now at values self.old.state
             (rest class.now self.old)) result self.new }
         ensures falls { CostsBelow class.now (idle class.now self.old + 49) result self.new }
-        ensures fit { OnOk result (IsFitMachine self.new) }
+        ensures fit { OnOk result (IsFitMachine class.now self.new) }
     {
         let method = match enter(alloc, class, name.as_bytes(), at, values) {
             Ok(method) => method,
@@ -102,11 +102,11 @@ impl Machine {
         value: Value,
     ) -> Result<Event, EvalError>
         requires value { IsFit value }
-        requires fit { IsFitMachine self.old }
+        requires fit { IsFitMachine class.now self.old }
         ensures does { Leads class.now (given_back at self.old.wanted value self.old.state
             (leaving class.now self.old)) result self.new }
         ensures falls { CostsBelow class.now (idle class.now self.old + 5) result self.new }
-        ensures fit { OnOk result (IsFitMachine self.new) }
+        ensures fit { OnOk result (IsFitMachine class.now self.new) }
     {
         match self.wanted {
             Some(of) if has_kind(of, &value) => self.leave(class, value),

@@ -23,12 +23,12 @@ impl Machine {
         class: &Class<'_>,
         expression: &Branch<'_>,
     ) -> Result<Event, EvalError>
-        requires fit { IsFitMachine self.old }
+        requires fit { IsFitMachine class.now self.old }
         ensures does { Leads class.now (choice (standing class.now self.old) expression.now.span.from
             (trees_of class.now.cells expression.now.id expression.now.children.now)
             self.old.state (rest class.now self.old)) result self.new }
         ensures falls { CostsBelow class.now (idle class.now self.old + 17) result self.new }
-        ensures fit { OnOk result (IsFitMachine self.new) }
+        ensures fit { OnOk result (IsFitMachine class.now self.new) }
     {
         let at = expression.span.from;
         if expression.children.len() != 3 {
@@ -51,13 +51,13 @@ impl Machine {
         either: bool,
         expression: &Branch<'_>,
     ) -> Result<Event, EvalError>
-        requires fit { IsFitMachine self.old }
+        requires fit { IsFitMachine class.now self.old }
         ensures does { Leads class.now (short (standing class.now self.old) either
             expression.now.span.from
             (trees_of class.now.cells expression.now.id expression.now.children.now)
             self.old.state (rest class.now self.old)) result self.new }
         ensures falls { CostsBelow class.now (idle class.now self.old + 17) result self.new }
-        ensures fit { OnOk result (IsFitMachine self.new) }
+        ensures fit { OnOk result (IsFitMachine class.now self.new) }
     {
         let at = expression.span.from;
         if expression.children.len() != 2 {
@@ -83,12 +83,12 @@ impl Machine {
         value: Value,
     ) -> Result<Event, EvalError>
         requires value { IsFit value }
-        requires fit { IsFitMachine self.old }
+        requires fit { IsFitMachine class.now self.old }
         ensures does { Leads class.now (with_condition (standing class.now self.old) at
             (tree_of class.now.cells first) (tree_of class.now.cells second) value self.old.state
             (rest class.now self.old)) result self.new }
         ensures falls { CostsBelow class.now (idle class.now self.old + 17) result self.new }
-        ensures fit { OnOk result (IsFitMachine self.new) }
+        ensures fit { OnOk result (IsFitMachine class.now self.new) }
     {
         match value {
             Value::Nothing => Err(EvalError::Unset(at)),
@@ -119,11 +119,11 @@ impl Machine {
         value: Value,
     ) -> Result<Event, EvalError>
         requires value { IsFit value }
-        requires fit { IsFitMachine self.old }
+        requires fit { IsFitMachine class.now self.old }
         ensures does { Leads class.now (picked at value self.old.state (rest class.now self.old))
             result self.new }
         ensures falls { CostsBelow class.now (idle class.now self.old + 5) result self.new }
-        ensures fit { OnOk result (IsFitMachine self.new) }
+        ensures fit { OnOk result (IsFitMachine class.now self.new) }
     {
         match value {
             Value::Nothing => Err(EvalError::Unset(at)),
@@ -144,12 +144,12 @@ impl Machine {
     ) -> Result<Event, EvalError>
         requires test { IsFit test }
         requires first { IsFit first }
-        requires fit { IsFitMachine self.old }
+        requires fit { IsFitMachine class.now self.old }
         ensures does { Leads class.now (with_second (standing class.now self.old) at
             (tree_of class.now.cells second) test first self.old.state (rest class.now self.old))
             result self.new }
         ensures falls { CostsBelow class.now (idle class.now self.old + 17) result self.new }
-        ensures fit { OnOk result (IsFitMachine self.new) }
+        ensures fit { OnOk result (IsFitMachine class.now self.new) }
     {
         self.tasks.push(Task::ChooseSecond { at, test, first })?;
         self.now = Now::Eval(second);
@@ -166,13 +166,13 @@ impl Machine {
         second: Part,
         value: &Value,
     ) -> Result<Event, EvalError>
-        requires fit { IsFitMachine self.old }
+        requires fit { IsFitMachine class.now self.old }
         ensures does { Leads class.now (first_decides either at value.now self.old.state
             (rest class.now self.old)
             (λ state. expr (standing class.now self.old) (tree_of class.now.cells second) state
             (λ value state. flag_alone at value state (rest class.now self.old)))) result self.new }
         ensures falls { CostsBelow class.now (idle class.now self.old + 17) result self.new }
-        ensures fit { OnOk result (IsFitMachine self.new) }
+        ensures fit { OnOk result (IsFitMachine class.now self.new) }
     {
         match value {
             Value::Flag(holds) => {
@@ -196,11 +196,11 @@ impl Machine {
         at: u32,
         value: &Value,
     ) -> Result<Event, EvalError>
-        requires fit { IsFitMachine self.old }
+        requires fit { IsFitMachine class.now self.old }
         ensures does { Leads class.now (flag_alone at value.now self.old.state
             (rest class.now self.old)) result self.new }
         ensures falls { CostsBelow class.now (idle class.now self.old + 5) result self.new }
-        ensures fit { OnOk result (IsFitMachine self.new) }
+        ensures fit { OnOk result (IsFitMachine class.now self.new) }
     {
         match value {
             Value::Flag(holds) => self.give(class, Value::Flag(*holds)),

@@ -23,11 +23,11 @@ impl Machine {
     #[tactic(auto, unfolding(crate::specs::Going::go, kernel_meaning::specs::Run::expr))]
     pub(crate) fn give(&mut self, class: &Class<'_>, value: Value) -> Result<Event, EvalError>
         requires value { IsFit value }
-        requires fit { IsFitMachine self.old }
+        requires fit { IsFitMachine class.now self.old }
         ensures does { Leads class.now (rest class.now self.old value self.old.state)
             result self.new }
         ensures falls { CostsBelow class.now (idle class.now self.old + 5) result self.new }
-        ensures fit { OnOk result (IsFitMachine self.new) }
+        ensures fit { OnOk result (IsFitMachine class.now self.new) }
     {
         self.now = Now::Give(value);
         Ok(Event::On)
@@ -37,12 +37,12 @@ impl Machine {
     #[tactic(auto, unfolding(crate::specs::Going::go, kernel_meaning::specs::Run::expr))]
     pub(crate) fn settle(&mut self, class: &Class<'_>, done: Done) -> Result<Event, EvalError>
         requires value { IsFit done.value }
-        requires fit { IsFitMachine self.old }
+        requires fit { IsFitMachine class.now self.old }
         ensures does { Leads class.now
             (after_calls done.calls done.value self.old.state (rest class.now self.old))
             result self.new }
         ensures falls { CostsBelow class.now (idle class.now self.old + 5) result self.new }
-        ensures fit { OnOk result (IsFitMachine self.new) }
+        ensures fit { OnOk result (IsFitMachine class.now self.new) }
     {
         self.now = Now::Give(done.value);
         Ok(Event::Makes(done.calls))
@@ -63,13 +63,13 @@ impl Machine {
     ) -> Result<Event, EvalError>
         requires purpose { IsFitPurpose purpose }
         requires values { AreFit values }
-        requires fit { IsFitMachine self.old }
+        requires fit { IsFitMachine class.now self.old }
         requires within { AreWithin class.now.cells }
         ensures does { Leads class.now (operands_left class.now.cells (standing class.now self.old)
             purpose at node place count values self.old.state (rest class.now self.old))
             result self.new }
         ensures falls { CostsBelow class.now (idle class.now self.old + 49) result self.new }
-        ensures fit { OnOk result (IsFitMachine self.new) }
+        ensures fit { OnOk result (IsFitMachine class.now self.new) }
     {
         let parts = branch_at(class.tree(), node);
         if count == 0 || place >= parts.children.len() {
@@ -99,12 +99,12 @@ impl Machine {
     ) -> Result<Event, EvalError>
         requires purpose { IsFitPurpose purpose }
         requires values { AreFit values }
-        requires fit { IsFitMachine self.old }
+        requires fit { IsFitMachine class.now self.old }
         requires within { AreWithin class.now.cells }
         ensures does { Leads class.now (finish class.now.cells (standing class.now self.old)
             purpose at values self.old.state (rest class.now self.old)) result self.new }
         ensures falls { CostsBelow class.now (idle class.now self.old + 49) result self.new }
-        ensures fit { OnOk result (IsFitMachine self.new) }
+        ensures fit { OnOk result (IsFitMachine class.now self.new) }
     {
         match purpose {
             Purpose::ForRow(row) => self.operate(alloc, class, row, at, values),
@@ -131,12 +131,12 @@ impl Machine {
     ) -> Result<Event, EvalError>
         requires purpose { IsFitPurpose (Purpose.ForRow row) }
         requires values { AreFit values }
-        requires fit { IsFitMachine self.old }
+        requires fit { IsFitMachine class.now self.old }
         requires within { AreWithin class.now.cells }
         ensures does { Leads class.now (operate (standing class.now self.old) row at values
             self.old.state (rest class.now self.old)) result self.new }
         ensures falls { CostsBelow class.now (idle class.now self.old + 49) result self.new }
-        ensures fit { OnOk result (IsFitMachine self.new) }
+        ensures fit { OnOk result (IsFitMachine class.now self.new) }
     {
         match row {
             Row::OwnMethod(name) => self.enter(alloc, class, &name, at, values),
@@ -154,13 +154,13 @@ impl Machine {
         class: &Class<'_>,
         part: Part,
     ) -> Result<Event, EvalError>
-        requires fit { IsFitMachine self.old }
+        requires fit { IsFitMachine class.now self.old }
         requires within { AreWithin class.now.cells }
         ensures does { Leads class.now (expr (standing class.now self.old)
             (tree_of class.now.cells part) self.old.state (rest class.now self.old))
             result self.new }
         ensures falls { CostsBelow class.now (idle class.now self.old) result self.new }
-        ensures fit { OnOk result (IsFitMachine self.new) }
+        ensures fit { OnOk result (IsFitMachine class.now self.new) }
     {
         let expression = node_at(class, part);
         if is_mute_part(class, &self.state, part) {
@@ -186,13 +186,13 @@ impl Machine {
     ) -> Result<Event, EvalError>
         requires tree { branch_tree class.now.cells expression.now ≡ tree_of class.now.cells part }
         requires literal { IsWithin expression.now.kind expression.now.word.now }
-        requires fit { IsFitMachine self.old }
+        requires fit { IsFitMachine class.now self.old }
         requires within { AreWithin class.now.cells }
         ensures does { Leads class.now
             (planned_at (standing class.now self.old) (tree_of class.now.cells part) self.old.state
             (rest class.now self.old)) result self.new }
         ensures falls { CostsBelow class.now (idle class.now self.old + 65) result self.new }
-        ensures fit { OnOk result (IsFitMachine self.new) }
+        ensures fit { OnOk result (IsFitMachine class.now self.new) }
     {
         let at = expression.span.from;
         match plan_of(alloc, class, expression, &self.state)? {

@@ -3,14 +3,14 @@
 
 use crate::task::{Part, Task};
 use kernel_calls::Call;
-use kernel_meaning::{Binding, Declared, Stack, State, Value};
+use kernel_meaning::{Bindings, Declared, Stack, State, Value};
 use mx_base::List;
 
 /// A method that waits for another: its tasks, its variables, and the type of its result.
 #[derive(Drop)]
 pub struct Frame {
     pub tasks: Stack<Task>,
-    pub variables: Stack<Binding>,
+    pub variables: Bindings,
     pub wanted: Option<Declared>,
 }
 

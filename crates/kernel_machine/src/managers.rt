@@ -33,13 +33,13 @@ impl Machine {
         class: &Class<'_>,
         expression: &Branch<'_>,
     ) -> Result<Event, EvalError>
-        requires fit { IsFitMachine self.old }
+        requires fit { IsFitMachine class.now self.old }
         requires within { AreWithin class.now.cells }
         ensures does { Leads class.now (addition (standing class.now self.old) expression.now.span.from
             (trees_of class.now.cells expression.now.id expression.now.children.now)
             self.old.state (rest class.now self.old)) result self.new }
         ensures falls { CostsBelow class.now (idle class.now self.old + 65) result self.new }
-        ensures fit { OnOk result (IsFitMachine self.new) }
+        ensures fit { OnOk result (IsFitMachine class.now self.new) }
     {
         let at = expression.span.from;
         if expression.children.len() != 1 {
@@ -63,12 +63,12 @@ impl Machine {
         made: &Branch<'_>,
     ) -> Result<Event, EvalError>
         requires tree { tree_of class.now.cells node ≡ branch_tree class.now.cells made.now }
-        requires fit { IsFitMachine self.old }
+        requires fit { IsFitMachine class.now self.old }
         requires within { AreWithin class.now.cells }
         ensures does { Leads class.now (new_at (standing class.now self.old) (tree_of class.now.cells node)
             self.old.state (rest class.now self.old)) result self.new }
         ensures falls { CostsBelow class.now (idle class.now self.old) result self.new }
-        ensures fit { OnOk result (IsFitMachine self.new) }
+        ensures fit { OnOk result (IsFitMachine class.now self.new) }
     {
         let at = made.span.from;
         if !self.count() {
@@ -104,14 +104,14 @@ impl Machine {
         settings: &Branch<'_>,
     ) -> Result<Event, EvalError>
         requires tree { tree_of class.now.cells first ≡ branch_tree class.now.cells settings.now }
-        requires fit { IsFitMachine self.old }
+        requires fit { IsFitMachine class.now self.old }
         requires within { AreWithin class.now.cells }
         ensures does { Leads class.now (named_by (standing class.now self.old) (tree_of class.now.cells node)
             number settings.now.span.from
             (trees_of class.now.cells settings.now.id settings.now.children.now) self.old.state
             (rest class.now self.old)) result self.new }
         ensures falls { CostsBelow class.now (idle class.now self.old) result self.new }
-        ensures fit { OnOk result (IsFitMachine self.new) }
+        ensures fit { OnOk result (IsFitMachine class.now self.new) }
     {
         let at = settings.span.from;
         if !self.count() {
@@ -139,13 +139,13 @@ impl Machine {
         values: List<Value>,
     ) -> Result<Event, EvalError>
         requires values { AreFit values }
-        requires fit { IsFitMachine self.old }
+        requires fit { IsFitMachine class.now self.old }
         requires within { AreWithin class.now.cells }
         ensures does { Leads class.now (named at values self.old.state
             (λ name state. with_name (standing class.now self.old) (tree_of class.now.cells node)
             number name state (rest class.now self.old))) result self.new }
         ensures falls { CostsBelow class.now (idle class.now self.old + 49) result self.new }
-        ensures fit { OnOk result (IsFitMachine self.new) }
+        ensures fit { OnOk result (IsFitMachine class.now self.new) }
     {
         let name = match kernel_name(alloc, at, values.as_slice()) {
             Ok(name) => name,
@@ -188,10 +188,10 @@ impl Machine {
         values: List<Value>,
     ) -> Result<Event, EvalError>
         requires values { AreFit values }
-        requires fit { IsFitMachine self.old }
+        requires fit { IsFitMachine class.now self.old }
         ensures does { Leads class.now (added at number name.now values self.old.state (rest class.now self.old)) result self.new }
         ensures falls { CostsBelow class.now (idle class.now self.old + 5) result self.new }
-        ensures fit { OnOk result (IsFitMachine self.new) }
+        ensures fit { OnOk result (IsFitMachine class.now self.new) }
     {
         match kernel_added(alloc, at, name, number, values.as_slice(), &mut self.state) {
             Ok(value) => self.give(class, value),

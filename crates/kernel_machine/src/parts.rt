@@ -1,17 +1,22 @@
 // The nodes and parts that the machine takes.
-ghost use Rattle.std.specs.Prelude.{◌≡◌};
+ghost use Rattle.std.specs.Prelude.{◌≡◌, ℕ, Some, IfOk};
 ghost use Rattle.kernel_meaning.specs.Names as Names;
+ghost use Rattle.kernel_meaning.specs.Values as Values;
 ghost use Rattle.kernel_plans.specs.Trees.{tree_of, branch_tree, AreWithin, IsWithin};
+ghost use Rattle.kernel_machine.specs.Answers.{IsPresent};
 ghost use Rattle.kernel_machine.specs.Positions.{IsPart};
 
 use crate::task::Part;
-use kernel_meaning::State;
-use kernel_plans::{Branch, Class, branch_at, is_mute, mute_place};
+use kernel_meaning::{Declared, EvalError, State, Value};
+use kernel_plans::{Branch, Class, branch_at, declared_by, is_mute, mute_place};
+use mx_base::{NoMemory, Text};
+use std::alloc::Global;
 
 // The node of a part.
 pub(crate) fn node_at<'a>(class: &'a Class<'_>, part: Part) -> Branch<'a>
     ensures tree { tree_of class.now.cells part ≡ branch_tree class.now.cells result }
     ensures within { AreWithin class.now.cells → IsWithin result.kind result.word.now }
+    ensures number { (n : ℕ) → part ≡ Some n → result.id ≡ n }
 {
     branch_at(class.tree(), part)
 }
@@ -35,4 +40,28 @@ pub(crate) fn mute_place_of(class: &Class<'_>, part: Part) -> u32
     ensures { result ≡ Names.mute_place (tree_of class.now.cells part) }
 {
     mute_place(class.tree(), part)
+}
+
+// The type that a part says, or the place of what names none.
+pub(crate) fn type_at(class: &Class<'_>, part: Part) -> Result<Declared, u32>
+    ensures { result ≡ Values.declared_by (tree_of class.now.cells part) }
+{
+    declared_by(class.tree(), part)
+}
+
+// The value that a production uses, which must be set.
+pub(crate) fn present(at: u32, value: Value) -> Result<Value, EvalError>
+    ensures { IsPresent at value result }
+{
+    match value {
+        Value::Nothing => Err(EvalError::Unset(at)),
+        value => Ok(value),
+    }
+}
+
+// The name that a word is.
+pub(crate) fn name_of(alloc: Global, word: &[u8]) -> Result<Text, NoMemory>
+    ensures { IfOk result (λ name. name ≡ word.now) }
+{
+    Ok(Text::from_vec(word.to_vec(alloc)?))
 }

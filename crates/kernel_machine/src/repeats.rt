@@ -9,6 +9,7 @@ ghost use Rattle.maxj_syntax.specs.declared.tree.NodeKind.{NodeKind};
 ghost use Rattle.kernel_machine.specs.Going.{Leads, standing, rest, after, leaving};
 ghost use Rattle.kernel_machine.specs.Falls.{CostsBelow, idle};
 ghost use Rattle.kernel_machine.specs.Fit.{IsFitMachine};
+ghost use Rattle.kernel_rows.specs.Kept.{IsKept};
 
 use crate::branches::condition;
 use crate::counting::most_turns;
@@ -27,11 +28,11 @@ impl Machine {
         repeat: Loop,
         more: u64,
     ) -> Result<Event, EvalError>
-        requires fit { IsFitMachine self.old }
+        requires fit { IsFitMachine class.now self.old }
         ensures does { Leads class.now (turns_left class.now.cells (standing class.now self.old)
             (leaving class.now self.old) repeat more self.old.state (after class.now self.old)) result self.new }
         ensures falls { CostsBelow class.now (idle class.now self.old + 17) result self.new }
-        ensures fit { OnOk result (IsFitMachine self.new) }
+        ensures fit { OnOk result (IsFitMachine class.now self.new) }
     {
         let Some(more) = more.checked_sub(1) else {
             return Err(EvalError::StepLimit);
@@ -49,13 +50,13 @@ impl Machine {
     // The body of a loop is run.
     #[tactic(auto, unfolding(crate::specs::Going::go, kernel_meaning::specs::Ways::turns))]
     fn turn_body(&mut self, class: &Class<'_>, repeat: Loop, more: u64) -> Result<Event, EvalError>
-        requires fit { IsFitMachine self.old }
+        requires fit { IsFitMachine class.now self.old }
         ensures does { Leads class.now (body_of class.now.cells (standing class.now self.old)
             (leaving class.now self.old) repeat self.old.state
             (λ state. turns_left class.now.cells (standing class.now self.old)
             (leaving class.now self.old) repeat more state (after class.now self.old))) result self.new }
         ensures falls { CostsBelow class.now (idle class.now self.old + 17) result self.new }
-        ensures fit { OnOk result (IsFitMachine self.new) }
+        ensures fit { OnOk result (IsFitMachine class.now self.new) }
     {
         self.tasks.push(Task::LoopBody { repeat, more })?;
         self.now = Now::Exec(repeat.body);
@@ -71,12 +72,12 @@ impl Machine {
         more: u64,
         value: &Value,
     ) -> Result<Event, EvalError>
-        requires fit { IsFitMachine self.old }
+        requires fit { IsFitMachine class.now self.old }
         ensures does { Leads class.now (turn_on class.now.cells (standing class.now self.old)
             (leaving class.now self.old) repeat more value.now self.old.state
             (after class.now self.old)) result self.new }
         ensures falls { CostsBelow class.now (idle class.now self.old + 17) result self.new }
-        ensures fit { OnOk result (IsFitMachine self.new) }
+        ensures fit { OnOk result (IsFitMachine class.now self.new) }
     {
         if condition(repeat.at, value)? {
             return self.turn_body(class, repeat, more);
@@ -87,9 +88,9 @@ impl Machine {
 
     // Only so many variables are left, after a `for`.
     fn leave_variables(&mut self, count: Option<usize>)
-        requires fit { IsFitMachine self.old }
+        requires kept { IsKept self.old.state }
         ensures left { self.new ≡ record self.old { state = left_by count self.old.state } }
-        ensures fit { IsFitMachine self.new }
+        ensures kept { IsKept self.new.state }
     {
         if let Some(count) = count {
             self.state.variables.keep(count);
@@ -104,13 +105,13 @@ impl Machine {
         repeat: Loop,
         more: u64,
     ) -> Result<Event, EvalError>
-        requires fit { IsFitMachine self.old }
+        requires fit { IsFitMachine class.now self.old }
         ensures does { Leads class.now (step_of class.now.cells (standing class.now self.old)
             (leaving class.now self.old) repeat.step self.old.state
             (λ state. turns_left class.now.cells (standing class.now self.old)
             (leaving class.now self.old) repeat more state (after class.now self.old))) result self.new }
         ensures falls { CostsBelow class.now (idle class.now self.old + 17) result self.new }
-        ensures fit { OnOk result (IsFitMachine self.new) }
+        ensures fit { OnOk result (IsFitMachine class.now self.new) }
     {
         if repeat.step.is_none() {
             return self.turn(class, repeat, more);
@@ -128,12 +129,12 @@ impl Machine {
         statement: &Branch<'_>,
     ) -> Result<Event, EvalError>
         requires kind { statement.now.kind ≡ NodeKind.While }
-        requires fit { IsFitMachine self.old }
+        requires fit { IsFitMachine class.now self.old }
         ensures does { Leads class.now (exec (standing class.now self.old)
             (branch_tree class.now.cells statement.now) self.old.state
             (after class.now self.old) (leaving class.now self.old)) result self.new }
         ensures falls { CostsBelow class.now (idle class.now self.old) result self.new }
-        ensures fit { OnOk result (IsFitMachine self.new) }
+        ensures fit { OnOk result (IsFitMachine class.now self.new) }
     {
         let at = statement.span.from;
         if statement.children.len() != 2 {
@@ -161,12 +162,12 @@ impl Machine {
         statement: &Branch<'_>,
     ) -> Result<Event, EvalError>
         requires kind { statement.now.kind ≡ NodeKind.For }
-        requires fit { IsFitMachine self.old }
+        requires fit { IsFitMachine class.now self.old }
         ensures does { Leads class.now (exec (standing class.now self.old)
             (branch_tree class.now.cells statement.now) self.old.state
             (after class.now self.old) (leaving class.now self.old)) result self.new }
         ensures falls { CostsBelow class.now (idle class.now self.old) result self.new }
-        ensures fit { OnOk result (IsFitMachine self.new) }
+        ensures fit { OnOk result (IsFitMachine class.now self.new) }
     {
         let at = statement.span.from;
         if statement.children.len() != 4 {

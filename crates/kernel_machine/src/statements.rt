@@ -10,9 +10,11 @@ ghost use Rattle.kernel_machine.specs.Fit.{IsFitMachine};
 
 use crate::machine::{Event, Machine, Now};
 use crate::parts::part;
-use crate::task::{Part, Task};
-use kernel_meaning::{EvalError, Value};
+use crate::task::{Part, Purpose, Task};
+use kernel_meaning::{EvalError, Row, Value};
 use kernel_plans::{Branch, Class, branch_at};
+use mx_base::List;
+use std::alloc::Global;
 
 impl Machine {
     // A block goes on with the statement of this place, and then leaves so many variables.
@@ -24,12 +26,12 @@ impl Machine {
         place: usize,
         count: usize,
     ) -> Result<Event, EvalError>
-        requires fit { IsFitMachine self.old }
+        requires fit { IsFitMachine class.now self.old }
         ensures does { Leads class.now (block (standing class.now self.old) count
             (from_place place (parts (tree_of class.now.cells node))) self.old.state
             (after class.now self.old) (leaving class.now self.old)) result self.new }
         ensures falls { CostsBelow class.now (idle class.now self.old + 17) result self.new }
-        ensures fit { OnOk result (IsFitMachine self.new) }
+        ensures fit { OnOk result (IsFitMachine class.now self.new) }
     {
         let parts = branch_at(class.tree(), node);
         if place >= parts.children.len() {
@@ -47,14 +49,18 @@ impl Machine {
 
     // A call that is a statement.
     #[tactic(auto, unfolding(crate::specs::Going::go, kernel_meaning::specs::Run::expr))]
-    fn call(&mut self, class: &Class<'_>, statement: &Branch<'_>) -> Result<Event, EvalError>
+    pub(crate) fn call(
+        &mut self,
+        class: &Class<'_>,
+        statement: &Branch<'_>,
+    ) -> Result<Event, EvalError>
         requires kind { statement.now.kind ≡ NodeKind.Run }
-        requires fit { IsFitMachine self.old }
+        requires fit { IsFitMachine class.now self.old }
         ensures does { Leads class.now (exec (standing class.now self.old)
             (branch_tree class.now.cells statement.now) self.old.state
             (after class.now self.old) (leaving class.now self.old)) result self.new }
         ensures falls { CostsBelow class.now (idle class.now self.old) result self.new }
-        ensures fit { OnOk result (IsFitMachine self.new) }
+        ensures fit { OnOk result (IsFitMachine class.now self.new) }
     {
         if statement.children.len() != 1 {
             return Err(EvalError::WrongKind(statement.span.from));
@@ -70,18 +76,18 @@ impl Machine {
 
     // `return`, with a value or without.
     #[tactic(auto, unfolding(crate::specs::Going::go, kernel_meaning::specs::Run::expr))]
-    fn return_value(
+    pub(crate) fn return_value(
         &mut self,
         class: &Class<'_>,
         statement: &Branch<'_>,
     ) -> Result<Event, EvalError>
         requires kind { statement.now.kind ≡ NodeKind.Return }
-        requires fit { IsFitMachine self.old }
+        requires fit { IsFitMachine class.now self.old }
         ensures does { Leads class.now (exec (standing class.now self.old)
             (branch_tree class.now.cells statement.now) self.old.state
             (after class.now self.old) (leaving class.now self.old)) result self.new }
         ensures falls { CostsBelow class.now (idle class.now self.old) result self.new }
-        ensures fit { OnOk result (IsFitMachine self.new) }
+        ensures fit { OnOk result (IsFitMachine class.now self.new) }
     {
         let at = statement.span.from;
         match statement.children.len() {
@@ -102,5 +108,103 @@ impl Machine {
             }
             _ => Err(EvalError::WrongKind(at)),
         }
+    }
+
+    // The statement that does nothing.
+    #[tactic(auto, unfolding(crate::specs::Going::go, kernel_meaning::specs::Run::expr))]
+    pub(crate) fn nothing(
+        &mut self,
+        class: &Class<'_>,
+        statement: &Branch<'_>,
+    ) -> Result<Event, EvalError>
+        requires kind { statement.now.kind ≡ NodeKind.Empty }
+        requires fit { IsFitMachine class.now self.old }
+        ensures does { Leads class.now (exec (standing class.now self.old)
+            (branch_tree class.now.cells statement.now) self.old.state
+            (after class.now self.old) (leaving class.now self.old)) result self.new }
+        ensures falls { CostsBelow class.now (idle class.now self.old) result self.new }
+        ensures fit { OnOk result (IsFitMachine class.now self.new) }
+    {
+        if !self.count() {
+            return Err(EvalError::StepLimit);
+        }
+        self.give(class, Value::Nothing)
+    }
+
+    // A block, which is this node.
+    #[tactic(auto, unfolding(crate::specs::Going::go, kernel_meaning::specs::Run::expr))]
+    pub(crate) fn block(
+        &mut self,
+        class: &Class<'_>,
+        node: Part,
+        statement: &Branch<'_>,
+    ) -> Result<Event, EvalError>
+        requires tree { tree_of class.now.cells node ≡ branch_tree class.now.cells statement.now }
+        requires kind { statement.now.kind ≡ NodeKind.Block }
+        requires fit { IsFitMachine class.now self.old }
+        ensures does { Leads class.now (exec (standing class.now self.old)
+            (branch_tree class.now.cells statement.now) self.old.state
+            (after class.now self.old) (leaving class.now self.old)) result self.new }
+        ensures falls { CostsBelow class.now (idle class.now self.old) result self.new }
+        ensures fit { OnOk result (IsFitMachine class.now self.new) }
+    {
+        let count = self.state.variables.len();
+        if !self.count() {
+            return Err(EvalError::StepLimit);
+        }
+        self.statements(class, node, 0, count)
+    }
+
+    // `if`, which is this node.
+    #[tactic(auto, unfolding(crate::specs::Going::go, kernel_meaning::specs::Run::expr))]
+    pub(crate) fn conditional(
+        &mut self,
+        class: &Class<'_>,
+        node: Part,
+        statement: &Branch<'_>,
+    ) -> Result<Event, EvalError>
+        requires tree { tree_of class.now.cells node ≡ branch_tree class.now.cells statement.now }
+        requires kind { statement.now.kind ≡ NodeKind.If }
+        requires fit { IsFitMachine class.now self.old }
+        ensures does { Leads class.now (exec (standing class.now self.old)
+            (branch_tree class.now.cells statement.now) self.old.state
+            (after class.now self.old) (leaving class.now self.old)) result self.new }
+        ensures falls { CostsBelow class.now (idle class.now self.old) result self.new }
+        ensures fit { OnOk result (IsFitMachine class.now self.new) }
+    {
+        let at = statement.span.from;
+        if !self.count() {
+            return Err(EvalError::StepLimit);
+        }
+        self.branches(class, at, node, 0)
+    }
+
+    // `<==`, which is this node.
+    #[tactic(auto, unfolding(crate::specs::Going::go, kernel_meaning::specs::Run::expr))]
+    pub(crate) fn connect(
+        &mut self,
+        alloc: Global,
+        class: &Class<'_>,
+        node: Part,
+        statement: &Branch<'_>,
+    ) -> Result<Event, EvalError>
+        requires tree { tree_of class.now.cells node ≡ branch_tree class.now.cells statement.now }
+        requires kind { statement.now.kind ≡ NodeKind.Connect }
+        requires fit { IsFitMachine class.now self.old }
+        requires within { AreWithin class.now.cells }
+        ensures does { Leads class.now (exec (standing class.now self.old)
+            (branch_tree class.now.cells statement.now) self.old.state
+            (after class.now self.old) (leaving class.now self.old)) result self.new }
+        ensures falls { CostsBelow class.now (idle class.now self.old) result self.new }
+        ensures fit { OnOk result (IsFitMachine class.now self.new) }
+    {
+        let at = statement.span.from;
+        if !self.count() {
+            return Err(EvalError::StepLimit);
+        }
+        self.tasks.push(Task::Discard)?;
+        let purpose = Purpose::ForRow(Row::Connect);
+        let values = List::new(alloc);
+        self.operands(alloc, class, purpose, at, node, 0, 2, values)
     }
 }

@@ -1,5 +1,5 @@
 // What waits for a value, or for the end of a statement.
-use kernel_meaning::{Binding, Declared, Row, Spot, Stack, Value};
+use kernel_meaning::{Bindings, Declared, Row, Spot, Stack, Value};
 use maxj_syntax::NodeId;
 use mx_base::{List, Text};
 
@@ -158,6 +158,6 @@ pub enum Task {
     Fields {
         place: usize,
         body: Part,
-        variables: Stack<Binding>,
+        variables: Bindings,
     },
 }

@@ -16,3 +16,7 @@ pub mod KernelExamples
 pub mod CounterExamples
 pub mod RunExamples
 pub mod ManagerExamples
+pub mod Found
+pub mod PlaceLaws
+pub mod Indexed
+pub mod Dropped

@@ -21,3 +21,5 @@ pub mod Constructors
 pub mod Managers
 pub mod Sound
 pub mod Nodes
+pub mod Places
+pub mod Index

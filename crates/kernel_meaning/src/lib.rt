@@ -2,6 +2,7 @@
 //! that each call of a kernel may come after those before it.
 #![tactic(auto)]
 
+mod bindings;
 mod error;
 mod laws;
 mod plan;
@@ -10,6 +11,7 @@ mod stack;
 mod state;
 mod value;
 
+pub use bindings::Bindings;
 pub use error::EvalError;
 pub use laws::lawful;
 pub use plan::{Arg, End, Join, Made, Plan, Side};

@@ -1,5 +1,5 @@
 // What a building run changes.
-use crate::{Declared, Plan, Stack, Value};
+use crate::{Bindings, Declared, Plan, Stack, Value};
 use fix_arith::RoundMode;
 use mx_base::{List, Text};
 
@@ -22,8 +22,8 @@ pub struct Digit {
 #[derive(Drop)]
 pub struct State {
     /// The variables of the running method, the newest first.
-    pub variables: Stack<Binding>,
-    pub fields: Stack<Binding>,
+    pub variables: Bindings,
+    pub fields: Bindings,
     /// The elements of each array. A value names its array by number, so arrays are shared.
     pub arrays: List<List<Value>>,
     /// The digits of all chains, the newest first.

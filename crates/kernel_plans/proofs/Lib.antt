@@ -3,7 +3,6 @@ pub mod Types
 pub mod MethodTables
 pub mod KernelNumbers
 pub mod Parameters
-pub mod Newest
 pub mod Members
 pub mod Places
 pub mod Decimals

@@ -14,8 +14,7 @@ ghost use Rattle.kernel_plans.specs.Trees.{tree_of, trees_of, branch_tree};
 use crate::branch::{Branch, branch_at, declared_by};
 use crate::class::Class;
 use crate::kinds::has_kind;
-use crate::variables::bound_in;
-use kernel_meaning::{Base, Binding, Declared, EvalError, Stack, Value};
+use kernel_meaning::{Base, Binding, Bindings, Declared, EvalError, Value};
 use maxj_syntax::{NodeId, NodeKind, SyntaxTree};
 use mx_base::{List, NoMemory, Text};
 use std::alloc::Global;
@@ -27,7 +26,7 @@ const VOID: &[u8] = b"void";
 #[derive(Drop)]
 pub struct Entered {
     pub wanted: Option<Declared>,
-    pub variables: Stack<Binding>,
+    pub variables: Bindings,
     pub block: Option<NodeId>,
 }
 
@@ -41,10 +40,10 @@ struct Callee<'a> {
 }
 
 // Whether there is a binding of this name.
-fn is_bound(name: &[u8], variables: &Stack<Binding>) -> bool
+fn is_bound(name: &[u8], variables: &Bindings) -> bool
     ensures { result ≡ is_some (Names.bound_in name.now variables.now) }
 {
-    bound_in(name, variables).is_some()
+    variables.newest(name).is_some()
 }
 
 // A parameter gets its value, for the production at a place.
@@ -54,7 +53,7 @@ fn bind(
     parameter: &Branch<'_>,
     user: u32,
     value: Value,
-    variables: &mut Stack<Binding>,
+    variables: &mut Bindings,
 ) -> Result<(), EvalError>
     requires value { IsFit value }
     requires fit { AreBoundFit variables.old }
@@ -76,7 +75,7 @@ fn bind(
         return Err(EvalError::WrongKind(user));
     }
     let name = Text::from_vec(parameter.word.to_vec(alloc)?);
-    variables.push(Binding { name, of, value })?;
+    variables.push(alloc, Binding { name, of, value })?;
     Ok(())
 }
 
@@ -98,7 +97,7 @@ fn body(
     ensures fit { IfOk result (λ entered. AreBoundFit entered.variables) }
 {
     let node = &callee.node;
-    let mut variables = Stack::new(alloc);
+    let mut variables = Bindings::new(alloc);
     let mut place = callee.first;
     for value in values.into_vec() {
         if place >= node.children.len() {
@@ -229,7 +228,7 @@ fn put_field(
     alloc: Global,
     tree: &SyntaxTree<'_>,
     member: Option<NodeId>,
-    fields: &mut Stack<Binding>,
+    fields: &mut Bindings,
 ) -> Result<(), NoMemory>
     ensures { OnOk result (fields.new ≡ ahead (tree_of tree.now member) fields.old) }
 {
@@ -241,18 +240,18 @@ fn put_field(
     let of = type_ahead(tree, field.part(0));
     let name = Text::from_vec(field.word.to_vec(alloc)?);
     let value = Value::Nothing;
-    fields.push(Binding { name, of, value })?;
+    fields.push(alloc, Binding { name, of, value })?;
     Ok(())
 }
 
 /// All fields of a class, known from the start and not set.
-pub fn fields_ahead(alloc: Global, class: &Class<'_>) -> Result<Stack<Binding>, NoMemory>
+pub fn fields_ahead(alloc: Global, class: &Class<'_>) -> Result<Bindings, NoMemory>
     ensures fields { IfOk result (λ fields. fields ≡ all_ahead (members class.now) []) }
     ensures fit { IfOk result AreBoundFit }
 {
     let tree = class.tree();
     let node = branch_at(tree, Some(class.node()));
-    let mut fields = Stack::new(alloc);
+    let mut fields = Bindings::new(alloc);
     for place in 0..node.children.len() {
         put_field(alloc, tree, node.part(place), &mut fields)?;
     }

@@ -24,5 +24,5 @@ pub use kernels::KernelClasses;
 pub use kinds::has_kind;
 pub use paths::{is_mute, mute_place};
 pub use plan::plan_of;
-pub use variables::{bound_in, variable};
+pub use variables::variable;
 pub use words::base_of;

@@ -4,7 +4,7 @@ ghost use Rattle.kernel_rows.specs.Kept.{IsKept};
 
 use fix_arith::{RoundMode, StreamType};
 use kernel_calls::Call;
-use kernel_meaning::{Base, Declared, EvalError, Plan, Row, Sign, Stack, State, Value};
+use kernel_meaning::{Base, Bindings, Declared, EvalError, Plan, Row, Sign, Stack, State, Value};
 use kernel_rows::{Done, combined, row_of, stepped};
 use mx_base::List;
 use mx_bits::Op;
@@ -18,8 +18,8 @@ fn state(alloc: Global, made: u32) -> State
     ensures { IsKept result }
 {
     State {
-        variables: Stack::new(alloc),
-        fields: Stack::new(alloc),
+        variables: Bindings::new(alloc),
+        fields: Bindings::new(alloc),
         arrays: List::new(alloc),
         digits: Stack::new(alloc),
         modes: Stack::new(alloc),
