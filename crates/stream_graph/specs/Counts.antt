@@ -1,9 +1,9 @@
 -- What calls make, counted.
-use Rattle.std.specs.Prelude.{◌≡◌, ◌<◌, ◌^◌, ℕ, ◌+◌, List, [], ◌∷◌, length, Option, Some, None}
+use Rattle.std.specs.Prelude.{◌≡◌, ◌<◌, ◌^◌, ℕ, ◌+◌, zero, suc, min, List, length, Option, Some, None}
 use Rattle.kernel_calls.specs.declared.call.Call.{Call}
 use Rattle.kernel_calls.specs.declared.call.Call.TheVariants as C
 use Rattle.stream_graph.specs.declared.tally.Tally.{Tally}
-use Rattle.kernel_calls.specs.Calls.{nodes_of}
+use Rattle.kernel_calls.specs.Calls.{nodes_of, count_of}
 
 abbrev pub one_where : Option ℕ → ℕ
 one_where None = 0
@@ -36,50 +36,37 @@ abbrev pub connections_of : Call → ℕ
 connections_of (C.Connect feed value) = 1
 connections_of _ = 0
 
--- the counts rise by what the call makes
+-- the last value of a count
+abbrev pub most : ℕ
+most = 4294967295
+
+-- a count that rises by so much, and stays at its last value once it stands there
+abbrev pub raised : ℕ → ℕ → ℕ
+raised count zero = count
+raised count (suc more) = min (count + suc more) most
+
+-- the nodes rise by what the call makes, and so do the other counts up to their last value
 pub record Counted (old : Tally) (call : Call) (new : Tally) : Type 0 where
   pub nodes : new.nodes ≡ old.nodes + nodes_of call
-  pub operands : new.operands ≡ old.operands + operands_of call
-  pub bytes : new.bytes ≡ old.bytes + bytes_of call
-  pub digits : new.digits ≡ old.digits + digits_of call
-  pub connections : new.connections ≡ old.connections + connections_of call
+  pub operands : new.operands ≡ raised old.operands (operands_of call)
+  pub bytes : new.bytes ≡ raised old.bytes (bytes_of call)
+  pub digits : new.digits ≡ raised old.digits (digits_of call)
+  pub connections : new.connections ≡ raised old.connections (connections_of call)
 
--- the counts stay below 2^32
-pub record HasPlace (old : Tally) (call : Call) : Type 0 where
-  pub nodes : old.nodes + nodes_of call < 2 ^ 32
-  pub operands : old.operands + operands_of call < 2 ^ 32
-  pub bytes : old.bytes + bytes_of call < 2 ^ 32
-  pub digits : old.digits + digits_of call < 2 ^ 32
-  pub connections : old.connections + connections_of call < 2 ^ 32
+-- the nodes stay below 2^32
+abbrev pub HasPlace : Tally → Call → Type 0
+HasPlace old call = old.nodes + nodes_of call < 2 ^ 32
 
--- all five counts
-pub record Sizes : Type 0 where
-  pub nodes : ℕ
-  pub operands : ℕ
-  pub bytes : ℕ
-  pub digits : ℕ
-  pub connections : ℕ
-
--- what calls make together
-abbrev pub total : List Call → Sizes
-total [] = record { nodes = 0; operands = 0; bytes = 0; digits = 0; connections = 0 }
-total (call ∷ calls) =
-    record {
-      nodes = nodes_of call + (total calls).nodes;
-      operands = operands_of call + (total calls).operands;
-      bytes = bytes_of call + (total calls).bytes;
-      digits = digits_of call + (total calls).digits;
-      connections = connections_of call + (total calls).connections;
-    }
-
--- beside what a tally has counted, the calls make fewer than 2^32 of each
-pub record AreFew (t : Tally) (calls : List Call) : Type 0 where
-  pub nodes : t.nodes + (total calls).nodes < 2 ^ 32
-  pub operands : t.operands + (total calls).operands < 2 ^ 32
-  pub bytes : t.bytes + (total calls).bytes < 2 ^ 32
-  pub digits : t.digits + (total calls).digits < 2 ^ 32
-  pub connections : t.connections + (total calls).connections < 2 ^ 32
+-- beside the nodes that a tally has counted, the calls make fewer than 2^32
+abbrev pub AreFew : Tally → List Call → Type 0
+AreFew t calls = t.nodes + count_of calls < 2 ^ 32
 
 -- a tally just made
 abbrev pub empty : Tally
 empty = record { nodes = 0; operands = 0; bytes = 0; digits = 0; connections = 0 }
+
+-- no count of what takes room stands at its last value
+pub record IsBelow (t : Tally) : Type 0 where
+  pub operands : t.operands < most
+  pub bytes : t.bytes < most
+  pub connections : t.connections < most

@@ -2,6 +2,7 @@ pub mod Counts
 pub mod Faults
 pub mod Graphs
 pub mod Kernels
+pub mod Lines
 pub mod Met
 pub mod Nodes
 pub mod Parts

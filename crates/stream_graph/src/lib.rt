@@ -17,6 +17,7 @@ mod node;
 mod node_id;
 mod nodes;
 mod ports;
+mod refusal;
 mod reserve;
 mod reserved;
 mod row;

@@ -1,12 +1,14 @@
 // A builder that only counts.
 ghost use Rattle.std.specs.Prelude.{◌≡◌, ◌+◌, ◌<◌, ◌^◌};
+ghost use Rattle.stream_graph.specs.Counts.{raised};
 
 use crate::{Builder, NodeId};
 use counter_chains::CounterDigit;
 use fix_arith::{RoundMode, StreamType};
 use mx_bits::{Op, Word};
 
-/// Counts what the calls of a kernel make.
+/// Counts what the calls of a kernel make. A count but that of the nodes stays at its last value,
+/// 2^32 - 1, once it stands there.
 #[derive(Clone, Copy, Debug, PartialEq, Eq)]
 pub struct Tally {
     pub nodes: u32,
@@ -36,8 +38,8 @@ impl Builder for Tally {
         ensures count { self.new.nodes ≡ self.old.nodes + 1 }
     {
         let _unused = t;
-        self.bytes += name.len() as u32;
-        self.node(control.is_some() as u32)
+        self.bytes = with_more(self.bytes, name.len());
+        self.node(control.is_some() as usize)
     }
 
     fn output(
@@ -53,12 +55,12 @@ impl Builder for Tally {
         ensures count { self.new.nodes ≡ self.old.nodes + 1 }
     {
         let _unused = (value, t);
-        self.bytes += name.len() as u32;
-        self.node(1 + control.is_some() as u32)
+        self.bytes = with_more(self.bytes, name.len());
+        self.node(1 + control.is_some() as usize)
     }
 
     fn scalar(&mut self, name: &[u8], _t: StreamType) -> NodeId {
-        self.bytes += name.len() as u32;
+        self.bytes = with_more(self.bytes, name.len());
         self.node(0)
     }
 
@@ -74,7 +76,7 @@ impl Builder for Tally {
         args: &[NodeId],
         _t: StreamType,
     ) -> NodeId {
-        self.node(args.len() as u32)
+        self.node(args.len())
     }
 
     fn offset(&mut self, _value: NodeId, _k: i32, _t: StreamType) -> NodeId {
@@ -86,8 +88,8 @@ impl Builder for Tally {
     }
 
     fn connect(&mut self, _feed: NodeId, _value: NodeId) {
-        self.operands += 1;
-        self.connections += 1;
+        self.operands = with_more(self.operands, 1);
+        self.connections = with_more(self.connections, 1);
     }
 
     fn hold(&mut self, _value: NodeId, _store: NodeId, _t: StreamType) -> NodeId {
@@ -95,7 +97,7 @@ impl Builder for Tally {
     }
 
     fn counter(&mut self, _digit: CounterDigit) -> NodeId {
-        self.digits += 1;
+        self.digits = with_more(self.digits, 1);
         self.node(0)
     }
 
@@ -104,7 +106,7 @@ impl Builder for Tally {
     }
 
     fn chain_digit(&mut self, _chain: NodeId, _digit: CounterDigit) -> NodeId {
-        self.digits += 1;
+        self.digits = with_more(self.digits, 1);
         self.node(1)
     }
 }
@@ -116,8 +118,7 @@ impl Tally {
     ghost use Rattle.kernel_calls.specs.Laws.{HasRoom};
     ghost use Rattle.stream_graph.specs.Counts.{Counted, HasPlace, AreFew, empty};
 
-    /// Nothing is counted yet. There is room for all calls that together make fewer than 2^32 of
-    /// each thing counted.
+    /// Nothing is counted yet. There is room for all calls that together make fewer than 2^32 nodes.
     pub fn new() -> Tally
         ensures empty { result ≡ empty }
         ensures room { (calls : List Call) → AreFew result calls → HasRoom HasPlace Counted result calls }
@@ -132,15 +133,22 @@ impl Tally {
     }
 
     // A node with so many operands.
-    fn node(&mut self, operands: u32) -> NodeId
+    fn node(&mut self, operands: usize) -> NodeId
         requires nodes { self.old.nodes + 1 < 2 ^ 32 }
-        requires operands { self.old.operands + operands < 2 ^ 32 }
         ensures number { result ≡ self.old.nodes }
-        ensures made { self.new ≡ record self.old { nodes = self.old.nodes + 1; operands = self.old.operands + operands } }
+        ensures made { self.new ≡ record self.old { nodes = self.old.nodes + 1; operands = raised self.old.operands operands } }
     {
         let number = NodeId::new(self.nodes);
         self.nodes += 1;
-        self.operands += operands;
+        self.operands = with_more(self.operands, operands);
         number
     }
+}
+
+// A count with so many more, or its last value.
+fn with_more(count: u32, more: usize) -> u32
+    ensures { result ≡ raised count more }
+{
+    let sum = (count as u64).saturating_add(more as u64);
+    sum.min(u32::MAX as u64) as u32
 }
