@@ -7,9 +7,10 @@ use Rattle.cycle_find.specs.declared.arcs.Arc.{Arc}
 use Rattle.cycle_find.specs.Constraints.{EndsInRange, numbers_of, start_of, end_of}
 use Rattle.schedule_problem.specs.declared.problem.Problem.{Problem}
 use Rattle.schedule_problem.specs.Flow.{Flow, flow_of, excess}
-use Rattle.schedule_flow.specs.Network.{tail_of, head_of, at_node, above_zero, unsent, weights, IsKept, IsPath, IsSent, first_of, last_of}
+use Rattle.schedule_flow.specs.Network.{tail_of, head_of, at_node, sent_over, above_zero, unsent, weights, IsKept, IsPath, IsSent, first_of, last_of}
 use Rattle.schedule_problem.proofs.Sums.{total-change, total-le, total-none, passed, picked}
 use Rattle.schedule_flow.proofs.Cuts.{total-over}
+use Rattle.std.proofs.lemmas.List.Sums.{sum_by_more}
 use Rattle.std.proofs.lemmas.List.{take-append-le, take_all}
 use Rattle.std.proofs.Common.{take, drop, ◌++◌, ◌^◌}
 
@@ -27,6 +28,16 @@ carries_more p f g i a l same e v =
     let t = total-change m i (into f) (into g) l (λ k d. ap (λ y. cond (eqb (end_of p.arcs.list k) v) (pos y) (pos 0)) (same k d)) in
     omega (arith, ints, s, t, more_at (eqb (start_of p.arcs.list i) v) (f i) (g i) a e, more_at (eqb (end_of p.arcs.list i) v) (f i) (g i) a e)
 
+-- one residual arc more of the path
+over_more : (path : List ℕ) (a k r : ℕ) → k < length path → sent_over (take (k + 1) path) a r ≡ sent_over (take k path) a r + cond (eqb (get_or path k 0) r) a 0
+over_more path a k r l = sum_by_more (λ q. cond (eqb q r) a 0) path k 0 l
+
+over_it : (path : List ℕ) (a k r : ℕ) → k < length path → get_or path k 0 ≡ r → sent_over (take (k + 1) path) a r ≡ sent_over (take k path) a r + a
+over_it path a k r l e = over_more path a k r l ∙ ap (λ t. sent_over (take k path) a r + cond t a 0) (eq-eqb (get_or path k 0) r e)
+
+over_others : (path : List ℕ) (a k r : ℕ) → k < length path → get_or path k 0 ≢ r → sent_over (take (k + 1) path) a r ≡ sent_over (take k path) a r
+over_others path a k r l d = let z = passed (get_or path k 0) r a 0 d in omega (arith, over_more path a k r l, z)
+
 -- how far an amount was sent along a path
 pub record Sending (p : Problem) (old new : List ℕ) (path : List ℕ) (a k : ℕ) : Type 0 where
   pub node : ℕ
@@ -36,6 +47,7 @@ pub record Sending (p : Problem) (old new : List ℕ) (path : List ℕ) (a k : �
   pub most : (j : ℕ) → get_or new j 0 ≤ get_or old j 0 + a
   pub fresh : (i : ℕ) → k ≤ i → i < length path → get_or path i 0 % 2 ≡ 0 → get_or new (get_or path i 0 / 2) 0 ≤ get_or old (get_or path i 0 / 2) 0
   pub room : (i : ℕ) → k ≤ i → i < length path → get_or path i 0 % 2 ≡ 1 → a ≤ get_or new (get_or path i 0 / 2) 0
+  pub amounts : (j : ℕ) → pos (get_or new j 0) ≡ ((pos (get_or old j 0) +ℤ pos (sent_over (take k path) a (2 * j))) -ℤ pos (sent_over (take k path) a (2 * j + 1)))
   pub used : (j : ℕ) → 0 < get_or new j 0 → (0 < get_or old j 0) ⊎ ((i : ℕ) × (i < k) × (get_or path i 0 ≡ 2 * j))
 
 pub nothing_sent : (p : Problem) (old path : List ℕ) (a : ℕ) → IsPath p (flow_of old) path a → Sending p old old path a 0
@@ -47,6 +59,7 @@ nothing_sent p old path a h = record {
   most = λ j. omega arith;
   fresh = λ i l m e. omega arith;
   room = λ i l m e. (h.room i m).1 e;
+  amounts = λ j. let z : sent_over (take 0 path) a (2 * j) ≡ 0 = refl in let y : sent_over (take 0 path) a (2 * j + 1) ≡ 0 = refl in omega (arith, ints, z, y);
   used = λ j l. inl l;
 }
 
@@ -101,6 +114,18 @@ module _ (p : Problem) (old new : List ℕ) (path : List ℕ) (a k : ℕ) (h : I
             omega (arith, e1, here))
             (λ (d : get_or path n 0 / 2 ≢ i). omega (arith, off (get_or path n 0 / 2) d, before))
             (cases_eq (get_or path n 0 / 2) i);
+        amounts = λ j. ⊎_elim
+            (λ (q : j ≡ i).
+            let e1 : get_or now j 0 ≡ get_or now i 0 = ap (λ n. get_or now n 0) q in
+            let e2 : get_or new j 0 ≡ get_or new i 0 = ap (λ n. get_or new n 0) q in
+            let it = over_it path a k (2 * j) l (omega (arith, even, q)) in
+            let back = over_others path a k (2 * j + 1) l (omega (arith, even, q)) in
+            omega (arith, ints, s.amounts j, e1, e2, here, it, back))
+            (λ (d : j ≢ i).
+            let ahead = over_others path a k (2 * j) l (omega (arith, even, d)) in
+            let back = over_others path a k (2 * j + 1) l (omega (arith, even, d)) in
+            omega (arith, ints, s.amounts j, off j d, ahead, back))
+            (cases_eq j i);
         used = λ j up. ⊎_elim
             (λ (q : j ≡ i). let e : r ≡ 2 * j = omega (arith, even, q) in inr (k, omega arith, e))
             (λ (d : j ≢ i). ⊎_elim
@@ -149,6 +174,18 @@ module _ (p : Problem) (old new : List ℕ) (path : List ℕ) (a k : ℕ) (h : I
             (λ (d : get_or path n 0 / 2 ≢ i). omega (arith, off (get_or path n 0 / 2) d, before))
             (cases_eq (get_or path n 0 / 2) i);
         room = λ n m o e. omega (arith, off (get_or path n 0 / 2) (apart n m o (e ∙ sym odd)), s.room n (omega (arith, m)) o e);
+        amounts = λ j. ⊎_elim
+            (λ (q : j ≡ i).
+            let e1 : get_or now j 0 ≡ get_or now i 0 = ap (λ n. get_or now n 0) q in
+            let e2 : get_or new j 0 ≡ get_or new i 0 = ap (λ n. get_or new n 0) q in
+            let ahead = over_others path a k (2 * j) l (omega (arith, odd, q)) in
+            let it = over_it path a k (2 * j + 1) l (omega (arith, odd, q)) in
+            omega (arith, ints, s.amounts j, e1, e2, here, enough, ahead, it))
+            (λ (d : j ≢ i).
+            let ahead = over_others path a k (2 * j) l (omega (arith, odd, d)) in
+            let back = over_others path a k (2 * j + 1) l (omega (arith, odd, d)) in
+            omega (arith, ints, s.amounts j, off j d, ahead, back))
+            (cases_eq j i);
         used = λ j up.
             let held : 0 < get_or new j 0 = ⊎_elim
             (λ (q : j ≡ i).
@@ -186,6 +223,9 @@ sent_all p old new path a k s ge le =
       excesses = λ v.
           let x : at_node s.node a v ≡ at_node (last_of p.arcs.list path) a v = ap (λ n. at_node n a v) (s.done e) in
           omega (arith, ints, s.excesses v, x);
+      amounts =
+          let A : List ℕ → Type 0 = λ l. (j : ℕ) → pos (get_or new j 0) ≡ ((pos (get_or old j 0) +ℤ pos (sent_over l a (2 * j))) -ℤ pos (sent_over l a (2 * j + 1))) in
+          subst A (take_all k path (omega (arith, e))) s.amounts;
       used = λ j up. ⊎_elim
           (λ (o : 0 < get_or old j 0). inl o)
           (λ (w : (n : ℕ) × (n < k) × (get_or path n 0 ≡ 2 * j)). inr (w.0, omega (arith, w.1), w.2))

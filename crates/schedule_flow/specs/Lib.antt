@@ -3,6 +3,7 @@ pub mod Adjacency
 pub mod Queue
 pub mod Reach
 pub mod Search
+pub mod Tree
 pub mod Balance
 pub mod Best
 pub mod Earliest

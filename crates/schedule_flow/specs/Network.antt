@@ -23,6 +23,7 @@ use Rattle.std.specs.Prelude.{
   length,
   slice_index,
 }
+use Rattle.std.specs.List.{sum_by}
 use Rattle.cycle_find.specs.declared.arcs.Arc.{Arc}
 use Rattle.cycle_find.specs.Constraints.{Numbers, numbers_of, EndsInRange, start_of, end_of, need_of}
 use Rattle.schedule_problem.specs.declared.problem.Problem.{Problem}
@@ -101,7 +102,14 @@ pub record IsPath (p : Problem) (f : Flow) (path : List ℕ) (amount : ℕ) : Ty
   pub surplus : pos amount ≤ℤ excess p f (first_of p.arcs.list path)
   pub want : (excess p f (last_of p.arcs.list path) +ℤ pos amount) ≤ℤ pos 0
 
--- the amount was sent along the path
+-- what an amount comes to over residual arc r, once for each time that the path goes over it
+abbrev pub sent_over : List ℕ → ℕ → ℕ → ℕ
+sent_over path amount r = sum_by (λ q. if (q == r) then amount else 0) path
+
+-- the amount was sent along the path: each arc carries so much more than before where the path goes
+-- over it forwards, and so much less where it goes over it backwards
 pub record IsSent (p : Problem) (old new : Flow) (path : List ℕ) (amount : ℕ) : Type 0 where
   pub excesses : (v : ℕ) → excess p new v ≡ ((excess p old v -ℤ at_node (first_of p.arcs.list path) amount v) +ℤ at_node (last_of p.arcs.list path) amount v)
+  pub amounts : (j : ℕ) → pos (new j)
+      ≡ ((pos (old j) +ℤ pos (sent_over path amount (2 * j))) -ℤ pos (sent_over path amount (2 * j + 1)))
   pub used : (j : ℕ) → 0 < new j → (0 < old j) ⊎ ((k : ℕ) × (k < length path) × (slice_index path k ≡ 2 * j))

@@ -6,10 +6,12 @@ ghost use Rattle.schedule_problem.specs.Optimum.{IsProblem};
 ghost use Rattle.schedule_flow.specs.Network.{weights};
 ghost use Rattle.schedule_flow.specs.Adjacency.{IsAdjacency};
 ghost use Rattle.schedule_flow.specs.Balance.{IsOnWay};
+ghost use Rattle.schedule_flow.specs.Tree.{IsTreeOf};
 
 use crate::adjacency::Adjacency;
 use crate::network::{Residual, augment};
 use crate::search::find;
+use crate::tree::Tree;
 use crate::way::way_to;
 use mx_base::NoMemory;
 use schedule_problem::Problem;
@@ -22,9 +24,7 @@ fn send_from(
     links: &Adjacency,
     net: &mut Residual,
     x: &mut [i128],
-    place: &mut [u32],
-    via: &mut [u32],
-    distance: &mut [u128],
+    tree: &mut Tree,
     source: usize,
 ) -> Result<(), NoMemory>
     requires problem { IsProblem problem.now }
@@ -32,29 +32,17 @@ fn send_from(
     requires light { weights problem.now ≤ℤ pos (2 ^ 52) }
     requires on_way { IsOnWay problem.now (numbers_of x.old) net.old }
     requires numbers { length x.old ≡ problem.now.arcs.nodes }
-    requires places { length place.old ≡ problem.now.arcs.nodes }
-    requires vias { length via.old ≡ problem.now.arcs.nodes }
-    requires distances { length distance.old ≡ problem.now.arcs.nodes }
+    requires tree { IsTreeOf problem.now.arcs.nodes tree.old }
     requires source { source < problem.now.arcs.nodes }
     requires surplus { pos 0 <ℤ excess problem.now (flow_of net.old.flow) source }
+    ensures tree { OnOk result (IsTreeOf problem.now.arcs.nodes tree.new) }
     ensures on_way { OnOk result (IsOnWay problem.now (numbers_of x.new) net.new) }
     ensures sends { OnOk result (net.new.sends ≡ net.old.sends + 1) }
     ensures keeps { OnOk result ((v : ℕ) → excess problem.now (flow_of net.old.flow) v ≤ℤ pos 0
         → excess problem.now (flow_of net.new.flow) v ≤ℤ pos 0) }
 {
-    let want = find(
-        alloc,
-        problem,
-        links,
-        x,
-        net.flow(),
-        net.rest(),
-        place,
-        via,
-        distance,
-        source,
-    )?;
-    let way = way_to(alloc, problem, x, net.flow(), net.rest(), place, via, want)?;
+    let want = find(problem, links, x, net.flow(), net.rest(), tree, source)?;
+    let way = way_to(alloc, problem, x, net.flow(), net.rest(), tree, want)?;
     augment(net, way.path.as_slice(), way.amount);
     Ok(())
 }
@@ -66,9 +54,7 @@ fn send_out(
     links: &Adjacency,
     net: &mut Residual,
     x: &mut [i128],
-    place: &mut [u32],
-    via: &mut [u32],
-    distance: &mut [u128],
+    tree: &mut Tree,
     source: usize,
 ) -> Result<(), NoMemory>
     requires problem { IsProblem problem.now }
@@ -76,17 +62,16 @@ fn send_out(
     requires light { weights problem.now ≤ℤ pos (2 ^ 52) }
     requires on_way { IsOnWay problem.now (numbers_of x.old) net.old }
     requires numbers { length x.old ≡ problem.now.arcs.nodes }
-    requires places { length place.old ≡ problem.now.arcs.nodes }
-    requires vias { length via.old ≡ problem.now.arcs.nodes }
-    requires distances { length distance.old ≡ problem.now.arcs.nodes }
+    requires tree { IsTreeOf problem.now.arcs.nodes tree.old }
     requires source { source < problem.now.arcs.nodes }
+    ensures tree { OnOk result (IsTreeOf problem.now.arcs.nodes tree.new) }
     ensures on_way { OnOk result (IsOnWay problem.now (numbers_of x.new) net.new) }
     ensures keeps { OnOk result ((v : ℕ) → excess problem.now (flow_of net.old.flow) v ≤ℤ pos 0
         → excess problem.now (flow_of net.new.flow) v ≤ℤ pos 0) }
     ensures sent { OnOk result (excess problem.now (flow_of net.new.flow) source ≤ℤ pos 0) }
 {
     while net.rest()[source] > 0 {
-        send_from(alloc, problem, links, net, x, place, via, distance, source)?;
+        send_from(alloc, problem, links, net, x, tree, source)?;
     }
     Ok(())
 }
@@ -98,23 +83,20 @@ pub fn send_all(
     links: &Adjacency,
     net: &mut Residual,
     x: &mut [i128],
-    place: &mut [u32],
-    via: &mut [u32],
-    distance: &mut [u128],
+    tree: &mut Tree,
 ) -> Result<(), NoMemory>
     requires problem { IsProblem problem.now }
     requires links { IsAdjacency problem.now.arcs.nodes problem.now.arcs.list links.now.first.items links.now.before.items }
     requires light { weights problem.now ≤ℤ pos (2 ^ 52) }
     requires on_way { IsOnWay problem.now (numbers_of x.old) net.old }
     requires numbers { length x.old ≡ problem.now.arcs.nodes }
-    requires places { length place.old ≡ problem.now.arcs.nodes }
-    requires vias { length via.old ≡ problem.now.arcs.nodes }
-    requires distances { length distance.old ≡ problem.now.arcs.nodes }
+    requires tree { IsTreeOf problem.now.arcs.nodes tree.old }
+    ensures tree { OnOk result (IsTreeOf problem.now.arcs.nodes tree.new) }
     ensures on_way { OnOk result (IsOnWay problem.now (numbers_of x.new) net.new) }
     ensures balanced { OnOk result ((v : ℕ) → v < problem.now.arcs.nodes → excess problem.now (flow_of net.new.flow) v ≤ℤ pos 0) }
 {
     for source in 0..x.len() {
-        send_out(alloc, problem, links, net, x, place, via, distance, source)?;
+        send_out(alloc, problem, links, net, x, tree, source)?;
     }
     Ok(())
 }

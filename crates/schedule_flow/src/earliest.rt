@@ -63,6 +63,8 @@ pub fn earliest(
     ensures legal { IfOk result (λ y. Solves (numbers_of y.items) problem.now.arcs.list) }
     ensures tight { IfOk result (λ y. IsTight problem.now (numbers_of y.items) (flow_of flow.now)) }
     ensures low { IfOk result (λ y. IsNonNegative (numbers_of y.items)) }
+    ensures within { IfOk result (λ y. (size : ℕ) → NeedsWithin size problem.now.arcs.list
+        → (v : ℕ) → numbers_of y.items v ≤ℤ pos (problem.now.arcs.nodes * size)) }
     ensures least { IfOk result (λ y. (z : Numbers) → Solves z problem.now.arcs.list
         → IsTight problem.now z (flow_of flow.now) → IsNonNegative z
         → (v : ℕ) → numbers_of y.items v ≤ℤ z v) }

@@ -11,6 +11,7 @@ mod network;
 mod queue;
 mod search;
 mod solver;
+mod tree;
 mod way;
 
 pub use network::{Residual, augment};

@@ -33,6 +33,7 @@ ghost use Rattle.schedule_flow.specs.Network.{IsTight, tail_of};
 ghost use Rattle.schedule_flow.specs.Adjacency.{IsAdjacency};
 ghost use Rattle.schedule_flow.specs.Queue.{Waits};
 ghost use Rattle.schedule_flow.specs.Reach.{IsReached, IsWanting};
+ghost use Rattle.schedule_flow.specs.Tree.{IsTreeOf};
 ghost use Rattle.schedule_flow.specs.Search.{
   IsSearch,
   IsOpen,
@@ -52,12 +53,9 @@ use crate::adjacency::Adjacency;
 use crate::arcs::arc_of;
 use crate::network::{head, tail};
 use crate::queue::Queue;
+use crate::tree::Tree;
 use mx_base::NoMemory;
 use schedule_problem::Problem;
-use std::alloc::Global;
-
-/// The distance of a node that isn't reached.
-const FAR: u128 = 1 << 126;
 
 /// How far the end of arc `j` stands above what the arc asks.
 fn slack(problem: &Problem, x: &[i128], j: usize) -> i128
@@ -98,9 +96,7 @@ fn relax(
     problem: &Problem,
     x: &[i128],
     flow: &[u64],
-    place: &[u32],
-    via: &mut [u32],
-    distance: &mut [u128],
+    tree: &mut Tree,
     queue: &mut Queue,
     number: u32,
 ) -> Result<(), NoMemory>
@@ -110,25 +106,27 @@ fn relax(
     requires legal { Solves (numbers_of x.now) problem.now.arcs.list }
     requires small { (v : ℕ) → unsigned_abs (numbers_of x.now v) ≤ 2 ^ 116 }
     requires nodes { length x.now ≤ 2 ^ 16 }
-    requires places { length place.now ≡ length x.now }
-    requires vias { length via.old ≡ length x.now }
-    requires distances { length distance.old ≡ length x.now }
-    requires within { (v : ℕ) → slice_index distance.old v ≤ far }
-    ensures { OnOk result (Stays problem.now (numbers_of x.now) (flow_of flow.now) place.now
-        via.old via.new distance.old distance.new queue.old queue.new number
-        ⊎ Nears problem.now (numbers_of x.now) (flow_of flow.now) place.now
-        via.old via.new distance.old distance.new queue.old queue.new number) }
+    requires tree { IsTreeOf (length x.now) tree.old }
+    requires within { (v : ℕ) → slice_index tree.old.distance.items v ≤ far }
+    ensures place { tree.new.place ≡ tree.old.place }
+    ensures tree { IsTreeOf (length x.now) tree.new }
+    ensures relaxed { OnOk result (Stays problem.now (numbers_of x.now) (flow_of flow.now) tree.old.place.items
+        tree.old.via.items tree.new.via.items tree.old.distance.items tree.new.distance.items
+        queue.old queue.new number
+        ⊎ Nears problem.now (numbers_of x.now) (flow_of flow.now) tree.old.place.items
+        tree.old.via.items tree.new.via.items tree.old.distance.items tree.new.distance.items
+        queue.old queue.new number) }
 {
     let Some(need) = reduced_need(problem, x, flow, number) else {
         return Ok(());
     };
     let list = problem.arcs.list.as_slice();
     let to = head(list, number);
-    let reached = distance[tail(list, number)] + need;
-    if place[to] == 0 && reached < distance[to] {
+    let reached = tree.distance[tail(list, number)] + need;
+    if tree.place[to] == 0 && reached < tree.distance[to] {
         queue.push(reached, to as u32)?;
-        distance[to] = reached;
-        via[to] = number;
+        tree.distance[to] = reached;
+        tree.via[to] = number;
     }
     Ok(())
 }
@@ -139,9 +137,7 @@ fn relax_all(
     links: &Adjacency,
     x: &[i128],
     flow: &[u64],
-    place: &[u32],
-    via: &mut [u32],
-    distance: &mut [u128],
+    tree: &mut Tree,
     queue: &mut Queue,
     node: usize,
 ) -> Result<(), NoMemory>
@@ -153,41 +149,43 @@ fn relax_all(
     requires legal { Solves (numbers_of x.now) problem.now.arcs.list }
     requires tight { IsTight problem.now (numbers_of x.now) (flow_of flow.now) }
     requires small { (v : ℕ) → unsigned_abs (numbers_of x.now v) ≤ 2 ^ 116 }
-    requires places { length place.now ≡ length x.now }
-    requires vias { length via.old ≡ length x.now }
-    requires distances { length distance.old ≡ length x.now }
-    requires within { (v : ℕ) → slice_index distance.old v ≤ far }
+    requires tree { IsTreeOf (length x.now) tree.old }
+    requires within { (v : ℕ) → slice_index tree.old.distance.items v ≤ far }
     requires node { node < length x.now }
-    requires farthest { IsFarthest place.now distance.old node }
+    requires farthest { IsFarthest tree.old.place.items tree.old.distance.items node }
+    ensures place { tree.new.place ≡ tree.old.place }
+    ensures tree { IsTreeOf (length x.now) tree.new }
     ensures kept { (rest : Numbers) (count : ℕ)
-        → IsSearch problem.now (numbers_of x.now) (flow_of flow.now) rest place.now via.old
-        distance.old queue.old count
-        → OnOk result (IsSearch problem.now (numbers_of x.now) (flow_of flow.now) rest place.now
-        via.new distance.new queue.new count) }
+        → IsSearch problem.now (numbers_of x.now) (flow_of flow.now) rest tree.old.place.items
+        tree.old.via.items tree.old.distance.items queue.old count
+        → OnOk result (IsSearch problem.now (numbers_of x.now) (flow_of flow.now) rest
+        tree.old.place.items tree.new.via.items tree.new.distance.items queue.new count) }
     ensures relaxed { ((r : ℕ) → r / 2 < length problem.now.arcs.list
-        → 0 < slice_index place.now (tail_of problem.now.arcs.list r)
+        → 0 < slice_index tree.old.place.items (tail_of problem.now.arcs.list r)
         → tail_of problem.now.arcs.list r ≢ node
-        → IsRelaxed problem.now (numbers_of x.now) (flow_of flow.now) distance.old r)
-        → OnOk result (AllRelaxed problem.now (numbers_of x.now) (flow_of flow.now) place.now distance.new) }
-    ensures falls { OnOk result ((v : ℕ) → slice_index distance.new v ≤ slice_index distance.old v) }
+        → IsRelaxed problem.now (numbers_of x.now) (flow_of flow.now) tree.old.distance.items r)
+        → OnOk result (AllRelaxed problem.now (numbers_of x.now) (flow_of flow.now) tree.old.place.items
+        tree.new.distance.items) }
+    ensures falls { OnOk result ((v : ℕ) → slice_index tree.new.distance.items v ≤ slice_index tree.old.distance.items v) }
 {
     let before = links.before.as_slice();
     let mut next = links.first.as_slice()[node];
     while next > 0 {
         let number = next - 1;
-        relax(problem, x, flow, place, via, distance, queue, number)?;
+        relax(problem, x, flow, tree, queue, number)?;
         next = before[number as usize];
     }
     Ok(())
 }
 
 /// Takes out the nearest node that isn't settled, with its distance.
-fn nearest(queue: &mut Queue, place: &[u32]) -> Option<(u128, usize)>
-    requires { (d v : ℕ) → Waits queue.old d v → v < length place.now }
-    ensures taken { IfSome result (λ e. IsTaken place.now queue.old queue.new e.0 e.1) }
-    ensures node { IfSome result (λ e. e.1 < length place.now) }
-    ensures none { IfNone result ((d v : ℕ) → slice_index place.now v ≡ 0 → Waits queue.old d v → ⊥) }
+fn nearest(queue: &mut Queue, tree: &Tree) -> Option<(u128, usize)>
+    requires { (d v : ℕ) → Waits queue.old d v → v < length tree.now.place.items }
+    ensures taken { IfSome result (λ e. IsTaken tree.now.place.items queue.old queue.new e.0 e.1) }
+    ensures node { IfSome result (λ e. e.1 < length tree.now.place.items) }
+    ensures none { IfNone result ((d v : ℕ) → slice_index tree.now.place.items v ≡ 0 → Waits queue.old d v → ⊥) }
 {
+    let place = tree.place.as_slice();
     while let Some((distance, node)) = queue.pop() {
         if place[node as usize] == 0 {
             return Some((distance, node as usize));
@@ -197,12 +195,13 @@ fn nearest(queue: &mut Queue, place: &[u32]) -> Option<(u128, usize)>
 }
 
 /// Raises the numbers of the nodes that stand nearer than `reach`.
-fn raise(x: &mut [i128], distance: &[u128], reach: u128)
-    requires distances { length distance.now ≡ length x.old }
+fn raise(x: &mut [i128], tree: &Tree, reach: u128)
+    requires tree { IsTreeOf (length x.old) tree.now }
     requires reach { reach ≤ 2 ^ 126 }
     requires small { (v : ℕ) → unsigned_abs (numbers_of x.old v) ≤ 2 ^ 116 }
-    ensures { (v : ℕ) → v < length x.old → numbers_of x.new v ≡ risen distance.now reach (numbers_of x.old) v }
+    ensures { (v : ℕ) → v < length x.old → numbers_of x.new v ≡ risen tree.now.distance.items reach (numbers_of x.old) v }
 {
+    let distance = tree.distance.as_slice();
     for v in 0..x.len() {
         if distance[v] < reach {
             x[v] += (reach - distance[v]) as i128;
@@ -210,34 +209,15 @@ fn raise(x: &mut [i128], distance: &[u128], reach: u128)
     }
 }
 
-/// Begins a search at a node.
-fn begin(place: &mut [u32], distance: &mut [u128], source: usize)
-    requires distances { length distance.old ≡ length place.old }
-    requires source { source < length place.old }
-    ensures places { (v : ℕ) → slice_index place.new v ≡ 0 }
-    ensures source { slice_index distance.new source ≡ 0 }
-    ensures others { (v : ℕ) → v < length distance.old → v ≢ source → slice_index distance.new v ≡ far }
-    ensures within { (v : ℕ) → slice_index distance.new v ≤ far }
-{
-    for v in 0..place.len() {
-        place[v] = 0;
-        distance[v] = FAR;
-    }
-    distance[source] = 0;
-}
-
-/// Finds the nearest node in want from a node with a surplus, and raises the numbers so that the way there is
-/// free.
+/// Finds the nearest node in want from a node with a surplus, and raises the numbers so that the way
+/// there is free. Its queue takes memory from the tree's allocator.
 pub fn find(
-    alloc: Global,
     problem: &Problem,
     links: &Adjacency,
     x: &mut [i128],
     flow: &[u64],
     rest: &[i64],
-    place: &mut [u32],
-    via: &mut [u32],
-    distance: &mut [u128],
+    tree: &mut Tree,
     source: usize,
 ) -> Result<usize, NoMemory>
     requires problem { IsProblem problem.now }
@@ -245,9 +225,7 @@ pub fn find(
     requires numbers { length x.old ≡ problem.now.arcs.nodes }
     requires flow { length flow.now ≡ length problem.now.arcs.list }
     requires rest { length rest.now ≡ problem.now.arcs.nodes }
-    requires places { length place.old ≡ problem.now.arcs.nodes }
-    requires vias { length via.old ≡ problem.now.arcs.nodes }
-    requires distances { length distance.old ≡ problem.now.arcs.nodes }
+    requires tree { IsTreeOf problem.now.arcs.nodes tree.old }
     requires excesses { (v : ℕ) → numbers_of rest.now v ≡ excess problem.now (flow_of flow.now) v }
     requires legal { Solves (numbers_of x.old) problem.now.arcs.list }
     requires tight { IsTight problem.now (numbers_of x.old) (flow_of flow.now) }
@@ -256,32 +234,31 @@ pub fn find(
     requires wants { (v : ℕ) → numbers_of rest.now v <ℤ pos 0 → numbers_of x.old v ≤ℤ pos (2 ^ 60) }
     requires source { source < problem.now.arcs.nodes }
     requires surplus { pos 0 <ℤ numbers_of rest.now source }
+    ensures tree { OnOk result (IsTreeOf problem.now.arcs.nodes tree.new) }
     ensures legal { OnOk result (Solves (numbers_of x.new) problem.now.arcs.list) }
     ensures tight { OnOk result (IsTight problem.now (numbers_of x.new) (flow_of flow.now)) }
     ensures low { OnOk result ((v : ℕ) → pos 0 ≤ℤ numbers_of x.new v) }
     ensures high { OnOk result ((v : ℕ) → numbers_of x.new v ≤ℤ (numbers_of x.old v +ℤ pos (2 ^ 61))) }
     ensures wants { OnOk result ((v : ℕ) → numbers_of rest.now v <ℤ pos 0 → numbers_of x.new v ≡ numbers_of x.old v) }
     ensures reached { OnOk result (IsReached problem.now (numbers_of x.new) (flow_of flow.now)
-        (numbers_of rest.now) place.new via.new) }
-    ensures wanting { IfOk result (IsWanting place.new (numbers_of rest.now)) }
+        (numbers_of rest.now) tree.new.place.items tree.new.via.items) }
+    ensures wanting { IfOk result (IsWanting tree.new.place.items (numbers_of rest.now)) }
 {
-    begin(place, distance, source);
-    let mut queue = Queue::new(alloc);
+    tree.begin(source);
+    let mut queue = Queue::new(*tree.place.allocator());
     queue.push(0, source as u32)?;
     let mut count: u32 = 0;
     loop {
-        match nearest(&mut queue, place) {
+        match nearest(&mut queue, tree) {
             None => unreachable!(),
             Some((reach, node)) => {
                 count += 1;
-                place[node] = count;
+                tree.place[node] = count;
                 if rest[node] < 0 {
-                    raise(x, distance, reach);
+                    raise(x, tree, reach);
                     return Ok(node);
                 }
-                relax_all(
-                    problem, links, x, flow, place, via, distance, &mut queue, node,
-                )?;
+                relax_all(problem, links, x, flow, tree, &mut queue, node)?;
             }
         }
     }

@@ -1,6 +1,6 @@
 // The best times, and the flow that shows that none cost less.
 ghost use Rattle.std.specs.Prelude.{◌≡◌, ℕ, ◌+◌, ◌*◌, ◌<◌, ◌≤◌, ◌^◌, pos, ◌≤ℤ◌, length, OnOk, IfOk, IfErr};
-ghost use Rattle.cycle_find.specs.Constraints.{numbers_of, Solves};
+ghost use Rattle.cycle_find.specs.Constraints.{numbers_of, NeedsWithin, Solves};
 ghost use Rattle.schedule_problem.specs.Flow.{flow_of, excess};
 ghost use Rattle.schedule_problem.specs.Optimum.{IsProblem, IsBest, IsCheapest, IsEarliest};
 ghost use Rattle.schedule_flow.specs.Network.{weights};
@@ -11,6 +11,7 @@ use crate::adjacency::adjacency_of;
 use crate::balance::send_all;
 use crate::earliest::earliest;
 use crate::network::Residual;
+use crate::tree::Tree;
 use cycle_find::{Cycle, SolveError, solve};
 use mx_base::{List, NoMemory};
 use schedule_problem::{Answer, Problem};
@@ -46,13 +47,16 @@ impl From<AllocError> for BestError {
 }
 
 /// The best times: legal ones from 0 that cost least, and of those the ones that are nowhere later than
-/// others; and a flow that is worth what they cost. `Cycle` comes exactly where no times are legal.
+/// others, so none above the number of nodes times the greatest size of a need; and a flow that is
+/// worth what they cost. `Cycle` comes exactly where no times are legal.
 pub fn best(alloc: Global, problem: &Problem) -> Result<Answer, BestError>
     requires { IsProblem problem.now }
     ensures best { IfOk result (IsBest problem.now) }
     ensures small { IfOk result (λ a. (j : ℕ) → flow_of a.flow j < 2 ^ 63) }
     ensures cheapest { IfOk result (λ a. IsCheapest problem.now (numbers_of a.times)) }
     ensures earliest { IfOk result (λ a. IsEarliest problem.now (numbers_of a.times)) }
+    ensures within { IfOk result (λ a. (size : ℕ) → NeedsWithin size problem.now.arcs.list
+        → (v : ℕ) → numbers_of a.times v ≤ℤ pos (problem.now.arcs.nodes * size)) }
     ensures cycle { IfErr result (HasNoTimes problem.now) }
 {
     let (answer, _network) = best_counted(alloc, problem)?;
@@ -67,6 +71,8 @@ pub fn best_counted(alloc: Global, problem: &Problem) -> Result<(Answer, Residua
     ensures small { IfOk result (λ r. (j : ℕ) → flow_of r.0.flow j < 2 ^ 63) }
     ensures cheapest { IfOk result (λ r. IsCheapest problem.now (numbers_of r.0.times)) }
     ensures earliest { IfOk result (λ r. IsEarliest problem.now (numbers_of r.0.times)) }
+    ensures within { IfOk result (λ r. (size : ℕ) → NeedsWithin size problem.now.arcs.list
+        → (v : ℕ) → numbers_of r.0.times v ≤ℤ pos (problem.now.arcs.nodes * size)) }
     ensures network { IfOk result (λ r. r.1.problem ≡ problem.now) }
     ensures flow { IfOk result (λ r. r.1.flow ≡ r.0.flow) }
     ensures counted { IfOk result (λ r. pos r.1.sends ≤ℤ weights problem.now) }
@@ -122,20 +128,9 @@ fn balance(
 {
     let links = adjacency_of(alloc, &problem.arcs)?;
     let nodes = problem.arcs.nodes as usize;
-    let mut place = vec![in alloc; 0u32; nodes]?;
-    let mut via = vec![in alloc; 0u32; nodes]?;
-    let mut distance = vec![in alloc; 0u128; nodes]?;
+    let mut tree = Tree::new(alloc, nodes)?;
     let mut x = wide(alloc, times)?;
-    send_all(
-        alloc,
-        problem,
-        &links,
-        net,
-        x.as_mut_slice(),
-        place.as_mut_slice(),
-        via.as_mut_slice(),
-        distance.as_mut_slice(),
-    )?;
+    send_all(alloc, problem, &links, net, x.as_mut_slice(), &mut tree)?;
     Ok(x)
 }
 

@@ -6,6 +6,7 @@ ghost use Rattle.schedule_flow.specs.Network.{IsPath};
 ghost use Rattle.schedule_flow.specs.Reach.{IsReached, IsWanting, IsFree};
 
 use crate::network::tail;
+use crate::tree::Tree;
 use schedule_problem::Problem;
 use std::alloc::{AllocError, Global};
 
@@ -23,22 +24,22 @@ pub fn way_to(
     _x: &[i128],
     flow: &[u64],
     rest: &[i64],
-    place: &[u32],
-    via: &[u32],
+    tree: &Tree,
     want: usize,
 ) -> Result<Way, AllocError>
     requires ends { EndsInRange problem.now.arcs.nodes problem.now.arcs.list }
     requires flow { length flow.now ≡ length problem.now.arcs.list }
     requires rest { length rest.now ≡ problem.now.arcs.nodes }
     requires excesses { (v : ℕ) → numbers_of rest.now v ≡ excess problem.now (flow_of flow.now) v }
-    requires reached { IsReached problem.now (numbers_of _x.now) (flow_of flow.now) (numbers_of rest.now) place.now via.now }
-    requires wanting { IsWanting place.now (numbers_of rest.now) want }
+    requires reached { IsReached problem.now (numbers_of _x.now) (flow_of flow.now) (numbers_of rest.now) tree.now.place.items tree.now.via.items }
+    requires wanting { IsWanting tree.now.place.items (numbers_of rest.now) want }
     ensures path { IfOk result (λ w. IsPath problem.now (flow_of flow.now) w.path.items w.amount) }
     ensures free { IfOk result (λ w. (k : ℕ) → k < length w.path.items
         → IsFree problem.now (numbers_of _x.now) (flow_of flow.now)
         (slice_index w.path.items k)) }
 {
     let list = problem.arcs.list.as_slice();
+    let via = tree.via.as_slice();
     let mut back = Vec::new(alloc);
     let mut node = want;
     let mut amount = rest[want].unsigned_abs();

@@ -9,6 +9,7 @@ loop-source-preserved c =
     let P : ℕ → Type 0 = λ v. excess c.args.problem.now (flow_of c.send_out.new.net.flow) v ≤ℤ pos 0 in
     record {
       on_way = e.on_way;
+      tree = e.tree;
       sent = λ v l. ⊎_elim
           (λ (q : v ≡ c.loop-source.source). subst P (sym q) e.sent)
           (λ (n : v ≢ c.loop-source.source). e.keeps v (c.loop-source.invariant.sent v (omega (arith, l, n))))

@@ -6,11 +6,11 @@ use Rattle.schedule_flow.proofs.search.find.Given as goal
 
 abbrev pub invariant-loop-reach : goal.invariant-loop-reach
 invariant-loop-reach l = record {
-  search : IsSearch l.problem (numbers_of l.x) (flow_of l.flow) (numbers_of l.rest) l.place l.via l.distance l.queue l.count;
-  relaxed : AllRelaxed l.problem (numbers_of l.x) (flow_of l.flow) l.place l.distance;
-  calm : (v : ℕ) → 0 < slice_index l.place v → pos 0 ≤ℤ numbers_of l.rest v;
+  search : IsSearch l.problem (numbers_of l.x) (flow_of l.flow) (numbers_of l.rest) l.tree.place.items l.tree.via.items l.tree.distance.items l.queue l.count;
+  relaxed : AllRelaxed l.problem (numbers_of l.x) (flow_of l.flow) l.tree.place.items l.tree.distance.items;
+  calm : (v : ℕ) → 0 < slice_index l.tree.place.items v → pos 0 ≤ℤ numbers_of l.rest v;
   still : l.x ≡ l.initial.x;
-  begun : slice_index l.distance l.source < far;
+  begun : slice_index l.tree.distance.items l.source < far;
 }
 
 abbrev pub decreases-loop-reach : goal.decreases-loop-reach

@@ -4,7 +4,7 @@ use Rattle.schedule_flow.proofs.search.nearest.Given as goal
 
 abbrev pub invariant-loop-distance : goal.invariant-loop-distance
 invariant-loop-distance l = record {
-  kept : (d v : ℕ) → slice_index l.place v ≡ 0 → Waits l.initial.queue d v → Waits l.queue d v;
+  kept : (d v : ℕ) → slice_index l.tree.place.items v ≡ 0 → Waits l.initial.queue d v → Waits l.queue d v;
   only : (d v : ℕ) → Waits l.queue d v → Waits l.initial.queue d v;
 }
 

@@ -15,15 +15,17 @@ loop-node-preserved c =
     let p = c.args.problem.now in
     let x = numbers_of c.args._x.now in
     let f = flow_of c.args.flow.now in
-    let place = c.args.place.now in
-    let via = c.args.via.now in
+    let place = c.args.tree.now.place.items in
+    let via = c.args.tree.now.via.items in
     let node = c.loop-node.node in
     let inv = c.loop-node.invariant in
-    let r : ℕ = get_or via node 0 in
+    let r : ℕ = get_or c.as_slice-via.result.now node 0 in
+    let same : r ≡ get_or via node 0 = ap (λ l. get_or l node 0) c.as_slice-via.ensures.value in
+    let S : ℕ → Type 0 = λ k. IsStep p x f place k node in
     let low : numbers_of c.args.rest.now node ≤ℤ pos 0 = search (rules, ints, c.loop-node-test.true) in
     let s : IsStep p x f place r node = ⊎_elim
     (λ (up : pos 0 <ℤ numbers_of c.args.rest.now node). absurd (omega (arith, ints, up, low)))
-    (λ (s : IsStep p x f place r node). s)
+    (λ (s : IsStep p x f place (get_or c.args.tree.now.via.items node 0) node). subst S (sym same) s)
     (c.requires.reached.steps node inv.reached) in
     let items : c.push.new.self.items ≡ c.loop-node.back.items ++ r ∷ [] = search rules in
     let t : c.tail-node.result ≡ tail_of p.arcs.list r = c.tail-node.ensures ∙ ap (λ (l : List Arc). tail_of l r) c.as_slice-list.ensures in
@@ -45,13 +47,15 @@ loop-node-smaller c =
     let p = c.args.problem.now in
     let x = numbers_of c.args._x.now in
     let f = flow_of c.args.flow.now in
-    let place = c.args.place.now in
+    let place = c.args.tree.now.place.items in
     let node = c.loop-node.node in
-    let r : ℕ = get_or c.args.via.now node 0 in
+    let r : ℕ = get_or c.as_slice-via.result.now node 0 in
+    let same : r ≡ get_or c.args.tree.now.via.items node 0 = ap (λ l. get_or l node 0) c.as_slice-via.ensures.value in
+    let S : ℕ → Type 0 = λ k. IsStep p x f place k node in
     let low : numbers_of c.args.rest.now node ≤ℤ pos 0 = search (rules, ints, c.loop-node-test.true) in
     let s : IsStep p x f place r node = ⊎_elim
     (λ (up : pos 0 <ℤ numbers_of c.args.rest.now node). absurd (omega (arith, ints, up, low)))
-    (λ (s : IsStep p x f place r node). s)
+    (λ (s : IsStep p x f place (get_or c.args.tree.now.via.items node 0) node). subst S (sym same) s)
     (c.requires.reached.steps node c.loop-node.invariant.reached) in
     let t : c.tail-node.result ≡ tail_of p.arcs.list r = c.tail-node.ensures ∙ ap (λ (l : List Arc). tail_of l r) c.as_slice-list.ensures in
     let at : get_or place c.tail-node.result 0 ≡ get_or place (tail_of p.arcs.list r) 0 = ap (λ v. get_or place v 0) t in
@@ -71,7 +75,7 @@ returns-clause-path c =
     let high : pos 0 <ℤ numbers_of rest node = omega (arith, ints, fits, c.loop-node-test.false) in
     let items : c.in_ok-turned.field-0.items ≡ reverse back = c.in_ok-turned.ensures ∙ ap reverse c.deref.ensures.value in
     let P : List ℕ → Type 0 = λ l. IsPath p f l less in
-    subst P (sym items) (way_path p x f c.args.place.now back c.args.want node c.loop-node.amount less inv.trail
+    subst P (sym items) (way_path p x f c.args.tree.now.place.items back c.args.want node c.loop-node.amount less inv.trail
     (omega (arith, ints, c.min-amount.ensures))
     (omega (arith, ints, fits, high, inv.some, c.min-amount.ensures))
     (omega (arith, ints, fits, high, c.min-amount.ensures, c.requires.excesses node))
@@ -85,4 +89,4 @@ returns-clause-free c =
     let back = c.loop-node.back.items in
     let items : c.in_ok-turned.field-0.items ≡ reverse back = c.in_ok-turned.ensures ∙ ap reverse c.deref.ensures.value in
     let P : List ℕ → Type 0 = λ l. (k : ℕ) → k < length l → IsFree p x f (get_or l k 0) in
-    subst P (sym items) (way_free p x f c.args.place.now back c.args.want c.loop-node.node c.loop-node.amount c.min-amount.result c.loop-node.invariant.trail)
+    subst P (sym items) (way_free p x f c.args.tree.now.place.items back c.args.want c.loop-node.node c.loop-node.amount c.min-amount.result c.loop-node.invariant.trail)

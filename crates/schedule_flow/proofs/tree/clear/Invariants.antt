@@ -1,6 +1,6 @@
 use Rattle.std.proofs.Common.{◌≡◌, ℕ, ◌<◌, slice_index}
 use Rattle.schedule_flow.specs.Search.{far}
-use Rattle.schedule_flow.proofs.search.begin.Given as goal
+use Rattle.schedule_flow.proofs.tree.clear.Given as goal
 
 abbrev pub invariant-loop-v : goal.invariant-loop-v
 invariant-loop-v l = record {

@@ -1,0 +1,4 @@
+pub mod Collecting
+pub mod Tapping
+pub mod Gathering
+pub mod Deciding
