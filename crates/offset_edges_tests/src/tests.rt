@@ -1,0 +1,108 @@
+// Edges, problems and refusals of worked kernels.
+use crate::{double, self_fed, sum3};
+use latency_table::Table;
+use mx_base::{NoMemory, Text};
+use offset_edges::{edge_list, edges};
+use std::alloc::Global;
+use std::test::Fail;
+use stream_graph::Kernel;
+
+// Every operation takes no tick, but a sum takes one.
+const SUMS_TAKE_ONE: &str = "{\"add\":[[1,1]]}";
+
+// The edges of the kernel of three neighbours: from, to and offset, by reader and then operand.
+const SUM3_EDGES: [(u32, u32, i64); 5] = [(0, 2, -1), (0, 2, 0), (2, 4, 0), (0, 4, 1), (4, 5, 0)];
+
+#[test]
+fn neighbours_are_read_past_offsets(rt: HostRuntime) -> Result<(), Fail> {
+    let alloc = rt.alloc();
+    let edges = edge_list(alloc, &sum3(alloc)?)?;
+    assert_eq!(rt; edges.len(), SUM3_EDGES.len());
+    for (edge, row) in edges.iter().zip(SUM3_EDGES.iter()) {
+        assert_eq!(rt; (edge.from, edge.to, edge.offset), *row);
+    }
+    Ok(())
+}
+
+// Its arcs where a sum takes a tick: from, to and need, two an edge.
+const SUM3_ARCS: [(u32, u32, i64); 10] = [
+    (0, 2, -1),
+    (2, 6, 1),
+    (0, 2, 0),
+    (2, 6, 0),
+    (2, 4, 1),
+    (4, 8, 0),
+    (0, 4, 1),
+    (4, 6, -1),
+    (4, 5, 1),
+    (5, 10, 0),
+];
+
+// And its terms, for each node that is read: from, to, weight and middle.
+const SUM3_TERMS: [(u32, u32, u32, u32); 3] = [(0, 6, 32, 2), (2, 8, 32, 4), (4, 10, 32, 5)];
+
+#[test]
+fn neighbours_have_two_arcs_an_edge(rt: HostRuntime) -> Result<(), Fail> {
+    let alloc = rt.alloc();
+    let table = Table::read(alloc, SUMS_TAKE_ONE.as_bytes())?;
+    let problem = edges(alloc, &sum3(alloc)?, &table)?;
+    assert_eq!(rt; problem.arcs.nodes, 12);
+    assert_eq!(rt; problem.arcs.list.len(), SUM3_ARCS.len());
+    for (arc, row) in problem.arcs.list.as_slice().iter().zip(SUM3_ARCS.iter()) {
+        assert_eq!(rt; (arc.from, arc.to, arc.need), *row);
+    }
+    assert_eq!(rt; problem.terms.len(), SUM3_TERMS.len());
+    for (term, row) in problem.terms.as_slice().iter().zip(SUM3_TERMS.iter()) {
+        assert_eq!(rt; (term.from, term.to, term.weight, term.mid), *row);
+    }
+    assert_eq!(rt; problem.base, 64);
+    Ok(())
+}
+
+// The line with which a kernel is refused by a table, or nothing.
+fn line_of(alloc: Global, kernel: &Kernel, table: &Table) -> Result<Vec<u8>, NoMemory> {
+    match edges(alloc, kernel, table) {
+        Ok(_) => Ok(Vec::new(alloc)),
+        Err(error) => {
+            let name = Text::from_vec(kernel.name().to_vec(alloc)?);
+            error.line(alloc, &name)
+        }
+    }
+}
+
+// Tables, and what is said of the kernels by each.
+const LINES: [(&str, &str, &str, &str); 3] = [
+    (
+        "{}",
+        "refused L1 Double add 8\n",
+        "refused L1 Sum3 add 32\n",
+        "refused C1 Self latency 0 back 0 nodes 0\n",
+    ),
+    (
+        "{\"add\":[[9,1]]}",
+        "refused L1 Double add 8\n",
+        "",
+        "refused C1 Self latency 0 back 0 nodes 0\n",
+    ),
+    (
+        SUMS_TAKE_ONE,
+        "",
+        "",
+        "refused C1 Self latency 0 back 0 nodes 0\n",
+    ),
+];
+
+#[test]
+fn kernels_without_a_problem_are_refused(rt: HostRuntime) -> Result<(), Fail> {
+    let alloc = rt.alloc();
+    for (table, doubled, summed, fed) in LINES {
+        let read = Table::read(alloc, table.as_bytes())?;
+        let said = line_of(alloc, &double(alloc)?, &read)?;
+        assert_eq!(rt; said.as_slice(), doubled.as_bytes(), "Double by {table}");
+        let said = line_of(alloc, &sum3(alloc)?, &read)?;
+        assert_eq!(rt; said.as_slice(), summed.as_bytes(), "Sum3 by {table}");
+        let said = line_of(alloc, &self_fed(alloc)?, &read)?;
+        assert_eq!(rt; said.as_slice(), fed.as_bytes(), "Self by {table}");
+    }
+    Ok(())
+}
