@@ -54,7 +54,7 @@ seen_fit sim next named m offers accepts holds events size widths top r = λ k n
 pub bench_after :
     (b new : Bench)
     → IsBench b
-    → new.sim ≡ record b.sim { held = new.sim.held; memories = new.sim.memories }
+    → new.sim ≡ record b.sim { parts = new.sim.parts }
     → map input_of new.inputs.items ≡ map input_of b.inputs.items
     → map output_of new.outputs.items ≡ map output_of b.outputs.items
     → AreUnrefused new.inputs.items

@@ -72,7 +72,7 @@ none_moved (ch ∷ chs) v (suc k) n = none_moved chs v k n.1
 
 pub began :
     (stalls : Answers) (s : Setup) (held : Held) (sim later : State) (is : List Input) (os : List Output)
-    → Begins s held sim is os → IsResetEdge s.top sim later → later ≡ record sim { held = later.held; memories = later.memories }
+    → Begins s held sim is os → IsResetEdge s.top sim later → later ≡ record sim { parts = later.parts }
     → Going stalls s held later is os 0
 began stalls s held sim later is os b r kept =
     let restart = r.family in
@@ -101,7 +101,7 @@ pub went :
     → AreReady held stalled s.inputs (left_after s.outer.inputs (map words_of s.inputs) (own_of g.vs)) js offers (length js)
     → ((k : ℕ) → k < length accepts → get_or accepts k false ≡ not (get_or stalled (length sim.outer.inputs + k) false))
     → ((k : ℕ) → get_or holds k false ≡ get_or stalled (length sim.outer.inputs + length sim.outer.outputs + k) false)
-    → IsEdge s.top offers accepts holds sim next events → next ≡ record sim { held = next.held; memories = next.memories }
+    → IsEdge s.top offers accepts holds sim next events → next ≡ record sim { parts = next.parts }
     → AreTaken events js ks (length js)
     → ChangesOnlyOutputs named held later → AreOther (map input_of ks) named
     → ArePut later (all_with_moved (all_moved s.outer.outputs (own_of (g.restart ∷ g.vs))) (drop (length sim.outer.inputs) events)) ps

@@ -22,6 +22,8 @@ use Rattle.verilog_sim.specs.declared.compile.Program.{Program}
 use Rattle.verilog_sim.specs.declared.place.Place.{Place}
 use Rattle.verilog_sim.specs.Contents.{family_of, contents_of}
 use Rattle.verilog_sim.specs.Parts.{families_of, contents_by_path}
+use Rattle.verilog_sim.specs.PartLists.{parts_of}
+use Rattle.verilog_sim.proofs.PartLists.{parts_say}
 use Rattle.verilog_sim.specs.Channels.{channel_of, first_channel}
 use Rattle.verilog_sim.specs.State.{State, contents}
 use Rattle.verilog_sim.specs.Sources.{port_count, IsGiven}
@@ -35,7 +37,7 @@ use Rattle.verilog_sim.proofs.Fronts.{outer_same_ports, ports_flat, net_in, stea
 
 -- what a contract sees of a simulator
 abbrev pub state : Design → Counts → List Place → List ℕ → List ℕ → List (List ℕ) → State
-state d c ps steady held memories = record { design = d; outer = outer_at (top_of d) c; steady = steady; places = ps; held = held; memories = memories }
+state d c ps steady held memories = record { design = d; outer = outer_at (top_of d) c; steady = steady; parts = parts_of (top_of d) ps held memories }
 
 abbrev pub outer_top : Design → Counts → Outer
 outer_top d c = outer_at (top_of d) c
@@ -223,8 +225,8 @@ module _ {d : Design} {c : Counts} {pr : Program} {us : List Update} {ps : List 
   own_at : (v : Family) (k : ℕ) → v (net_at s.is_flat.top k) ≡ families_of s.is_flat.top ps v [] (net_at s.is_flat.top k)
   own_at v k = sym (whole_own d s.accepted s.is_flat v (net_at s.is_flat.top k) (net_in d s.accepted s.is_flat k))
 
-  held_is : (h : List ℕ) (ms : List (List ℕ)) → contents_by_path (top_of d) ps (contents_of h ms) ≡ contents_by_path (Some s.is_flat.top) ps (contents_of h ms)
-  held_is h ms = ap (λ o. contents_by_path o ps (contents_of h ms)) s.is_flat.is_top
+  held_is : (h : List ℕ) (ms : List (List ℕ)) → contents (state d c ps steady h ms) ≡ contents_by_path (Some s.is_flat.top) ps (contents_of h ms)
+  held_is h ms = parts_say (top_of d) ps h ms ∙ ap (λ o. contents_by_path o ps (contents_of h ms)) s.is_flat.is_top
 
   settled_is :
       (reset : Bool) (offers offers' : List Offer) (accepts accepts' holds holds' : List Bool) (new : List ℕ)

@@ -14,6 +14,7 @@ pub mod Evaluated
 pub mod Marking
 pub mod Answering
 pub mod Accepting
+pub mod Clocking
 pub mod Updating
 pub mod Alone
 pub mod Outer
@@ -24,6 +25,7 @@ pub mod Cutting
 pub mod CutEdges
 pub mod Sitting
 pub mod Parting
+pub mod PartLists
 pub mod Placed
 pub mod Joining
 pub mod Feeding

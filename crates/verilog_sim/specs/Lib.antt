@@ -17,6 +17,7 @@ pub mod Channels
 pub mod Start
 pub mod Moved
 pub mod Parts
+pub mod PartLists
 pub mod Flattened
 pub mod Gifts
 pub mod CellSums

@@ -22,6 +22,7 @@ use Rattle.verilog_sim.specs.Batches.{lines_of_all}
 use Rattle.verilog_sim.specs.Runnable.{IsRunnable, IsOrderOf}
 use Rattle.verilog_sim.specs.Feeding.{IsFeeding, IsSeen}
 use Rattle.verilog_sim.specs.Settled.{AreWords, Settles}
+use Rattle.verilog_sim.specs.Updates.{AreNarrow}
 use Rattle.verilog_sim.specs.Sources.{IsGiven, AreApart, port_count}
 use Rattle.verilog_sim.specs.Origins.{with_lists, StandFor}
 use Rattle.verilog_sim.specs.Flattened.{IsFlat}
@@ -58,7 +59,7 @@ pub record IsSimulable (m : Module) (c : Counts) : Type 0 where
   pub formed : (i : ℕ) (p : Port) → slice_get m.ports i ≡ Some p → IsFormedPort m p
 
 -- in an order in which the assignments of a module can be evaluated, the lines of those that feed the nets seen in an edge,
--- and of those that feed one net
+-- and of those that feed one net; and no update writes more than 64 bits where that is told
 pub record IsProgramOf (m : Module) (net : ℕ) (p : Program) : Type 0 where
   pub order : List Assign
   pub ordered : IsOrderOf m order
@@ -68,6 +69,7 @@ pub record IsProgramOf (m : Module) (net : ℕ) (p : Program) : Type 0 where
   pub feeding : List Assign
   pub feeds : IsFeeding order feeding (λ n. n ≡ net)
   pub feeding_are : AreLinesOf m feeding (lines_of_all p.feeding.items)
+  pub narrow : p.narrow ≡ true → AreNarrow m
 
 -- the net of the last port
 abbrev pub last_net : List Port → ℕ

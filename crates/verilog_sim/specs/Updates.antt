@@ -1,8 +1,10 @@
 -- Updates of registers and memories whose numbers are in range.
-use Rattle.std.specs.Prelude.{◌≡◌, ◌≢◌, ℕ, ◌<◌, List, length, Some, slice_get, slice_index}
+use Rattle.std.specs.Prelude.{◌≡◌, ◌≢◌, ℕ, ◌<◌, ◌≤◌, ◌^◌, Bool, true, List, length, Some, slice_get, slice_index}
+use Rattle.rtl_ir.specs.declared.design.Module.{Module}
 use Rattle.rtl_ir.specs.declared.design.Update.{Update}
 use Rattle.rtl_ir.specs.declared.design.Target.{Target}
 use Rattle.rtl_ir.specs.declared.design.Target.TheVariants.{Reg, Cell}
+use Rattle.rtl_ir.specs.Value.{width_of}
 
 abbrev pub IsTargetSafe : ℕ → ℕ → Target → Type 0
 IsTargetSafe nets memories (Reg n) = n < nets
@@ -18,6 +20,23 @@ pub record IsUpdateSafe (nets memories : ℕ) (u : Update) : Type 0 where
   pub enable : u.enable < nets
   pub value : u.value < nets
   pub target : IsTargetSafe nets memories u.target
+
+-- what an update reads has at most 64 bits: where it is told so the word that is written, and always what enables it
+pub record IsUpdateSmall (narrow : Bool) (values : List ℕ) (u : Update) : Type 0 where
+  pub enable : slice_index values u.enable < 2 ^ 64
+  pub value : narrow ≡ true → slice_index values u.value < 2 ^ 64
+
+-- where it is told so a register holds and has at most 64 bits
+abbrev pub IsRegSmall : Bool → List ℕ → List ℕ → Target → Type 0
+IsRegSmall narrow held values (Reg n) = narrow ≡ true → (slice_index held n < 2 ^ 64) × (slice_index values n < 2 ^ 64)
+IsRegSmall narrow held values (Cell k a) = Unit {0}
+
+abbrev pub IsLoadSmall : Bool → List ℕ → List ℕ → Update → Type 0
+IsLoadSmall narrow held values u = IsRegSmall narrow held values u.target
+
+-- no update writes words of more than 64 bits
+abbrev pub AreNarrow : Module → Type 0
+AreNarrow m = (k : ℕ) (u : Update) → slice_get m.updates k ≡ Some u → width_of m u.value ≤ 64
 
 abbrev pub IsLoadSafe : ℕ → Update → Type 0
 IsLoadSafe nets u = IsRegSafe nets u.target

@@ -6,6 +6,7 @@ ghost use Rattle.rtl_ir.specs.Value.{width_of};
 ghost use Rattle.verilog_sim.specs.Lines.{IsSafe};
 ghost use Rattle.verilog_sim.specs.Compiled.{IsBinary, IsStepOf, AreLinesOf, IsNarrow};
 ghost use Rattle.verilog_sim.specs.Batches.{lines_of_all};
+ghost use Rattle.verilog_sim.specs.Updates.{AreNarrow};
 ghost use Rattle.verilog_sim.specs.Runnable.{IsRunnable, IsPartOf};
 
 use crate::batch::{Batch, batches_of};
@@ -15,12 +16,13 @@ use mx_base::NoMemory;
 use rtl_ir::{Assign, Expr, Module, NetId, Sign};
 use std::alloc::Global;
 
-/// The lines of a module that are evaluated in an edge, in this order, and those of them that feed a
-/// net.
+/// The lines of a module that are evaluated in an edge, in this order, those of them that feed a net,
+/// and whether its updates write words of at most 64 bits alone.
 #[derive(Drop)]
 pub(crate) struct Program {
     pub(crate) edge: Vec<Batch>,
     pub(crate) feeding: Vec<Batch>,
+    pub(crate) narrow: bool,
 }
 
 /// The lines of both orders of a module.
@@ -30,12 +32,14 @@ pub(crate) fn compile(alloc: Global, module: &Module, orders: &Orders) -> Result
     requires runnable { IsRunnable module.now }
     ensures edge { IfOk result (λ p. AreLinesOf module.now orders.now.edge.items (lines_of_all p.edge.items)) }
     ensures feeding { IfOk result (λ p. AreLinesOf module.now orders.now.feeding.items (lines_of_all p.feeding.items)) }
+    ensures narrow { IfOk result (λ p. p.narrow ≡ true → AreNarrow module.now) }
 {
     let lines = lines_of(alloc, module, orders.edge.as_slice())?;
     let feeding = lines_of(alloc, module, orders.feeding.as_slice())?;
     Ok(Program {
         edge: batches_of(alloc, lines.as_slice())?,
         feeding: batches_of(alloc, feeding.as_slice())?,
+        narrow: are_narrow(module),
     })
 }
 
@@ -69,6 +73,18 @@ pub(crate) fn is_narrow(alloc: Global, module: &Module, assign: &Assign) -> bool
         }
     }
     module.width(assign.target) <= 64
+}
+
+/// Whether no update writes words of more than 64 bits.
+fn are_narrow(module: &Module) -> bool
+    ensures { result ≡ true → AreNarrow module.now }
+{
+    for update in module.updates.as_slice() {
+        if module.width(update.value) > 64 {
+            return false;
+        }
+    }
+    true
 }
 
 /// The step of an expression.

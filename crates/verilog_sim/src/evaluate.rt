@@ -74,8 +74,8 @@ pub(crate) fn step(
 {
     let batches = program.edge.as_slice();
     evaluate(ports, counts, batches, given, memories, values);
-    clock(updates, values, held, memories);
-    load(updates, held, values);
+    clock(updates, program.narrow, values, held, memories);
+    load(updates, program.narrow, held, values);
 }
 
 /// Whether the last port is 1. Nets that have no part in that may keep older values.

@@ -34,7 +34,8 @@ const MOST_CELLS: u64 = 1 << 26;
 /// A simulator of an accepted design.
 ///
 /// A contract sees the design, the nets of its outer ports, the values of the ports that keep one
-/// value, and what its registers and memories hold. All values are unsigned and two-valued.
+/// value, and what the registers and memories hold, those of the top module and of each instance by
+/// its path. All values are unsigned and two-valued.
 #[derive(Drop)]
 pub struct Sim<'a> {
     design: &'a Design,
@@ -54,15 +55,14 @@ impl<'a> Model for Sim<'a> {
 
     ghost Value = { State };
 
+    ghost use Rattle.verilog_sim.specs.PartLists.{parts_of};
     ghost use Rattle.verilog_sim.specs.Simulates.{outer_at, Simulates};
 
     ghost view = { λ a. record {
       design = a.design.now;
       outer = outer_at (top_of a.design.now) a.counts;
       steady = a.steady.items;
-      places = a.places.items;
-      held = a.held.items;
-      memories = a.memories.items;
+      parts = parts_of (top_of a.design.now) a.places.items a.held.items a.memories.items;
     } };
 
     ghost invariant = { λ a. Simulates a.design.now a.counts a.program a.updates a.places.items a.steady.items a.held.items a.values a.memories.items };
@@ -133,7 +133,7 @@ impl<'a> Sim<'a> {
     /// value.
     pub fn reset(&mut self)
         ensures edge { (m : Module) → top_of self.old.design ≡ Some m → IsResetEdge m self.old self.new }
-        ensures kept { self.new ≡ record self.old { held = self.new.held; memories = self.new.memories } }
+        ensures kept { self.new ≡ record self.old { parts = self.new.parts } }
     {
         let given = Given {
             reset: true,
@@ -190,7 +190,7 @@ impl<'a> Sim<'a> {
         requires words { (m : Module) → top_of self.old.design ≡ Some m → AreOffered m self.old.outer offers.now }
         requires events { length events.old ≡ length self.old.outer.inputs + length self.old.outer.outputs }
         ensures edge { (m : Module) → top_of self.old.design ≡ Some m → IsEdge m offers.now accepts.now holds.now self.old self.new events.new }
-        ensures kept { self.new ≡ record self.old { held = self.new.held; memories = self.new.memories } }
+        ensures kept { self.new ≡ record self.old { parts = self.new.parts } }
     {
         let given = Given {
             reset: false,

@@ -54,7 +54,7 @@ pub(crate) fn first_values(
 {
     let mut values = Values::zeros(alloc, module.nets.len())?;
     set_literals(module.assigns.as_slice(), &mut values);
-    load(module.updates.as_slice(), held, &mut values);
+    load(module.updates.as_slice(), false, held, &mut values);
     Ok(values)
 }
 

@@ -1,5 +1,5 @@
 // The values of all nets.
-ghost use Rattle.std.specs.Prelude.{◌≡◌, ℕ, ◌<◌, List, length, map, All, slice_index, slice_set, replicate, IfOk};
+ghost use Rattle.std.specs.Prelude.{◌≡◌, ℕ, ◌<◌, ◌^◌, true, List, length, map, All, slice_index, slice_set, replicate, IfOk};
 ghost use Rattle.verilog_sim.specs.Lines.{IsSafe};
 ghost use Rattle.verilog_sim.specs.Batches.{line_of, Advances};
 
@@ -61,6 +61,33 @@ impl Values {
         let k = net.index();
         self.low[k] = low_half(word);
         self.high[k] = (word >> 64) as u64;
+    }
+
+    /// The value of a net, which has at most 64 bits where `narrow`.
+    pub(crate) fn read(&self, net: NetId, narrow: bool) -> u128
+        requires net { net < length self.now }
+        requires narrow { narrow ≡ true → slice_index self.now net < 2 ^ 64 }
+        ensures { result ≡ slice_index self.now net }
+    {
+        if narrow {
+            self.low[net.index()] as u128
+        } else {
+            self.get(net)
+        }
+    }
+
+    /// Gives a net its value. Where `narrow`, that and the one before have at most 64 bits.
+    pub(crate) fn write(&mut self, net: NetId, word: u128, narrow: bool)
+        requires net { net < length self.old }
+        requires before { narrow ≡ true → slice_index self.old net < 2 ^ 64 }
+        requires word { narrow ≡ true → word < 2 ^ 64 }
+        ensures { self.new ≡ slice_set self.old net word }
+    {
+        if narrow {
+            self.low[net.index()] = low_half(word);
+        } else {
+            self.set(net, word);
+        }
     }
 
     /// Gives each target of the lines of one operation its value, in their order.

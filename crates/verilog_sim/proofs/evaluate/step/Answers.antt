@@ -3,15 +3,12 @@ use Rattle.std.specs.Prelude.{slice_get}
 use Rattle.rtl_ir.specs.declared.design.Port.{Port}
 use Rattle.rtl_ir.specs.Value.{is_reg}
 use Rattle.rtl_ir.specs.declared.design.Update.{Update}
-use Rattle.rtl_ir.specs.Edge.{after_edge, updated_all}
-use Rattle.rtl_ir.specs.Rules.{HoldsWords}
-use Rattle.verilog_sim.specs.Contents.{family_of, contents_of}
-use Rattle.verilog_sim.specs.Feeding.IsSeen.{at_port, by_enable, by_value, by_target}
+use Rattle.verilog_sim.specs.Feeding.IsSeen.{at_port}
 use Rattle.verilog_sim.specs.Updates.{IsLoaded}
-use Rattle.verilog_sim.proofs.Updating.{update_safe, load_safe, updates_agree}
-use Rattle.verilog_sim.proofs.Accepting.{words_after}
+use Rattle.verilog_sim.proofs.Updating.{update_safe, load_safe}
+use Rattle.verilog_sim.proofs.Clocking.{update_small, load_small, clocked}
 use Rattle.verilog_sim.proofs.Evaluated.{loaded_words, loaded_regs, loaded_constants, loaded_ports, kept_on_lines}
-use Rattle.verilog_sim.proofs.Answering.{part_of_feeding, no_literal, literal_free, completed}
+use Rattle.verilog_sim.proofs.Answering.{part_of_feeding, no_literal, literal_free}
 use Rattle.verilog_sim.proofs.Compiling.{lines_at}
 use Rattle.verilog_sim.specs.Batches.{lines_of_all}
 use Rattle.verilog_sim.proofs.evaluate.step.Goals as goal
@@ -28,6 +25,13 @@ clock-requires-clause-safe c =
     let by = c.evaluate.ensures c.requires.0 p.edge c.args.updates.now c.args.held.now r (part_of_feeding c.requires.0 p.order p.edge _ p.ordered p.sees) (lines_at c.requires.0 p.edge (lines_of_all c.args.program.now.edge.items) (lines_of_all c.as_slice-batches.result.now) (ap lines_of_all c.as_slice-batches.ensures.value) p.edge_are) in
     update_safe c.requires.0 _ _ c.args.updates.now r.simulable.runnable by.settles.nets r.kept.blocks r.updates_are
 
+pub clock-requires-clause-small : goal.clock-requires-clause-small
+clock-requires-clause-small c =
+    let r = c.requires.2 in
+    let p = c.requires.3 in
+    let by = c.evaluate.ensures c.requires.0 p.edge c.args.updates.now c.args.held.now r (part_of_feeding c.requires.0 p.order p.edge _ p.ordered p.sees) (lines_at c.requires.0 p.edge (lines_of_all c.args.program.now.edge.items) (lines_of_all c.as_slice-batches.result.now) (ap lines_of_all c.as_slice-batches.ensures.value) p.edge_are) in
+    update_small c.requires.0 c.args.program.now.narrow c.args.updates.now r.simulable.runnable r.updates_are p.narrow c.evaluate.new.values by.settles.words
+
 pub clock-requires-clause-held : goal.clock-requires-clause-held
 clock-requires-clause-held c =
     let r = c.requires.2 in
@@ -37,12 +41,17 @@ clock-requires-clause-held c =
 
 pub load-requires : goal.load-requires
 load-requires c =
+    let m = c.requires.0 in
     let r = c.requires.2 in
     let p = c.requires.3 in
+    let g = c.args.given.now in
     let by = c.evaluate.ensures c.requires.0 p.edge c.args.updates.now c.args.held.now r (part_of_feeding c.requires.0 p.order p.edge _ p.ordered p.sees) (lines_at c.requires.0 p.edge (lines_of_all c.args.program.now.edge.items) (lines_of_all c.as_slice-batches.result.now) (ap lines_of_all c.as_slice-batches.ensures.value) p.edge_are) in
+    let now = clocked m p.order p.edge c.args.updates.now c.args.counts g.reset g.steady.now g.offers.now g.accepts.now g.holds.now c.args.held.now c.args.values.now c.evaluate.new.values c.clock.new.held c.args.memories.now c.clock.new.memories
+    r.simulable.runnable p.ordered p.sees (λ i q at. (r.simulable.formed i q at).wire) r.kept by r.updates_are ((c.clock.ensures m r.kept.words.depths).1) in
     record {
-      safe = load_safe c.requires.0 _ c.args.updates.now r.simulable.runnable by.settles.nets r.updates_are;
+      safe = load_safe m _ c.args.updates.now r.simulable.runnable by.settles.nets r.updates_are;
       held = c.clock.auto.held ∙ r.kept.held_nets ∙ sym by.settles.nets;
+      small = load_small m c.args.program.now.narrow c.args.updates.now r.simulable.runnable r.updates_are p.narrow c.clock.new.held c.evaluate.new.values now.words.regs by.settles.words;
     }
 
 pub returns : goal.returns
@@ -53,21 +62,16 @@ returns c = λ m net r p.
     let part = part_of_feeding m p.order p.edge _ p.ordered p.sees in
     let wires : (i : ℕ) (q : Port) → slice_get m.ports i ≡ Some q → is_reg m q.net ≡ false = λ i q at. (r.simulable.formed i q at).wire in
     let by = c.evaluate.ensures m p.edge c.args.updates.now c.args.held.now r part (lines_at m p.edge (lines_of_all c.args.program.now.edge.items) (lines_of_all c.as_slice-batches.result.now) (ap lines_of_all c.as_slice-batches.ensures.value) p.edge_are) in
-    let all = completed m p.order p.edge _ c.args.counts g.reset g.steady.now g.offers.now g.accepts.now g.holds.now c.args.held.now c.evaluate.new.values c.args.memories.now run p.ordered p.sees wires by in
     let free = literal_free m p.edge run part (no_literal p.order p.edge _ p.sees) in
     let before = kept_on_lines m p.edge c.args.counts g.reset g.steady.now g.offers.now g.accepts.now g.holds.now c.args.held.now c.args.values.now c.evaluate.new.values c.args.memories.now run part free k by in
-    let start = contents_of c.args.held.now c.args.memories.now in
-    let clocked = c.clock.ensures m k.words.depths in
-    let seen : updated_all m (family_of c.evaluate.new.values) m.updates start ≡ after_edge m start (family_of all.values) =
-    updates_agree m (family_of c.evaluate.new.values) (family_of all.values) m.updates start (λ j u at. (all.same u.enable (by_enable j u at), all.same u.value (by_value j u at), all.same _ (by_target j u at))) in
-    let after : contents_of c.clock.new.held c.clock.new.memories ≡ after_edge m start (family_of all.values) = clocked.1 ∙ ap (λ (us : List Update). updated_all m (family_of c.evaluate.new.values) us start) r.updates_are ∙ seen in
-    let held : HoldsWords m start = record { regs = k.held_words; cells = k.words.cells } in
-    let words : HoldsWords m (contents_of c.clock.new.held c.clock.new.memories) = subst (HoldsWords m) (sym after) (words_after m run start (family_of all.values) held all.evaluated.fits) in
+    let wrote = c.clock.ensures m k.words.depths in
+    let now = clocked m p.order p.edge c.args.updates.now c.args.counts g.reset g.steady.now g.offers.now g.accepts.now g.holds.now c.args.held.now c.args.values.now c.evaluate.new.values c.clock.new.held c.args.memories.now c.clock.new.memories run p.ordered p.sees wires k by r.updates_are wrote.1 in
+    let words = now.words in
     let loaded : IsLoaded m.updates c.clock.new.held c.evaluate.new.values c.load.new.values = subst (λ (u : List Update). IsLoaded u c.clock.new.held c.evaluate.new.values c.load.new.values) r.updates_are c.load.ensures in
     let nets = loaded_words m c.clock.new.held c.evaluate.new.values c.load.new.values c.args.memories.now run words.regs before.words loaded in (
       record {
         blocks = c.clock.auto.memories ∙ k.blocks;
-        words = record { nets = nets.nets; words = nets.words; depths = clocked.0; cells = words.cells };
+        words = record { nets = nets.nets; words = nets.words; depths = wrote.0; cells = words.cells };
         held_nets = c.clock.auto.held ∙ k.held_nets;
         held_words = words.regs;
         loaded = loaded_regs m c.clock.new.held c.evaluate.new.values c.load.new.values run loaded;
@@ -76,9 +80,9 @@ returns c = λ m net r p.
         steady_words = k.steady_words;
       },
       record {
-        values = all.values;
-        evaluated = all.evaluated;
-        ports = λ i q at. loaded_ports m c.clock.new.held c.evaluate.new.values c.load.new.values run wires loaded i q at ∙ all.same q.net (at_port i q at);
-        after = after;
+        values = now.all.values;
+        evaluated = now.all.evaluated;
+        ports = λ i q at. loaded_ports m c.clock.new.held c.evaluate.new.values c.load.new.values run wires loaded i q at ∙ now.all.same q.net (at_port i q at);
+        after = now.after;
       },
     )

@@ -13,8 +13,9 @@ use Rattle.verilog_sim.proofs.Answering.{part_of_feeding}
 use Rattle.verilog_sim.proofs.Shapes.{length_shape}
 use Rattle.rtl_ir.specs.Run.{Outer}
 use Rattle.rtl_ir.specs.Rules.{AllHold}
-use Rattle.verilog_sim.specs.Contents.{contents_of}
-use Rattle.verilog_sim.specs.Parts.{contents_by_path}
+use Rattle.verilog_sim.specs.PartLists.{parts_of}
+use Rattle.verilog_sim.specs.State.{held_at}
+use Rattle.verilog_sim.proofs.PartLists.{parts_say}
 use Rattle.verilog_sim.specs.Start.{IsFilled, filled, held_at_start, words_at_start}
 use Rattle.rtl_ir.specs.declared.design.Net.{Net}
 use Rattle.rtl_ir.specs.declared.design.Mem.{Mem}
@@ -126,6 +127,7 @@ invariant_of-result c =
       feeding = c.in_ok-orders.orders.feeding.items;
       feeds = subst (λ (k : ℕ). IsFeeding c.in_ok-orders.ensures.order c.in_ok-orders.orders.feeding.items (λ n. n ≡ k)) (c.net_of_last-done.ensures ∙ ap last_net c.as_slice.ensures) c.in_ok-orders.ensures.feeds;
       feeding_are = c.in_ok-compile.ensures.feeding;
+      narrow = c.in_ok-compile.ensures.narrow;
     } in
     let kept : AreKept run c.counts_of-counts.result c.in_ok-vec.field-0.items c.in_ok-held.held.items c.in_ok-values.values c.in_ok-memories.field-0.items =
     start_kept run c.counts_of-counts.result c.args.fill c.in_ok-vec.field-0.items c.in_ok-held.held.items c.in_ok-values.values c.in_ok-memories.field-0.items (runnable_same e) c.in_ok-held.ensures c.in_ok-memories.ensures (subst (λ (l : List ℕ). AreFirst run l c.in_ok-values.values) c.as_slice-2.ensures.value c.in_ok-values.ensures) steady in
@@ -171,21 +173,22 @@ pub returns-clause-filled : goal.returns-clause-filled
 returns-clause-filled c = λ m e.
     let f = c.in_ok-flat.ensures in
     let same : f.top ≡ m = (let g = f.is_top in cc) in
-    let at = contents_filled c.args.design.now c.requires.accepted c.in_ok-flat.flat.places.items c.in_ok-flat.flat.«module» f c.args.fill c.in_ok-held.held.items c.in_ok-memories.field-0.items (held_flat c.args.fill c.in_ok-module.ensures c.in_ok-held.ensures) (memories_flat c.args.fill c.in_ok-module.ensures c.in_ok-memories.ensures) in
-    subst (λ (x : Module). IsFilled x c.args.fill (contents_by_path (top_of c.args.design.now) c.in_ok-flat.flat.places.items (contents_of c.in_ok-held.held.items c.in_ok-memories.field-0.items) [])) same
+    let at = parts_say (top_of c.args.design.now) c.in_ok-flat.flat.places.items c.in_ok-held.held.items c.in_ok-memories.field-0.items ∙ contents_filled c.args.design.now c.requires.accepted c.in_ok-flat.flat.places.items c.in_ok-flat.flat.«module» f c.args.fill c.in_ok-held.held.items c.in_ok-memories.field-0.items (held_flat c.args.fill c.in_ok-module.ensures c.in_ok-held.ensures) (memories_flat c.args.fill c.in_ok-module.ensures c.in_ok-memories.ensures) in
+    subst (λ (x : Module). IsFilled x c.args.fill (held_at (parts_of (top_of c.args.design.now) c.in_ok-flat.flat.places.items c.in_ok-held.held.items c.in_ok-memories.field-0.items) [])) same
     (subst (λ (u : AllContents). IsFilled f.top c.args.fill (u [])) (sym at) (part_filled f.top c.args.fill))
 
 pub returns-clause-start : goal.returns-clause-start
 returns-clause-start c = λ m e.
     let f = c.in_ok-flat.ensures in
     let same : f.top ≡ m = (let g = f.is_top in cc) in
-    contents_filled c.args.design.now c.requires.accepted c.in_ok-flat.flat.places.items c.in_ok-flat.flat.«module» f c.args.fill c.in_ok-held.held.items c.in_ok-memories.field-0.items (held_flat c.args.fill c.in_ok-module.ensures c.in_ok-held.ensures) (memories_flat c.args.fill c.in_ok-module.ensures c.in_ok-memories.ensures)
+    parts_say (top_of c.args.design.now) c.in_ok-flat.flat.places.items c.in_ok-held.held.items c.in_ok-memories.field-0.items
+    ∙ contents_filled c.args.design.now c.requires.accepted c.in_ok-flat.flat.places.items c.in_ok-flat.flat.«module» f c.args.fill c.in_ok-held.held.items c.in_ok-memories.field-0.items (held_flat c.args.fill c.in_ok-module.ensures c.in_ok-held.ensures) (memories_flat c.args.fill c.in_ok-module.ensures c.in_ok-memories.ensures)
     ∙ ap (λ x. filled c.args.design.now x c.args.fill) same
 
 pub returns-clause-words : goal.returns-clause-words
 returns-clause-words c = λ m e.
     let f = c.in_ok-flat.ensures in
     let same : f.top ≡ m = (let g = f.is_top in cc) in
-    let at = contents_filled c.args.design.now c.requires.accepted c.in_ok-flat.flat.places.items c.in_ok-flat.flat.«module» f c.args.fill c.in_ok-held.held.items c.in_ok-memories.field-0.items (held_flat c.args.fill c.in_ok-module.ensures c.in_ok-held.ensures) (memories_flat c.args.fill c.in_ok-module.ensures c.in_ok-memories.ensures) in
-    subst (λ (x : Module). AllHold c.args.design.now x (contents_by_path (top_of c.args.design.now) c.in_ok-flat.flat.places.items (contents_of c.in_ok-held.held.items c.in_ok-memories.field-0.items))) same
+    let at = parts_say (top_of c.args.design.now) c.in_ok-flat.flat.places.items c.in_ok-held.held.items c.in_ok-memories.field-0.items ∙ contents_filled c.args.design.now c.requires.accepted c.in_ok-flat.flat.places.items c.in_ok-flat.flat.«module» f c.args.fill c.in_ok-held.held.items c.in_ok-memories.field-0.items (held_flat c.args.fill c.in_ok-module.ensures c.in_ok-held.ensures) (memories_flat c.args.fill c.in_ok-module.ensures c.in_ok-memories.ensures) in
+    subst (λ (x : Module). AllHold c.args.design.now x (λ p. held_at (parts_of (top_of c.args.design.now) c.in_ok-flat.flat.places.items c.in_ok-held.held.items c.in_ok-memories.field-0.items) p)) same
     (subst (AllHold c.args.design.now f.top) (sym at) (all_words c.args.design.now f.top c.args.fill))
