@@ -9,6 +9,7 @@ use Rattle.expression_source.specs.Source.{Source, IsSource}
 use Rattle.maxjc_core.specs.Command.{Names}
 use Rattle.maxjc_core.specs.Causes.{IsReadable, Stands, IsOfSource}
 use Rattle.maxjc_core.specs.Compiling.{Compiles}
+use Rattle.maxjc_core.specs.Kernels.{AloneHasKernel}
 use Rattle.maxjc_core.specs.Lines.{NotBuilt}
 use Rattle.maxjc_core.specs.Refusals.{cause_told}
 use Rattle.maxjc_core.specs.Stops.{IfRefused, Answers}
@@ -18,8 +19,8 @@ use Rattle.maxjc_core.specs.declared.stop.Stop.TheVariants as stops
 use Rattle.maxjc_core.proofs.Refusing.{if_cause_so}
 
 -- a source that is of no form that is built is a cause
-pub of_no_form : (bytes : List ℕ) (p : Program) → IsTheSource bytes p → ((classes : List ClassTree) → ProgramIs p classes → (s : Source) → IsSource classes s → ⊥) → IsOfSource bytes NotBuilt
-of_no_form bytes p is none = IsOfSource.no_form (record { classes = is.classes; is = is.source; no_form = none is.classes is.program })
+pub of_no_form : (bytes : List ℕ) (p : Program) → IsTheSource bytes p → ((classes : List ClassTree) → ProgramIs p classes → AloneHasKernel classes) → ((classes : List ClassTree) → ProgramIs p classes → (s : Source) → IsSource classes s → ⊥) → IsOfSource bytes NotBuilt
+of_no_form bytes p is has none = IsOfSource.no_form (record { classes = is.classes; is = is.source; has_kernel = has is.classes is.program; no_form = none is.classes is.program })
 
 pub answers_of :
     (names : Names) (held : Held) (source : List ℕ) (r : Result Compiled Stop)

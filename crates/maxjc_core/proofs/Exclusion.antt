@@ -1,11 +1,15 @@
 -- A project that is built has no cause of a refusal.
-use Rattle.std.proofs.Common.{◌≡◌, ◌<◌, ℕ, List, Some, None, length, arith, refl, subst}
+use Rattle.std.proofs.Common.{◌≡◌, ◌∙◌, ◌<◌, ℕ, List, [], Some, None, true, false, length, arith, refl, sym, subst}
 use Rattle.std.specs.Prelude.{IsSome}
 use Rattle.mx_base.specs.Files.{Held, Name, Holds}
 use Rattle.maxj_syntax.specs.Tree.{ClassTree}
 use Rattle.maxj_syntax.specs.Source.{IsSourceOf, HasFirst}
 use Rattle.maxj_syntax.proofs.Sources.{one_source, no_fault}
 use Rattle.expression_source.specs.Source.{Source, IsSource}
+use Rattle.kernel_meaning.specs.Answer.{calls_of}
+use Rattle.kernel_meaning.specs.Constructors.{building_run}
+use Rattle.maxjc_core.specs.Kernels.{IsAlone, HasKernel, LacksKernel}
+use Rattle.maxjc_core.proofs.Rules.{not-refused}
 use Rattle.maxjc_core.specs.Command.{Names}
 use Rattle.maxjc_core.specs.Lines.{Cause}
 use Rattle.maxjc_core.specs.Causes.{file_limit, IsWithin, IsPast, Stands, IsBuilt, IsOfSource}
@@ -26,6 +30,17 @@ not_past held name bytes past within =
     let small = within.within in
     omega arith
 
+-- a class that has a kernel has no cause for which it has none
+has-one : (kernel : ClassTree) (cause : Cause) → HasKernel kernel → LacksKernel kernel cause → ⊥
+has-one kernel _ has (LacksKernel.name plain) =
+    let both : true ≡ false = sym has.name ∙ plain in
+    absurd (cc)
+has-one kernel _ has (LacksKernel.run error plain memory ends) =
+    let both = sym has.ends ∙ ends in
+    absurd (cc)
+has-one kernel _ has (LacksKernel.rule error plain ends refuses) =
+    not-refused (calls_of (building_run kernel [])) error has.sound refuses
+
 pub excluded : (names : Names) (held : Held) (cause : Cause) → Stands names held cause → IsBuilt names held → ⊥
 excluded names held cause (Stands.source_too_large past) built = not_past held names.source _ past built.files.source_is
 excluded names held cause (Stands.table_too_large after) built = not_past held names.table _ after.then_table built.files.table_is
@@ -33,6 +48,11 @@ excluded names held _ (Stands.of_source files _ (IsOfSource.no_form none)) built
     let same = same_bytes held names.source files.source built.files.source files.source_is.holds built.files.source_is.holds in
     let classes : none.classes ≡ built.classes = one_source built.files.source none.classes built.classes (subst (λ (b : List ℕ). IsSourceOf b none.classes) same none.is) built.is_source in
     subst (λ (cs : List ClassTree). (s : Source) → IsSource cs s → ⊥) classes none.no_form built.kernel built.is
+excluded names held _ (Stands.of_source files cause (IsOfSource.lacks_kernel _ none)) built =
+    let same = same_bytes held names.source files.source built.files.source files.source_is.holds built.files.source_is.holds in
+    let classes : none.classes ≡ built.classes = one_source built.files.source none.classes built.classes (subst (λ (b : List ℕ). IsSourceOf b none.classes) same none.is) built.is_source in
+    let alone = subst (λ (cs : List ClassTree). IsAlone cs none.fails.0) classes none.fails.1 in
+    has-one none.fails.0 cause (built.has_kernel none.fails.0 alone) none.fails.2
 excluded names held _ (Stands.of_source files _ (IsOfSource.fault fault first)) built =
     let same = same_bytes held names.source files.source built.files.source files.source_is.holds built.files.source_is.holds in
     no_fault built.files.source built.classes fault built.is_source (subst (λ (b : List ℕ). HasFirst b fault) same first)
@@ -44,4 +64,4 @@ told_from_cause names held cause (Stands.table_too_large after) = told held name
 told_from_cause names held _ (Stands.of_source files cause is) = told held names.source files.source files.source_is.holds
 
 pub built_from_compiled : (names : Names) (held : Held) (text line : List ℕ) → IsCompiled names held text line → IsBuilt names held
-built_from_compiled names held text line c = record { files = c.files; classes = c.compiles.classes; is_source = c.compiles.is_source; kernel = c.compiles.kernel; is = c.compiles.is }
+built_from_compiled names held text line c = record { files = c.files; classes = c.compiles.classes; is_source = c.compiles.is_source; has_kernel = c.compiles.has_kernel; kernel = c.compiles.kernel; is = c.compiles.is }

@@ -1,4 +1,5 @@
 pub mod Refusing
+pub mod Rules
 pub mod Reading
 pub mod RunReading
 pub mod RunExclusion
@@ -9,5 +10,6 @@ pub mod OneCommand
 pub mod Sources
 pub mod Exclusion
 pub mod OneShape
+pub mod Alone
 pub mod Answering
 pub mod Writing

@@ -15,6 +15,7 @@ use Rattle.expression_source.specs.Steps.{result_of}
 use Rattle.expression_source.specs.Projects.{Says, IsProject}
 use Rattle.expression_source.specs.declared.project.Project.{Project}
 use Rattle.expression_module.specs.Designs.{shape_of, IsSound, IsStraightForm}
+use Rattle.maxjc_core.specs.Kernels.{AloneHasKernel}
 use Rattle.maxjc_core.specs.Compiling.{kernel_shape, operators_in, Compiles}
 use Rattle.maxjc_core.specs.Emitting.{Emits}
 use Rattle.maxjc_core.specs.declared.compile.Compiled.{Compiled}
@@ -62,14 +63,15 @@ sound classes p is =
 same_shape : (s : Source) (p : Project) → Says s p → shape_of p ≡ kernel_shape s
 same_shape s p says = rw (says.name, says.input, says.output, says.width) refl
 
-pub compiles : (bytes : List ℕ) (classes : List ClassTree) (p : Project) (c : Compiled) → IsSourceOf bytes classes → IsProject classes p → Emits p c → Compiles bytes c.text.items c.summary.items
-compiles bytes classes p c is_source is emits =
+pub compiles : (bytes : List ℕ) (classes : List ClassTree) (p : Project) (c : Compiled) → IsSourceOf bytes classes → AloneHasKernel classes → IsProject classes p → Emits p c → Compiles bytes c.text.items c.summary.items
+compiles bytes classes p c is_source has is emits =
     let s = is.source in
     let says = is.says in
     let f : result_of p.width p.steps p.result ≡ output_of s = fun_ext says.value in
     record {
       classes = classes;
       is_source = is_source;
+      has_kernel = has;
       kernel = s;
       is = is.is;
       design = emits.design;

@@ -9,6 +9,7 @@ use Rattle.maxj_syntax.specs.Source.{IsSourceOf}
 use Rattle.maxj_syntax.specs.Tree.{ClassTree}
 use Rattle.expression_source.specs.Source.{Source, IsSource, Local, operators_of, output_of}
 use Rattle.expression_module.specs.Designs.{IsStraightForm}
+use Rattle.maxjc_core.specs.Kernels.{AloneHasKernel}
 
 -- the ports that the text of a kernel has
 abbrev pub kernel_shape : Source → Shape
@@ -27,11 +28,12 @@ operators_in s = sum_by (λ (l : Local). operators_of l.value) s.locals + operat
 abbrev pub summary_of : Source → List ℕ
 summary_of s = codes "kernel " ++ s.name ++ codes " fifo 0\n"
 
--- The bytes of a source, the text made of them, and the line said: the text is a text of a design of the straight form of
+-- The bytes of a source, the text made of them, and the line said: the source's class has a kernel, the text is a text of a design of the straight form of
 -- that kernel, reading it gives that design back, and every run of this design agrees with a prefix of the kernel's words.
 pub record Compiles (source text line : List ℕ) : Type 0 where
   pub classes : List ClassTree
   pub is_source : IsSourceOf source classes
+  pub has_kernel : AloneHasKernel classes
   pub kernel : Source
   pub is : IsSource classes kernel
   pub design : Design

@@ -1,5 +1,6 @@
 pub mod Command
 pub mod Outside
+pub mod Kernels
 pub mod Lines
 pub mod Causes
 pub mod Compiling

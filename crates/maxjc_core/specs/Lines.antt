@@ -1,15 +1,21 @@
 -- Why a command refuses its files, and the line that is said.
-use Rattle.std.specs.Prelude.{ℕ, List, [], ◌∷◌, codes}
+use Rattle.std.specs.Prelude.{ℕ, List, [], ◌∷◌, Option, Some, None, codes}
 use Rattle.std.specs.Fmt.{decimal}
 use Rattle.refusal_line.specs.Lines.{refused}
 use Rattle.maxj_syntax.specs.Source.{Fault}
 use Rattle.maxj_syntax.specs.Lines.{fault_line}
+use Rattle.kernel_meaning.specs.declared.error.EvalError.{EvalError}
+use Rattle.kernel_eval.specs.Lines.{refusal_of}
+use Rattle.stream_graph.specs.declared.error.GraphError.{GraphError}
+use Rattle.stream_graph.specs.Lines.{fault_line as rule_fault_line}
 use Rattle.rtl_check.specs.Lines.{rule_line}
 use Rattle.maxjc_core.specs.Command.{Name}
 
 pub data Cause : Type 0 where
   TooLarge : Name → Cause  -- F1: this file has more bytes than its limit
   SourceFault : Fault → Cause  -- S1 to S6: this is the first fault of the source
+  RunRefused : EvalError → Cause  -- E1 to E15: the building run of the kernel is refused so
+  NoKernel : Name → GraphError → Cause  -- G1 to G4 and G6: what the run of this kernel makes breaks a rule
   NotBuilt : Cause  -- N0: the source is of no form that is built
   NoToken : ℕ → Cause  -- V1: no token begins at this place of the text
   Syntax : ℕ → Cause  -- V2: the token at this place of the text is the first that no text has after those before it
@@ -21,10 +27,17 @@ pub data Cause : Type 0 where
   BadLine : Name → ℕ → Cause  -- U3: this line of this file isn't 1 to 32 hexadecimal digits
   WordRange : Name → ℕ → Cause  -- U4: this line of this file says a number past the width
 
+-- want of memory is no cause, and has no line
+abbrev pub line_or_none : Option (List ℕ) → List ℕ
+line_or_none None = []
+line_or_none (Some line) = line
+
 -- the line that is said
 abbrev pub line_of : Cause → List ℕ
 line_of (TooLarge name) = refused (codes "F1") (name ∷ [])
 line_of (SourceFault fault) = fault_line fault
+line_of (RunRefused error) = line_or_none (refusal_of error)
+line_of (NoKernel name error) = line_or_none (rule_fault_line name error)
 line_of NotBuilt = refused (codes "N0") []
 line_of (NoToken place) = refused (codes "V1") (decimal place ∷ [])
 line_of (Syntax place) = refused (codes "V2") (decimal place ∷ [])

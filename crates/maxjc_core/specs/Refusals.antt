@@ -1,5 +1,5 @@
 -- The cause that a refusal of the code names. Want of memory and a call that failed are none.
-use Rattle.std.specs.Prelude.{Option, Some, None}
+use Rattle.std.specs.Prelude.{ℕ, List, Option, Some, None}
 use Rattle.maxj_syntax.specs.Source.{Fault}
 use Rattle.maxj_syntax.specs.declared.source.SourceError.{SourceError}
 use Rattle.maxj_syntax.specs.declared.source.SourceError.TheVariants as source_errors
@@ -7,7 +7,11 @@ use Rattle.word_files.specs.declared.error.RunFileError.{RunFileError}
 use Rattle.word_files.specs.declared.error.RunFileError.TheVariants as run_errors
 use Rattle.simulation.specs.declared.stop.Stop.{Stop}
 use Rattle.simulation.specs.declared.stop.Stop.TheVariants as stops
-use Rattle.maxjc_core.specs.Lines.{Cause, TooLarge, SourceFault, NotBuilt, TooManyCells, NotJson, RunShape, BadLine, WordRange}
+use Rattle.kernel_meaning.specs.declared.error.EvalError.{EvalError}
+use Rattle.kernel_meaning.specs.declared.error.EvalError.TheVariants as eval_errors
+use Rattle.stream_graph.specs.declared.error.GraphError.{GraphError}
+use Rattle.stream_graph.specs.declared.error.GraphError.TheVariants as graph_errors
+use Rattle.maxjc_core.specs.Lines.{Cause, TooLarge, SourceFault, RunRefused, NoKernel, NotBuilt, TooManyCells, NotJson, RunShape, BadLine, WordRange}
 use Rattle.maxjc_core.specs.RunCauses.{text_cause}
 use Rattle.maxjc_core.specs.declared.refusal.Refusal.{Refusal}
 use Rattle.maxjc_core.specs.declared.refusal.Refusal.TheVariants as refusals
@@ -34,9 +38,19 @@ stop_cause stops.ReadFault = None
 stop_cause stops.WriteFault = None
 stop_cause stops.NoMemory = None
 
+abbrev pub run_cause : EvalError → Option Cause
+run_cause eval_errors.NoMemory = None
+run_cause error = Some (RunRefused error)
+
+abbrev pub graph_cause : List ℕ → GraphError → Option Cause
+graph_cause name graph_errors.NoMemory = None
+graph_cause name error = Some (NoKernel name error)
+
 abbrev pub cause_told : Refusal → Option Cause
 cause_told (refusals.TooLarge name) = Some (TooLarge name.now)
 cause_told (refusals.Source error) = source_cause error
+cause_told (refusals.Building error) = run_cause error
+cause_told (refusals.Graph name error) = graph_cause name error
 cause_told refusals.NotBuilt = Some NotBuilt
 cause_told (refusals.Verilog error) = text_cause error
 cause_told (refusals.RunFile error) = run_file_cause error

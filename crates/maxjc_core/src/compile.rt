@@ -9,15 +9,17 @@ ghost use Rattle.maxjc_core.specs.Stops.{IfRefused, Answers};
 ghost use Rattle.maxjc_core.specs.Named.{names_told};
 ghost use Rattle.maxjc_core.specs.Emitting.{Emits};
 ghost use Rattle.expression_module.specs.Designs.{IsSound};
-ghost use Rattle.maxj_syntax.specs.Outcomes.{FailsToRead};
+ghost use Rattle.maxj_syntax.specs.Outcomes.{FailsToRead, IsTheSource};
+ghost use Rattle.maxj_syntax.specs.Tree.{ClassTree, ProgramIs};
 
 use crate::command::Compile;
 use crate::files::{FILE_LIMIT, read_file};
+use crate::kernels::build_alone;
 use crate::refusal::Refusal;
 use crate::stop::Stop;
 use expression_module::kernel_design;
 use expression_source::{Project, read_kernel};
-use maxj_syntax::{SourceError, parse};
+use maxj_syntax::{Program, SourceError, parse};
 use mx_base::{Files, NoMemory, Text};
 use std::alloc::Global;
 use verilog_print::print;
@@ -62,6 +64,24 @@ fn refused<'a>(error: SourceError) -> Stop<'a>
     }
 }
 
+// What is made of a program, or why it isn't compiled.
+fn compile_program<'a>(alloc: Global, program: &Program<'_>) -> Result<Compiled, Stop<'a>>
+    requires { (classes : List ClassTree) × ProgramIs program.now classes }
+    ensures made { (bytes : List ℕ) → IsTheSource bytes program.now
+        → IfOk result (λ c. Compiles bytes c.text.items c.summary.items) }
+    ensures refused { (bytes : List ℕ) → IsTheSource bytes program.now
+        → IfErr result (λ stop. IfRefused stop (IsOfSource bytes)) }
+    ensures no_read { result ≡ Err Stop.ReadFault → ⊥ }
+{
+    if let Err(stop) = build_alone(alloc, program) {
+        return Err(stop);
+    }
+    match read_kernel(alloc, program)? {
+        Some(project) => Ok(emit(alloc, &project)?),
+        None => Err(Stop::Refused(Refusal::NotBuilt)),
+    }
+}
+
 // What is made of the bytes of a source, or why they are refused.
 fn build<'a>(alloc: Global, source: &[u8]) -> Result<Compiled, Stop<'a>>
     requires { length source.now < 2 ^ 32 }
@@ -70,10 +90,7 @@ fn build<'a>(alloc: Global, source: &[u8]) -> Result<Compiled, Stop<'a>>
     ensures no_read { result ≡ Err Stop.ReadFault → ⊥ }
 {
     match parse(alloc, source) {
-        Ok(program) => match read_kernel(alloc, &program)? {
-            Some(project) => Ok(emit(alloc, &project)?),
-            None => Err(Stop::Refused(Refusal::NotBuilt)),
-        },
+        Ok(program) => compile_program(alloc, &program),
         Err(error) => Err(refused(error)),
     }
 }

@@ -5,6 +5,7 @@ mod command;
 mod compile;
 mod compile_command;
 mod files;
+mod kernels;
 mod load;
 mod refusal;
 mod saying;

@@ -3,11 +3,14 @@ ghost use Rattle.std.specs.Prelude.{◌≡◌, IfOk};
 ghost use Rattle.maxjc_core.specs.Lines.{line_of};
 ghost use Rattle.maxjc_core.specs.Refusals.{cause_told, IfCause};
 
+use kernel_eval::line_of;
+use kernel_meaning::EvalError;
 use maxj_syntax::SourceError;
 use mx_base::{NoMemory, Text};
 use refusal_line::{Value, refusal_line};
 use simulation::Stop;
 use std::alloc::Global;
+use stream_graph::GraphError;
 use verilog_read::VerilogError;
 use word_files::RunFileError;
 
@@ -19,7 +22,11 @@ pub enum Refusal<'a> {
     TooLarge(&'a Text),
     /// S1 to S6: the first fault of the source.
     Source(SourceError),
-    /// N0: the source is of no form that is built.
+    /// E1 to E15: why the building run of the kernel is refused.
+    Building(EvalError),
+    /// G1 to G4 and G6: the rule that what this kernel's run makes breaks.
+    Graph(Text, GraphError),
+    /// N0: the source is of no form that is compiled.
     NotBuilt,
     /// V1 to V4: why the text isn't that of a design that can be run.
     Verilog(VerilogError),
@@ -38,6 +45,8 @@ impl<'a> Refusal<'a> {
         match self {
             Refusal::TooLarge(name) => refusal_line(alloc, "F1", &[Value::Name(name)]),
             Refusal::Source(error) => error.line(alloc),
+            Refusal::Building(error) => line_of(alloc, *error),
+            Refusal::Graph(kernel, error) => error.line(alloc, kernel),
             Refusal::NotBuilt => refusal_line(alloc, "N0", &[]),
             Refusal::Verilog(error) => error.line(alloc),
             Refusal::RunFile(error) => error.line(alloc),

@@ -2,6 +2,8 @@
 #![tactic(auto)]
 
 #[cfg(test)]
+mod building_tests;
+#[cfg(test)]
 mod design_tests;
 #[cfg(test)]
 mod simulate_tests;

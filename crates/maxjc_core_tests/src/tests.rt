@@ -88,7 +88,7 @@ fn run(alloc: Global, words: &Vec<Text>, files: &mut MemFiles, say: &mut MemSay)
 }
 
 // What a source leads to: the status, and what is said.
-fn expect_end(
+pub(crate) fn expect_end(
     rt: &impl Abort,
     alloc: Global,
     source: &[u8],
