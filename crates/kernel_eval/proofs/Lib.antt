@@ -1,5 +1,4 @@
 pub mod Making
-pub mod Numbers
 pub mod Planning
 pub mod Programs
 pub mod Sendable

@@ -2,8 +2,8 @@
 ghost use Rattle.std.specs.Prelude.{◌≡◌, map, All, IsTrue};
 ghost use Rattle.kernel_calls.specs.Laws.{is_port_name};
 ghost use Rattle.kernel_meaning.specs.Constructors.{building_run, value_of_arg};
-ghost use Rattle.kernel_plans.specs.Trees.{AreWithin};
 ghost use Rattle.maxj_syntax.specs.Tree.{ClassTree};
+ghost use Rattle.maxj_syntax.specs.Ranges.{AreInRange};
 ghost use Rattle.kernel_eval.specs.Built.{IsBuilt};
 ghost use Rattle.kernel_eval.specs.Runs.{IsKernelAt, IsTyped};
 
@@ -37,7 +37,7 @@ pub fn build_kernel(
     name: Text,
 ) -> Result<Kernel, BuildError>
     requires kernel { (kernel : ClassTree) × IsKernelAt program.now class kernel }
-    requires within { AreWithin program.now.tree }
+    requires within { AreInRange program.now.tree }
     requires typed { All IsTyped args.now }
     requires name { IsTrue (is_port_name name) }
     ensures { (kernel : ClassTree) → IsKernelAt program.now class kernel

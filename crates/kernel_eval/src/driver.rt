@@ -3,7 +3,7 @@ ghost use Rattle.std.specs.Prelude.{◌≡◌, []};
 ghost use Rattle.kernel_meaning.specs.Answer.{calls_of};
 ghost use Rattle.kernel_meaning.specs.Sound.{AreSound};
 ghost use Rattle.kernel_rows.specs.Fit.{AreFit};
-ghost use Rattle.kernel_plans.specs.Trees.{AreWithin};
+ghost use Rattle.maxj_syntax.specs.Ranges.{AreInRange};
 ghost use Rattle.kernel_eval.specs.Building.{Builds};
 ghost use Rattle.kernel_eval.specs.Runs.{run_in};
 ghost use Rattle.kernel_eval.specs.Sending.{HasRoomBelow};
@@ -25,7 +25,7 @@ pub(crate) fn run_class<B: Builder>(
     args: List<Value>,
     builder: &mut B,
 ) -> Result<(), EvalError>
-    requires within { AreWithin class.now.cells }
+    requires within { AreInRange class.now.cells }
     requires fit { AreFit args }
     requires sound { AreSound [] args }
     requires fresh { B.made builder.old ≡ 0 }

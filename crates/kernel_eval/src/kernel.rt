@@ -1,9 +1,9 @@
 // The building run of a kernel's class.
 ghost use Rattle.std.specs.Prelude.{◌≡◌, map, All, IfOk};
 ghost use Rattle.maxj_syntax.specs.Tree.{ClassTree};
+ghost use Rattle.maxj_syntax.specs.Ranges.{AreInRange};
 ghost use Rattle.kernel_meaning.specs.Answer.{calls_of};
 ghost use Rattle.kernel_meaning.specs.Constructors.{building_run, value_of_arg};
-ghost use Rattle.kernel_plans.specs.Trees.{AreWithin};
 ghost use Rattle.kernel_eval.specs.Building.{Builds};
 ghost use Rattle.kernel_eval.specs.Runs.{IsKernelAt, IsTyped};
 ghost use Rattle.kernel_eval.specs.Sending.{HasRoomBelow};
@@ -33,7 +33,7 @@ pub fn eval<B: Builder>(
     builder: &mut B,
 ) -> Result<(), EvalError>
     requires kernel { (kernel : ClassTree) × IsKernelAt program.now class kernel }
-    requires within { AreWithin program.now.tree }
+    requires within { AreInRange program.now.tree }
     requires typed { All IsTyped args.now }
     requires fresh { B.made builder.old ≡ 0 }
     requires room { (kernel : ClassTree) → IsKernelAt program.now class kernel

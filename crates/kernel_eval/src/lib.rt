@@ -6,13 +6,11 @@ mod beginning;
 mod building;
 mod driver;
 mod kernel;
-mod literals;
 mod manager;
 mod refusal;
 mod sending;
 
 pub use building::{BuildError, build_kernel};
 pub use kernel::eval;
-pub use literals::literals_fit;
 pub use manager::eval_manager;
 pub use refusal::line_of;

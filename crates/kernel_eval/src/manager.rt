@@ -3,8 +3,8 @@ ghost use Rattle.std.specs.Prelude.{◌≡◌, [], List, None, find};
 ghost use Rattle.std.specs.Option.{option_map};
 ghost use Rattle.maxj_syntax.specs.declared.tree.Class.{Class as OneClass};
 ghost use Rattle.maxj_syntax.specs.Tree.{ClassTree, ClassIs, ClassesAre, ProgramIs};
+ghost use Rattle.maxj_syntax.specs.Ranges.{AreInRange};
 ghost use Rattle.kernel_meaning.specs.Managers.{manager_of, manager_run, source_plan, one_kernel, alone_from};
-ghost use Rattle.kernel_plans.specs.Trees.{AreWithin};
 ghost use Rattle.kernel_plans.specs.Tables.{number_in};
 ghost use Rattle.kernel_meaning.specs.Plans.{OfManager};
 ghost use Rattle.kernel_eval.specs.Building.{Plans, IsAnswer};
@@ -25,7 +25,7 @@ use std::alloc::Global;
 /// The errors are those of the manager's run, each with its place, and `BadPortName` at the first
 /// token of the class where its name is none of a kernel. `NoMemory` alone says nothing.
 pub fn eval_manager(alloc: Global, program: &Program<'_>) -> Result<Plan, EvalError>
-    requires { AreWithin program.now.tree }
+    requires { AreInRange program.now.tree }
     ensures { (classes : List ClassTree) → ProgramIs program.now classes
         → IsAnswer (source_plan classes) result }
 {
@@ -50,7 +50,7 @@ fn plan_by(
     classes: &[Class],
     manager: &Class,
 ) -> Result<Plan, EvalError>
-    requires { AreWithin tree.now }
+    requires { AreInRange tree.now }
     ensures { (trees : List ClassTree) (class : ClassTree) → ClassesAre tree.now classes.now trees
         → ClassIs tree.now manager.now class → Plans (manager_run trees class) result }
 {
@@ -65,7 +65,7 @@ fn plan_with(
     kernels: &KernelClasses<'_>,
     node: NodeId,
 ) -> Result<Plan, EvalError>
-    requires { AreWithin tree.now }
+    requires { AreInRange tree.now }
     ensures { Plans (run_with tree.now node (OfManager (number_in kernels.now)) []) result }
 {
     let class = RunClass::new(alloc, tree, node, Library::OfManager(kernels))?;
@@ -75,7 +75,7 @@ fn plan_with(
 // Runs the constructor of a manager's class, and answers what it builds.
 #[tactic(auto, using(crate::proofs::Way::plan_with))]
 fn run_manager(alloc: Global, class: &RunClass<'_>) -> Result<Plan, EvalError>
-    requires { AreWithin class.now.cells }
+    requires { AreInRange class.now.cells }
     ensures { Plans (run_in class.now []) result }
 {
     let mut machine = begin(alloc, class, List::new(alloc))?;

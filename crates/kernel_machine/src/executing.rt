@@ -5,7 +5,8 @@ ghost use Rattle.kernel_meaning.specs.Answer.{used, does};
 ghost use Rattle.kernel_meaning.specs.Rows as Rows;
 ghost use Rattle.kernel_meaning.specs.Run.{exec};
 ghost use Rattle.kernel_meaning.specs.declared.row.Row.TheVariants as R;
-ghost use Rattle.kernel_plans.specs.Trees.{tree_of, AreWithin};
+ghost use Rattle.maxj_syntax.specs.Ranges.{AreInRange};
+ghost use Rattle.kernel_plans.specs.Trees.{tree_of};
 ghost use Rattle.kernel_machine.specs.Going.{Leads, answer_of, go, standing, rest, after, leaving};
 ghost use Rattle.kernel_machine.specs.Falls.{CostsBelow, idle, load, weight};
 ghost use Rattle.kernel_machine.specs.Fit.{IsFitMachine, IsFitTask};
@@ -31,7 +32,7 @@ impl Machine {
     #[tactic(auto, unfolding(crate::specs::Going::go, kernel_meaning::specs::Run::expr))]
     pub fn step(&mut self, alloc: Global, class: &Class<'_>) -> Result<Event, EvalError>
         requires fit { IsFitMachine class.now self.old }
-        requires within { AreWithin class.now.cells }
+        requires within { AreInRange class.now.cells }
         ensures does { Leads class.now (answer_of class.now self.old) result self.new }
         ensures falls { CostsBelow class.now (load class.now self.old) result self.new }
         ensures fit { OnOk result (IsFitMachine class.now self.new) }
@@ -48,7 +49,7 @@ impl Machine {
     #[tactic(auto, unfolding(crate::specs::Going::go, kernel_meaning::specs::Run::expr))]
     fn execute(&mut self, alloc: Global, class: &Class<'_>, part: Part) -> Result<Event, EvalError>
         requires fit { IsFitMachine class.now self.old }
-        requires within { AreWithin class.now.cells }
+        requires within { AreInRange class.now.cells }
         ensures does { Leads class.now (exec (standing class.now self.old)
             (tree_of class.now.cells part) self.old.state (after class.now self.old)
             (leaving class.now self.old)) result self.new }
@@ -103,7 +104,7 @@ impl Machine {
     fn resume(&mut self, alloc: Global, class: &Class<'_>, value: Value) -> Result<Event, EvalError>
         requires value { IsFit value }
         requires fit { IsFitMachine class.now self.old }
-        requires within { AreWithin class.now.cells }
+        requires within { AreInRange class.now.cells }
         ensures does { Leads class.now (rest class.now self.old value self.old.state) result
             self.new }
         ensures falls { CostsBelow class.now (idle class.now self.old + 4) result self.new }
@@ -127,7 +128,7 @@ impl Machine {
         requires task { IsFitTask class.now task }
         requires value { IsFit value }
         requires fit { IsFitMachine class.now self.old }
-        requires within { AreWithin class.now.cells }
+        requires within { AreInRange class.now.cells }
         ensures does { Leads class.now (go class.now (standing class.now self.old)
             (task ∷ self.old.tasks) value self.old.state (leaving class.now self.old)) result
             self.new }

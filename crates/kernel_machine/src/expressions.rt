@@ -4,7 +4,8 @@ ghost use Rattle.kernel_rows.specs.Fit.{IsFit, AreFit};
 ghost use Rattle.kernel_meaning.specs.Answer.{after_calls};
 ghost use Rattle.kernel_meaning.specs.Run.{expr, operate};
 ghost use Rattle.kernel_machine.specs.Left.{operands_left, finish, planned_at};
-ghost use Rattle.kernel_plans.specs.Trees.{tree_of, branch_tree, AreWithin, IsWithin};
+ghost use Rattle.maxj_syntax.specs.Ranges.{AreInRange, IsInRange};
+ghost use Rattle.kernel_plans.specs.Trees.{tree_of, branch_tree};
 ghost use Rattle.kernel_machine.specs.Going.{Leads, standing, rest, after, leaving};
 ghost use Rattle.kernel_machine.specs.Falls.{CostsBelow, idle};
 ghost use Rattle.kernel_machine.specs.Fit.{IsFitMachine, IsFitPurpose};
@@ -64,7 +65,7 @@ impl Machine {
         requires purpose { IsFitPurpose purpose }
         requires values { AreFit values }
         requires fit { IsFitMachine class.now self.old }
-        requires within { AreWithin class.now.cells }
+        requires within { AreInRange class.now.cells }
         ensures does { Leads class.now (operands_left class.now.cells (standing class.now self.old)
             purpose at node place count values self.old.state (rest class.now self.old))
             result self.new }
@@ -100,7 +101,7 @@ impl Machine {
         requires purpose { IsFitPurpose purpose }
         requires values { AreFit values }
         requires fit { IsFitMachine class.now self.old }
-        requires within { AreWithin class.now.cells }
+        requires within { AreInRange class.now.cells }
         ensures does { Leads class.now (finish class.now.cells (standing class.now self.old)
             purpose at values self.old.state (rest class.now self.old)) result self.new }
         ensures falls { CostsBelow class.now (idle class.now self.old + 49) result self.new }
@@ -132,7 +133,7 @@ impl Machine {
         requires purpose { IsFitPurpose (Purpose.ForRow row) }
         requires values { AreFit values }
         requires fit { IsFitMachine class.now self.old }
-        requires within { AreWithin class.now.cells }
+        requires within { AreInRange class.now.cells }
         ensures does { Leads class.now (operate (standing class.now self.old) row at values
             self.old.state (rest class.now self.old)) result self.new }
         ensures falls { CostsBelow class.now (idle class.now self.old + 49) result self.new }
@@ -155,7 +156,7 @@ impl Machine {
         part: Part,
     ) -> Result<Event, EvalError>
         requires fit { IsFitMachine class.now self.old }
-        requires within { AreWithin class.now.cells }
+        requires within { AreInRange class.now.cells }
         ensures does { Leads class.now (expr (standing class.now self.old)
             (tree_of class.now.cells part) self.old.state (rest class.now self.old))
             result self.new }
@@ -185,9 +186,9 @@ impl Machine {
         expression: &Branch<'_>,
     ) -> Result<Event, EvalError>
         requires tree { branch_tree class.now.cells expression.now ≡ tree_of class.now.cells part }
-        requires literal { IsWithin expression.now.kind expression.now.word.now }
+        requires literal { IsInRange expression.now.kind expression.now.word.now }
         requires fit { IsFitMachine class.now self.old }
-        requires within { AreWithin class.now.cells }
+        requires within { AreInRange class.now.cells }
         ensures does { Leads class.now
             (planned_at (standing class.now self.old) (tree_of class.now.cells part) self.old.state
             (rest class.now self.old)) result self.new }

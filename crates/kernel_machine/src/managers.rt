@@ -2,11 +2,12 @@
 ghost use Rattle.std.specs.Prelude.{◌≡◌, ◌+◌, OnOk};
 ghost use Rattle.kernel_rows.specs.Fit.{AreFit};
 ghost use Rattle.maxj_syntax.specs.declared.tree.NodeKind.{NodeKind};
+ghost use Rattle.maxj_syntax.specs.Ranges.{AreInRange};
 ghost use Rattle.kernel_meaning.specs.Run.{addition, named};
 ghost use Rattle.kernel_machine.specs.Answers.{IsNamed, NamesKernel, are_settings};
 ghost use Rattle.kernel_machine.specs.Left.{added, with_name, new_at, named_by};
 ghost use Rattle.kernel_plans.specs.Classes.{members, library_of};
-ghost use Rattle.kernel_plans.specs.Trees.{tree_of, trees_of, branch_tree, AreWithin};
+ghost use Rattle.kernel_plans.specs.Trees.{tree_of, trees_of, branch_tree};
 ghost use Rattle.kernel_machine.specs.Going.{Leads, standing, rest};
 ghost use Rattle.kernel_machine.specs.Falls.{CostsBelow, idle};
 ghost use Rattle.kernel_machine.specs.Fit.{IsFitMachine};
@@ -34,7 +35,7 @@ impl Machine {
         expression: &Branch<'_>,
     ) -> Result<Event, EvalError>
         requires fit { IsFitMachine class.now self.old }
-        requires within { AreWithin class.now.cells }
+        requires within { AreInRange class.now.cells }
         ensures does { Leads class.now (addition (standing class.now self.old) expression.now.span.from
             (trees_of class.now.cells expression.now.id expression.now.children.now)
             self.old.state (rest class.now self.old)) result self.new }
@@ -64,7 +65,7 @@ impl Machine {
     ) -> Result<Event, EvalError>
         requires tree { tree_of class.now.cells node ≡ branch_tree class.now.cells made.now }
         requires fit { IsFitMachine class.now self.old }
-        requires within { AreWithin class.now.cells }
+        requires within { AreInRange class.now.cells }
         ensures does { Leads class.now (new_at (standing class.now self.old) (tree_of class.now.cells node)
             self.old.state (rest class.now self.old)) result self.new }
         ensures falls { CostsBelow class.now (idle class.now self.old) result self.new }
@@ -105,7 +106,7 @@ impl Machine {
     ) -> Result<Event, EvalError>
         requires tree { tree_of class.now.cells first ≡ branch_tree class.now.cells settings.now }
         requires fit { IsFitMachine class.now self.old }
-        requires within { AreWithin class.now.cells }
+        requires within { AreInRange class.now.cells }
         ensures does { Leads class.now (named_by (standing class.now self.old) (tree_of class.now.cells node)
             number settings.now.span.from
             (trees_of class.now.cells settings.now.id settings.now.children.now) self.old.state
@@ -140,7 +141,7 @@ impl Machine {
     ) -> Result<Event, EvalError>
         requires values { AreFit values }
         requires fit { IsFitMachine class.now self.old }
-        requires within { AreWithin class.now.cells }
+        requires within { AreInRange class.now.cells }
         ensures does { Leads class.now (named at values self.old.state
             (λ name state. with_name (standing class.now self.old) (tree_of class.now.cells node)
             number name state (rest class.now self.old))) result self.new }

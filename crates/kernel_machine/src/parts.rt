@@ -2,7 +2,8 @@
 ghost use Rattle.std.specs.Prelude.{◌≡◌, ℕ, Some, IfOk};
 ghost use Rattle.kernel_meaning.specs.Names as Names;
 ghost use Rattle.kernel_meaning.specs.Values as Values;
-ghost use Rattle.kernel_plans.specs.Trees.{tree_of, branch_tree, AreWithin, IsWithin};
+ghost use Rattle.maxj_syntax.specs.Ranges.{AreInRange, IsInRange};
+ghost use Rattle.kernel_plans.specs.Trees.{tree_of, branch_tree};
 ghost use Rattle.kernel_machine.specs.Answers.{IsPresent};
 ghost use Rattle.kernel_machine.specs.Positions.{IsPart};
 
@@ -15,7 +16,7 @@ use std::alloc::Global;
 // The node of a part.
 pub(crate) fn node_at<'a>(class: &'a Class<'_>, part: Part) -> Branch<'a>
     ensures tree { tree_of class.now.cells part ≡ branch_tree class.now.cells result }
-    ensures within { AreWithin class.now.cells → IsWithin result.kind result.word.now }
+    ensures within { AreInRange class.now.cells → IsInRange result.kind result.word.now }
     ensures number { (n : ℕ) → part ≡ Some n → result.id ≡ n }
 {
     branch_at(class.tree(), part)

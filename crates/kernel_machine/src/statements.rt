@@ -2,8 +2,9 @@
 ghost use Rattle.std.specs.Prelude.{◌≡◌, ◌+◌, OnOk, OnErr, suc};
 ghost use Rattle.kernel_meaning.specs.Run.{exec, block};
 ghost use Rattle.kernel_machine.specs.Left.{parts, from_place};
-ghost use Rattle.kernel_plans.specs.Trees.{tree_of, branch_tree, AreWithin};
+ghost use Rattle.kernel_plans.specs.Trees.{tree_of, branch_tree};
 ghost use Rattle.maxj_syntax.specs.declared.tree.NodeKind.{NodeKind};
+ghost use Rattle.maxj_syntax.specs.Ranges.{AreInRange};
 ghost use Rattle.kernel_machine.specs.Going.{Leads, standing, rest, after, leaving};
 ghost use Rattle.kernel_machine.specs.Falls.{CostsBelow, idle};
 ghost use Rattle.kernel_machine.specs.Fit.{IsFitMachine};
@@ -191,7 +192,7 @@ impl Machine {
         requires tree { tree_of class.now.cells node ≡ branch_tree class.now.cells statement.now }
         requires kind { statement.now.kind ≡ NodeKind.Connect }
         requires fit { IsFitMachine class.now self.old }
-        requires within { AreWithin class.now.cells }
+        requires within { AreInRange class.now.cells }
         ensures does { Leads class.now (exec (standing class.now self.old)
             (branch_tree class.now.cells statement.now) self.old.state
             (after class.now self.old) (leaving class.now self.old)) result self.new }

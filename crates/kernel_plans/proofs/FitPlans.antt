@@ -22,6 +22,7 @@ use Rattle.maxj_tokens.specs.Faults.{integer_value}
 use Rattle.maxj_syntax.specs.Tree.{Tree, Trees, Nil, Cons}
 use Rattle.maxj_syntax.specs.declared.tree.NodeKind.{NodeKind}
 use Rattle.maxj_syntax.specs.declared.tree.NodeKind.TheVariants as N
+use Rattle.maxj_syntax.specs.Ranges.{IsInRange}
 use Rattle.kernel_meaning.specs.Names.{bound_in, or_else, variable, path_of, is_root, root_word}
 use Rattle.kernel_meaning.specs.Plans as Plans
 use Rattle.kernel_meaning.specs.Signs.{sign_of}
@@ -40,7 +41,6 @@ use Rattle.kernel_rows.specs.declared.plan.OperandPlan.{OperandPlan}
 use Rattle.kernel_rows.specs.declared.plan.OperandPlan.TheVariants as P
 use Rattle.kernel_rows.specs.Kept.{AreBoundFit}
 use Rattle.kernel_plans.specs.Forms.{IsFitPlan}
-use Rattle.kernel_plans.specs.Trees.{IsWithin}
 
 -- a value that is known before is fit
 abbrev pub IsFitMeant : Plans.OperandPlan → Type 0
@@ -222,7 +222,7 @@ fit_dotted library s word at count base trees (Some path) =
 
 -- each plan is fit, where the variables are and a literal is in range
 pub fit_plan : (scope : Plans.Scope) (s : State) (kind : NodeKind) (word : List ℕ) (at : ℕ)
-    (trees : Trees) → IsWithin kind word → AreBoundFit s.variables → AreBoundFit s.fields
+    (trees : Trees) → IsInRange kind word → AreBoundFit s.variables → AreBoundFit s.fields
     → Fit (Plans.plan_of scope s kind word at trees)
 unfolding Plans.plan_of
 fit_plan scope s N.Whole word at trees w v f = record { fits = fit_whole word }

@@ -1,22 +1,7 @@
 -- Trees by the numbers of their nodes.
-use Rattle.std.specs.Prelude.{
-  ◌≡◌,
-  ◌<◌,
-  ◌≤◌,
-  ◌^◌,
-  ℕ,
-  List,
-  Option,
-  Some,
-  None,
-  length,
-  slice_get,
-}
-use Rattle.maxj_tokens.specs.Faults.{integer_value}
+use Rattle.std.specs.Prelude.{ℕ, List, Option, Some, None}
 use Rattle.maxj_syntax.specs.Cells.{Cell}
 use Rattle.maxj_syntax.specs.Tree.{Tree, Node, Trees}
-use Rattle.maxj_syntax.specs.declared.tree.NodeKind.{NodeKind}
-use Rattle.maxj_syntax.specs.declared.tree.NodeKind.TheVariants as N
 use Rattle.kernel_meaning.specs.Nodes.{missing, trees_by, tree_at}
 use Rattle.kernel_plans.specs.declared.branch.Branch.{Branch}
 
@@ -32,14 +17,3 @@ trees_of cells top children = trees_by (tree_at cells) top children
 -- the tree of a branch
 abbrev pub branch_tree : List Cell → Branch → Tree
 branch_tree cells b = Node b.kind b.word.now b.span (trees_of cells b.id b.children.now)
-
--- an integer below 2^128, a decimal of at most 30 digits
-abbrev pub IsWithin : NodeKind → List ℕ → Type 0
-IsWithin N.Whole word = integer_value word < 2 ^ 128
-IsWithin N.Decimal word = length word ≤ 31
-IsWithin _ word = Unit {0}
-
--- the literals of all nodes are in range
-abbrev pub AreWithin : List Cell → Type 0
-AreWithin cells =
-    (n : ℕ) (cell : Cell) → slice_get cells n ≡ Some cell → IsWithin cell.kind cell.word

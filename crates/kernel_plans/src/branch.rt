@@ -1,10 +1,11 @@
 // The nodes of a tree by their numbers, where what is missing is a node too.
 ghost use Rattle.std.specs.Prelude.{◌≡◌, ◌<◌, ◌≤◌, ℕ, List, Option, Some, None, slice_get, IfSome};
 ghost use Rattle.maxj_syntax.specs.Cells.{Cell};
+ghost use Rattle.maxj_syntax.specs.Ranges.{IsInRange, AreInRange};
 ghost use Rattle.kernel_meaning.specs.Nodes.{missing};
 ghost use Rattle.kernel_meaning.specs.Values as Values;
 ghost use Rattle.kernel_meaning.specs.Ways as Ways;
-ghost use Rattle.kernel_plans.specs.Trees.{tree_of, branch_tree, IsWithin, AreWithin};
+ghost use Rattle.kernel_plans.specs.Trees.{tree_of, branch_tree};
 
 use crate::words::base_of;
 use kernel_meaning::Declared;
@@ -59,7 +60,7 @@ fn missing_branch<'a>(id: NodeId) -> Branch<'a>
 /// parts, where there is no such node.
 pub fn branch_at<'a>(tree: &'a SyntaxTree<'_>, id: Option<NodeId>) -> Branch<'a>
     ensures tree { tree_of tree.now id ≡ branch_tree tree.now result }
-    ensures within { AreWithin tree.now → IsWithin result.kind result.word.now }
+    ensures within { AreInRange tree.now → IsInRange result.kind result.word.now }
     ensures number { (n : ℕ) → id ≡ Some n → result.id ≡ n }
 {
     let Some(number) = id else {

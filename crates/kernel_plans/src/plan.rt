@@ -10,7 +10,8 @@ ghost use Rattle.kernel_rows.specs.Planned.{IsPlan};
 ghost use Rattle.kernel_plans.specs.Classes.{members, scope};
 ghost use Rattle.kernel_rows.specs.Kept.{AreBoundFit};
 ghost use Rattle.kernel_plans.specs.Forms.{IsFitPlan};
-ghost use Rattle.kernel_plans.specs.Trees.{trees_of, IsWithin};
+ghost use Rattle.maxj_syntax.specs.Ranges.{IsInRange};
+ghost use Rattle.kernel_plans.specs.Trees.{trees_of};
 
 use crate::branch::{Branch, branch_at, declared_by};
 use crate::calls::{call_plan, count_of, dotted_plan};
@@ -47,7 +48,7 @@ pub fn plan_of(
     branch: &Branch<'_>,
     state: &State,
 ) -> Result<OperandPlan, NoMemory>
-    requires within { IsWithin branch.now.kind branch.now.word.now }
+    requires within { IsInRange branch.now.kind branch.now.word.now }
     requires variables { AreBoundFit state.now.variables }
     requires fields { AreBoundFit state.now.fields }
     ensures plan { IfOk result (IsPlan (Plans.plan_of (scope class.now) state.now
@@ -89,7 +90,7 @@ fn plan_by_kind(
     branch: &Branch<'_>,
     state: &State,
 ) -> Result<OperandPlan, NoMemory>
-    requires { IsWithin branch.now.kind branch.now.word.now }
+    requires { IsInRange branch.now.kind branch.now.word.now }
     ensures { (scope : Plans.Scope) → is_manager scope.library ≡ manager
         → (branch.now.kind ≡ NodeKind.Call → scope.methods branch.now.word.now ≡ params)
         → IfOk result (IsPlan (Plans.plan_of scope state.now

@@ -39,7 +39,7 @@ use Rattle.maxj_syntax.proofs.Predict.{leads_stay}
 use Rattle.maxj_syntax.proofs.Machine.{step_rule, stuck_rule, rule_less, stuck_mark, stuck_name, stuck_end, step_mark, step_name}
 use Rattle.maxj_syntax.proofs.Judge.{bad_place, whole_file}
 
-bottom_open : (tokens : List PlacedToken) (nodes : List Cell) (classes : List Class) (os : List Unfinished) → AreBottom (length tokens) os → classes ≡ [] → AreOpen nodes classes tokens (reverse os) bottom (Ground [])
+pub bottom_open : (tokens : List PlacedToken) (nodes : List Cell) (classes : List Class) (os : List Unfinished) → AreBottom (length tokens) os → classes ≡ [] → AreOpen nodes classes tokens (reverse os) bottom (Ground [])
 bottom_open tokens nodes classes [] a e = absurd a
 bottom_open tokens nodes classes (o ∷ []) a e = ((sym (ap (λ n. drop n tokens) a.0 ∙ drop-length tokens), a.1, ap (word_in tokens) a.2, a.3, a.4), subst (λ l. ClassesAre nodes l []) (sym e) tt)
 bottom_open tokens nodes classes (o ∷ p ∷ os) a e = absurd a

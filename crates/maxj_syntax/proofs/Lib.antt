@@ -25,3 +25,6 @@ pub mod Once
 pub mod Twins
 pub mod Projects
 pub mod Sources
+pub mod PlainMoves
+pub mod Keeping
+pub mod Ranging

@@ -93,13 +93,14 @@ AllEnds (p ∷ ps) = Ends may empties peeks p ps × AllEnds ps
 abbrev pub bottom : Entry
 bottom = At [] (fresh N.Empty [])
 
--- a builder that has begun nothing: one node below all others, and no class
+-- a builder that has begun nothing: one tree below all others, no class and no node
 abbrev pub AreBottom : ℕ → List Unfinished → Type 0
 AreBottom n (o ∷ []) = (o.start ≡ n) × (o.node.kind ≡ N.Empty) × (o.node.word ≡ W.Nothing) × (o.node.span ≡ no_span) × (o.node.children ≡ [])
 AreBottom n _ = ⊥
 
 abbrev pub IsBottom : ℕ → Builder → Type 0
-IsBottom n builder = AreBottom n builder.unfinished.items × (builder.classes ≡ [])
+IsBottom n builder =
+    AreBottom n builder.unfinished.items × (builder.classes ≡ []) × (builder.nodes ≡ [])
 
 -- The parser has read the tokens up to ys, is to read the symbols, and has built what they are read with.
 abbrev pub Reached : List PlacedToken → List PlacedToken → List Symbol → Builder → Type 0

@@ -16,4 +16,6 @@ pub mod Lookahead
 pub mod Choosing
 pub mod Steps
 pub mod Building
+pub mod Ranges
+pub mod Plain
 pub mod Outcomes

@@ -4,6 +4,7 @@ ghost use Rattle.std.specs.List.{All};
 ghost use Rattle.maxj_tokens.specs.Scanning.{PlacedToken, span_of, from_of, to_of};
 ghost use Rattle.maxj_tokens.specs.Reading.{token_view, placed_view};
 ghost use Rattle.maxj_syntax.specs.TokenClasses.{leaf_kind};
+ghost use Rattle.maxj_syntax.specs.Plain.{StaysInRange};
 ghost use Rattle.maxj_syntax.specs.Building.{Acts, Takes, Adds, Wraps, Does, Texts, IsBottom, IsLeaf, EndsIn};
 
 use crate::draft::{Draft, NodeWord, word_of, written};
@@ -103,7 +104,8 @@ fn begin(
     span: Span,
     start: usize,
 ) -> Result<(), NoMemory>
-    ensures { IfOk result (λ _. Adds kind word span start builder.old builder.new) }
+    ensures trees { IfOk result (λ _. Adds kind word span start builder.old builder.new) }
+    ensures numbers { IfOk result (λ _. StaysInRange builder.old builder.new) }
 {
     let node = leaf(alloc, kind, word, span);
     builder.unfinished.push(Unfinished { node, start })?;
@@ -117,7 +119,8 @@ fn wrap(
     kind: NodeKind,
     word: NodeWord,
 ) -> Result<(), NoMemory>
-    ensures { IfOk result (λ _. Wraps kind word builder.old builder.new) }
+    ensures trees { IfOk result (λ _. Wraps kind word builder.old builder.new) }
+    ensures numbers { IfOk result (λ _. StaysInRange builder.old builder.new) }
 {
     if let Some(top) = builder.unfinished.pop() {
         let child = builder.nodes.push(top.node)?;
@@ -133,7 +136,8 @@ fn wrap(
 
 /// The node on top becomes the last child of the one below.
 fn into_below(builder: &mut Builder) -> Result<(), NoMemory>
-    ensures { IfOk result (λ _. Does Action.Into builder.old builder.new) }
+    ensures trees { IfOk result (λ _. Does Action.Into builder.old builder.new) }
+    ensures numbers { IfOk result (λ _. StaysInRange builder.old builder.new) }
 {
     if let Some(top) = builder.unfinished.pop() {
         if let Some(mut below) = builder.unfinished.pop() {
@@ -148,7 +152,8 @@ fn into_below(builder: &mut Builder) -> Result<(), NoMemory>
 }
 
 fn inner(builder: &mut Builder) -> Result<(), NoMemory>
-    ensures { IfOk result (λ _. Does Action.Inner builder.old builder.new) }
+    ensures trees { IfOk result (λ _. Does Action.Inner builder.old builder.new) }
+    ensures numbers { IfOk result (λ _. StaysInRange builder.old builder.new) }
 {
     if let Some(top) = builder.unfinished.pop() {
         if let Some(below) = builder.unfinished.pop() {
@@ -164,7 +169,8 @@ fn inner(builder: &mut Builder) -> Result<(), NoMemory>
 }
 
 fn named(builder: &mut Builder) -> Result<(), NoMemory>
-    ensures { IfOk result (λ _. Does Action.Named builder.old builder.new) }
+    ensures trees { IfOk result (λ _. Does Action.Named builder.old builder.new) }
+    ensures numbers { IfOk result (λ _. StaysInRange builder.old builder.new) }
 {
     if let Some(top) = builder.unfinished.pop() {
         if let Some(mut below) = builder.unfinished.pop() {
@@ -180,7 +186,8 @@ fn named(builder: &mut Builder) -> Result<(), NoMemory>
 fn end(builder: &mut Builder, tokens: &Tokens<'_>, at: usize) -> Result<(), NoMemory>
     requires ends { All EndsIn tokens.now }
     requires within { at ≤ length tokens.now }
-    ensures { IfOk result (λ _. Acts tokens.now Action.End (drop at tokens.now) builder.old builder.new) }
+    ensures trees { IfOk result (λ _. Acts tokens.now Action.End (drop at tokens.now) builder.old builder.new) }
+    ensures numbers { IfOk result (λ _. StaysInRange builder.old builder.new) }
 {
     if let Some(mut top) = builder.unfinished.pop() {
         top.node.span = span_between(tokens, top.start, at);
@@ -190,7 +197,8 @@ fn end(builder: &mut Builder, tokens: &Tokens<'_>, at: usize) -> Result<(), NoMe
 }
 
 fn turn(builder: &mut Builder, kind: NodeKind) -> Result<(), NoMemory>
-    ensures { IfOk result (λ _. Does (Action.Turn kind) builder.old builder.new) }
+    ensures trees { IfOk result (λ _. Does (Action.Turn kind) builder.old builder.new) }
+    ensures numbers { IfOk result (λ _. StaysInRange builder.old builder.new) }
 {
     if let Some(mut top) = builder.unfinished.pop() {
         top.node.kind = kind;
@@ -200,7 +208,8 @@ fn turn(builder: &mut Builder, kind: NodeKind) -> Result<(), NoMemory>
 }
 
 fn text(builder: &mut Builder, word: NodeWord) -> Result<(), NoMemory>
-    ensures { IfOk result (λ _. Texts word builder.old builder.new) }
+    ensures trees { IfOk result (λ _. Texts word builder.old builder.new) }
+    ensures numbers { IfOk result (λ _. StaysInRange builder.old builder.new) }
 {
     if let Some(mut top) = builder.unfinished.pop() {
         top.node.word = word;
@@ -227,7 +236,8 @@ fn hole(
     at: usize,
 ) -> Result<(), NoMemory>
     requires { at ≤ length tokens.now }
-    ensures { IfOk result (λ _. Acts tokens.now Action.Hole (drop at tokens.now) builder.old builder.new) }
+    ensures trees { IfOk result (λ _. Acts tokens.now Action.Hole (drop at tokens.now) builder.old builder.new) }
+    ensures numbers { IfOk result (λ _. StaysInRange builder.old builder.new) }
 {
     let from = place_at(tokens, at);
     let span = Span { from, to: from };
@@ -244,7 +254,8 @@ fn memory(
 ) -> Result<(), NoMemory>
     requires ends { All EndsIn tokens.now }
     requires within { at ≤ length tokens.now }
-    ensures { IfOk result (λ _. Acts tokens.now Action.Memory (drop at tokens.now) builder.old builder.new) }
+    ensures trees { IfOk result (λ _. Acts tokens.now Action.Memory (drop at tokens.now) builder.old builder.new) }
+    ensures numbers { IfOk result (λ _. StaysInRange builder.old builder.new) }
 {
     if let Some(mut top) = builder.unfinished.pop() {
         let span = span_between(tokens, top.start, at);
@@ -263,7 +274,8 @@ fn declare(
 ) -> Result<(), NoMemory>
     requires ends { All EndsIn tokens.now }
     requires within { at ≤ length tokens.now }
-    ensures { IfOk result (λ _. Acts tokens.now Action.Declare (drop at tokens.now) builder.old builder.new) }
+    ensures trees { IfOk result (λ _. Acts tokens.now Action.Declare (drop at tokens.now) builder.old builder.new) }
+    ensures numbers { IfOk result (λ _. StaysInRange builder.old builder.new) }
 {
     if let Some(top) = builder.unfinished.pop() {
         if let Some(mut below) = builder.unfinished.pop() {
@@ -289,7 +301,8 @@ fn keep(
     manager: bool,
     tokens: &Tokens<'_>,
 ) -> Result<(), NoMemory>
-    ensures { IfOk result (λ _. (xs : Items PlacedToken) → Acts tokens.now (Action.Keep manager) xs builder.old builder.new) }
+    ensures trees { IfOk result (λ _. (xs : Items PlacedToken) → Acts tokens.now (Action.Keep manager) xs builder.old builder.new) }
+    ensures numbers { IfOk result (λ _. StaysInRange builder.old builder.new) }
 {
     if let Some(top) = builder.unfinished.pop() {
         if let Some(below) = builder.unfinished.pop() {
@@ -318,7 +331,8 @@ pub fn act(
 ) -> Result<(), NoMemory>
     requires ends { All EndsIn tokens.now }
     requires within { at ≤ length tokens.now }
-    ensures { IfOk result (λ _. Acts tokens.now action (drop at tokens.now) builder.old builder.new) }
+    ensures trees { IfOk result (λ _. Acts tokens.now action (drop at tokens.now) builder.old builder.new) }
+    ensures numbers { IfOk result (λ _. StaysInRange builder.old builder.new) }
 {
     match action {
         Action::Begin(kind) => begin(alloc, builder, kind, NodeWord::Nothing, NO_SPAN, at),
@@ -346,8 +360,9 @@ pub fn read(
     requires ends { All EndsIn tokens.now }
     requires few { length tokens.now < 2 ^ 32 }
     requires within { at < length tokens.now }
-    ensures { IfOk result (λ _. (t : PlacedToken) → slice_get tokens.now at ≡ Some t
+    ensures trees { IfOk result (λ _. (t : PlacedToken) → slice_get tokens.now at ≡ Some t
         → Takes tokens.now effect t.token (drop at tokens.now) (drop (at + 1) tokens.now) builder.old builder.new) }
+    ensures numbers { IfOk result (λ _. StaysInRange builder.old builder.new) }
 {
     let word = NodeWord::Token(at as u32);
     let span = span_between(tokens, at, at + 1);

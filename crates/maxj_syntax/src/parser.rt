@@ -11,6 +11,9 @@ ghost use Rattle.maxj_syntax.specs.TokenClasses.{class_has};
 ghost use Rattle.maxj_syntax.specs.Choosing.{kind_at};
 ghost use Rattle.maxj_syntax.specs.Building.{todo, IsExpanded, IsChosen, IsRule, IsTaken, IsRefused, token_of_word, Reached, Settles, EndsIn, IsTheFile, IsTheFileOf, FailsToParse};
 ghost use Rattle.maxj_syntax.specs.Cells.{cells_of};
+ghost use Rattle.maxj_syntax.specs.Plain.{Ranged, SettlesRanged};
+ghost use Rattle.maxj_syntax.specs.Ranges.{AreInRange};
+ghost use Rattle.maxj_tokens.specs.Faults.{HasNone, IsOutside};
 
 use crate::build::{self, Builder};
 use crate::choosing::choice;
@@ -121,7 +124,10 @@ fn settle<'a>(
     requires ends { All EndsIn tokens.now }
     requires within { at ≤ length tokens.now }
     requires reached { Reached tokens.now (drop at tokens.now) (todo stack.old.items) builder.old }
-    ensures { IfOk result (λ s. Settles s tokens.now (drop at tokens.now) (todo stack.new.items) builder.new) }
+    requires ranged { Ranged tokens.now (todo stack.old.items) builder.old }
+    ensures reached { IfOk result (λ s. Settles s tokens.now (drop at tokens.now) (todo stack.new.items) builder.new) }
+    ensures ranged { IfOk result (λ s.
+        SettlesRanged s tokens.now (todo stack.new.items) builder.new) }
 {
     let next = token_at(tokens, at);
     let kind = next_kind(next);
@@ -185,6 +191,8 @@ fn taken(settled: Settled<'_>, token: &Token<'_>) -> Option<Effect>
 fn build_classes(alloc: Global, tokens: &Tokens<'_>, size: u32) -> Result<Builder, ParseError>
     requires { All EndsIn tokens.now }
     ensures ok { IfOk result (λ b. IsTheFileOf tokens.now (cells_of tokens.now b.nodes) b.classes) }
+    ensures numbers { IfOk result (λ b. HasNone IsOutside tokens.now
+        → AreInRange (cells_of tokens.now b.nodes)) }
     ensures err { IfErr result (λ e. FailsToParse tokens.now size e) }
 {
     let mut stack = Vec::new(alloc);
@@ -206,10 +214,12 @@ fn build_classes(alloc: Global, tokens: &Tokens<'_>, size: u32) -> Result<Builde
 }
 
 /// The classes of the source that the tokens are, and the tree of their nodes. The source has `size`
-/// bytes. No tokens have two trees.
+/// bytes. No tokens have two trees. Where no token is out of profile, the numbers of all nodes are
+/// in range.
 pub fn parse_tokens(alloc: Global, tokens: Tokens<'_>, size: u32) -> Result<Program<'_>, ParseError>
     requires { All EndsIn tokens }
     ensures ok { IfOk result (λ p. IsTheFile tokens.entry p) }
+    ensures numbers { IfOk result (λ p. HasNone IsOutside tokens.entry → AreInRange p.tree) }
     ensures err { IfErr result (λ e. FailsToParse tokens.entry size e) }
 {
     let builder = build_classes(alloc, &tokens, size)?;

@@ -1,5 +1,6 @@
 // A whole source: its bytes are read to a tree, or have a first fault.
 ghost use Rattle.std.specs.Prelude.{◌≡◌, ◌<◌, ◌^◌, length, IfOk, IfErr};
+ghost use Rattle.maxj_syntax.specs.Ranges.{AreInRange};
 ghost use Rattle.maxj_syntax.specs.Outcomes.{IsTheSource, FailsToRead, of_scan, of_parse};
 
 use crate::parser::{ParseError, parse_tokens};
@@ -61,10 +62,13 @@ impl From<ParseError> for SourceError {
     }
 }
 
-/// The classes of the source that the bytes are, and the nodes of their trees, or the first fault. There are fewer than 2^32 bytes.
+/// The classes of the source that the bytes are, and the nodes of their trees, or the first fault.
+/// There are fewer than 2^32 bytes. The integers of all nodes are below 2^128, and the decimals have
+/// at most 30 digits.
 pub fn parse(alloc: Global, bytes: &[u8]) -> Result<Program<'_>, SourceError>
     requires { length bytes.now < 2 ^ 32 }
     ensures ok { IfOk result (λ p. IsTheSource bytes.now p) }
+    ensures numbers { IfOk result (λ p. AreInRange p.tree) }
     ensures err { IfErr result (λ e. FailsToRead bytes.now e) }
 {
     let tokens = scan(alloc, bytes)?;

@@ -1,11 +1,18 @@
 use Rattle.std.proofs.Common.{refl}
 use Rattle.maxj_syntax.specs.Cells.{cells_of}
 use Rattle.maxj_syntax.proofs.Trees.{entered, cells_more, cells_number}
+use Rattle.maxj_syntax.proofs.Ranging.{with_top}
 use Rattle.maxj_syntax.proofs.build.into_below.Goals as goal
 
-pub returns-in_ok-push-2 : goal.returns-in_ok-push-2
-returns-in_ok-push-2 c = λ tokens xs b s h.
+pub returns-in_ok-push-2-clause-trees : goal.returns-in_ok-push-2-clause-trees
+returns-in_ok-push-2-clause-trees c = λ tokens xs b s h.
     let old = c.args.builder.now.nodes in
     let new = c.in_ok-child.ensures in
     entered tokens xs (cells_of tokens old) _ _ _ _ _ _ c.in-Some.top c.in-Some-pop.below _ c.in_ok-child.child b s c.in-Some.ensures.items c.in-Some-pop.ensures.items (cells_more tokens old _ c.in-Some.top.node new.nodes) c.in_ok-push-2.ensures.items (cells_number tokens old c.in_ok-child.child new.number)
     refl refl refl refl c.in_ok-push.ensures.ok h
+
+pub returns-in_ok-push-2-clause-numbers : goal.returns-in_ok-push-2-clause-numbers
+returns-in_ok-push-2-clause-numbers c = λ tokens b s h i j.
+    let old = c.args.builder.now.nodes in
+    with_top tokens (cells_of tokens old) _ _ _ _ c.in-Some.top b s c.in-Some.ensures.items
+    (cells_more tokens old _ c.in-Some.top.node c.in_ok-child.ensures.nodes) h i j

@@ -1,25 +1,37 @@
-use Rattle.std.proofs.Common.{drop, subst, sym, ap, ◌∙◌, refl, option_map}
+use Rattle.std.proofs.Common.{◌≡◌, [], arith, drop, subst, sym, ap, ◌∙◌, refl, option_map}
 use Rattle.maxj_tokens.specs.Reading.{placed_view}
-use Rattle.maxj_syntax.specs.Symbols.{Mark, Act, fixed_view, symbol_view}
+use Rattle.maxj_syntax.specs.Symbols.{Mark, Name, Act, fixed_view, symbol_view}
 use Rattle.maxj_syntax.specs.Building.{Reached, IsRule, todo}
 use Rattle.maxj_syntax.proofs.Machine.{popped, step_act}
 use Rattle.maxj_syntax.proofs.Exits.{is_rule, expanded_on, expanded_less, stuck_on}
+use Rattle.maxj_syntax.specs.Plain.{Ranged}
+use Rattle.maxj_syntax.proofs.Ranging.{none_left, step_ranged, expanded_ranged}
 use Rattle.maxj_syntax.proofs.parser.settle.Goals as goal
 
-pub returns-in-Mark : goal.returns-in-Mark
-returns-in-Mark c =
+pub returns-in-Mark-clause-reached : goal.returns-in-Mark-clause-reached
+returns-in-Mark-clause-reached c =
     let e = popped _ _ c.in-Some.top (Mark c.in-Mark.class c.in-Mark.effect) c.in-Some.ensures.items (ap symbol_view c.in-Fixed.is ∙ ap fixed_view c.in-Mark.is) in
     subst (λ l. Reached c.args.tokens.now (drop c.args.at c.args.tokens.now) l c.loop-top.builder) e c.loop-top.invariant.reached
+
+pub returns-in-Mark-clause-ranged : goal.returns-in-Mark-clause-ranged
+returns-in-Mark-clause-ranged c =
+    let e = popped _ _ c.in-Some.top (Mark c.in-Mark.class c.in-Mark.effect)
+    c.in-Some.ensures.items (ap symbol_view c.in-Fixed.is ∙ ap fixed_view c.in-Mark.is) in
+    subst (λ l. Ranged c.args.tokens.now l c.loop-top.builder) e c.loop-top.invariant.ranged
 
 pub loop-top-preserved-in_ok-act-in-Act : goal.loop-top-preserved-in_ok-act-in-Act
 loop-top-preserved-in_ok-act-in-Act c =
     let e = popped _ _ c.in-Some.top (Act c.in-Act.action) c.in-Some.ensures.items (ap symbol_view c.in-Fixed.is ∙ ap fixed_view c.in-Act.is) in record {
-      reached = step_act c.args.tokens.now (drop c.args.at c.args.tokens.now) c.in-Act.action (todo c.pop.new.self.items) c.loop-top.builder c.act.new.builder c.in_ok-act-in-Act.ensures
+      reached = step_act c.args.tokens.now (drop c.args.at c.args.tokens.now) c.in-Act.action (todo c.pop.new.self.items) c.loop-top.builder c.act.new.builder c.in_ok-act-in-Act.ensures.trees
           (subst (λ l. Reached c.args.tokens.now (drop c.args.at c.args.tokens.now) l c.loop-top.builder) e c.loop-top.invariant.reached);
+      ranged = step_ranged c.args.tokens.now (drop c.args.at c.args.tokens.now) c.in-Act.action
+          (todo c.pop.new.self.items) c.loop-top.builder c.act.new.builder
+          c.in_ok-act-in-Act.ensures.trees c.in_ok-act-in-Act.ensures.numbers (subst (λ l. Ranged
+          c.args.tokens.now l c.loop-top.builder) e c.loop-top.invariant.ranged);
     }
 
-pub returns-then-not-branch : goal.returns-then-not-branch
-returns-then-not-branch c =
+pub returns-then-not-branch-clause-reached : goal.returns-then-not-branch-clause-reached
+returns-then-not-branch-clause-reached c =
     let i = subst (λ s. IsRule (symbol_view s)) (sym c.in-Named.is) tt in
     let e = popped _ _ c.in-Some.top (symbol_view c.in-Some.top) c.in-Some.ensures.items refl in
     stuck_on c.args.tokens.now (drop c.args.at c.args.tokens.now) (option_map placed_view c.token_at-next.result) (symbol_view c.in-Some.top) (todo c.loop-top.stack.items) (todo c.pop.new.self.items) (todo c.expand.new.stack.items) c.loop-top.builder
@@ -38,10 +50,14 @@ loop-top-preserved-else-not-branch c =
     let e = popped _ _ c.in-Some.top (symbol_view c.in-Some.top) c.in-Some.ensures.items refl in record {
       reached = expanded_on c.args.tokens.now (drop c.args.at c.args.tokens.now) (option_map placed_view c.token_at-next.result) (symbol_view c.in-Some.top) (todo c.loop-top.stack.items) (todo c.pop.new.self.items) (todo c.expand.new.stack.items) c.loop-top.builder
           c.in_ok-expand-in-Named.field-0 c.token_at-next.ensures i c.in_ok-expand-in-Named.ensures c.if-not-branch.false e c.loop-top.invariant.reached;
+      ranged = expanded_ranged c.args.tokens.now (option_map placed_view c.token_at-next.result)
+          (symbol_view c.in-Some.top) (todo c.loop-top.stack.items) (todo c.pop.new.self.items)
+          (todo c.expand.new.stack.items) c.loop-top.builder c.in_ok-expand-in-Named.field-0 i
+          c.in_ok-expand-in-Named.ensures c.if-not-branch.false e c.loop-top.invariant.ranged;
     }
 
-pub returns-then-not-branch-2 : goal.returns-then-not-branch-2
-returns-then-not-branch-2 c =
+pub returns-then-not-branch-2-clause-reached : goal.returns-then-not-branch-2-clause-reached
+returns-then-not-branch-2-clause-reached c =
     let i = subst (λ s. IsRule (symbol_view s)) (sym c.in-Fixed.is) (is_rule c.in-Fixed.fixed c.in_default-fixed.not-Mark c.in_default-fixed.not-Act) in
     let e = popped _ _ c.in-Some.top (symbol_view c.in-Some.top) c.in-Some.ensures.items refl in
     stuck_on c.args.tokens.now (drop c.args.at c.args.tokens.now) (option_map placed_view c.token_at-next.result) (symbol_view c.in-Some.top) (todo c.loop-top.stack.items) (todo c.pop.new.self.items) (todo c.expand-in_default-fixed.new.stack.items) c.loop-top.builder
@@ -60,4 +76,21 @@ loop-top-preserved c =
     let e = popped _ _ c.in-Some.top (symbol_view c.in-Some.top) c.in-Some.ensures.items refl in record {
       reached = expanded_on c.args.tokens.now (drop c.args.at c.args.tokens.now) (option_map placed_view c.token_at-next.result) (symbol_view c.in-Some.top) (todo c.loop-top.stack.items) (todo c.pop.new.self.items) (todo c.expand-in_default-fixed.new.stack.items) c.loop-top.builder
           c.in_ok-expand-in_default-fixed.field-0 c.token_at-next.ensures i c.in_ok-expand-in_default-fixed.ensures c.if-not-branch-2.false e c.loop-top.invariant.reached;
+      ranged = expanded_ranged c.args.tokens.now (option_map placed_view c.token_at-next.result)
+          (symbol_view c.in-Some.top) (todo c.loop-top.stack.items) (todo c.pop.new.self.items)
+          (todo c.expand-in_default-fixed.new.stack.items) c.loop-top.builder
+          c.in_ok-expand-in_default-fixed.field-0 i c.in_ok-expand-in_default-fixed.ensures
+          c.if-not-branch-2.false e c.loop-top.invariant.ranged;
     }
+
+pub returns-in-Name-clause-ranged : goal.returns-in-Name-clause-ranged
+returns-in-Name-clause-ranged c =
+    let e = popped _ _ c.in-Some.top (Name c.in-Name.name.now c.in-Name.effect)
+    c.in-Some.ensures.items (ap symbol_view c.in-Name.is) in
+    subst (λ l. Ranged c.args.tokens.now l c.loop-top.builder) e c.loop-top.invariant.ranged
+
+pub returns-clause-ranged : goal.returns-clause-ranged
+returns-clause-ranged c =
+    let e : todo c.loop-top.stack.items ≡ [] = none_left c.loop-top.stack.items
+    (omega (arith, c.loop-top.stack.ok, c.in_default.ensures.cases.0)) in
+    subst (λ l. Ranged c.args.tokens.now l c.loop-top.builder) e c.loop-top.invariant.ranged
