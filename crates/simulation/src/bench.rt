@@ -57,7 +57,7 @@ impl<'a> Bench<'a> {
         alloc: Global,
         files: &mut F,
         design: &'a Design,
-        ports: &Interface,
+        ports: &'a Interface,
         plan: Plan,
     ) -> Result<Self, Stop>
         requires accepted { IsAccepted design.now }

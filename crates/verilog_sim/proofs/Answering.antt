@@ -6,15 +6,16 @@ use Rattle.std.proofs.lemmas.Bool.{cases_eq, cases_lt, false≢true}
 use Rattle.std.proofs.lemmas.Option.{slice_get_within, slice_get-get_or}
 use Rattle.rtl_ir.specs.declared.design.Module.{Module}
 use Rattle.rtl_ir.specs.declared.design.Assign.{Assign}
-use Rattle.rtl_ir.specs.declared.design.Port.{Port}
 use Rattle.mx_bits.specs.declared.word.Word.{Word}
 use Rattle.rtl_ir.specs.declared.design.Expr.{Expr}
 use Rattle.rtl_ir.specs.declared.design.Expr.TheVariants.{Net as Plain, Literal, Not, Binary, Concat, Repeat, Part, Choose, Cell}
-use Rattle.rtl_ir.specs.Value.{width_of, value, is_reg}
+use Rattle.rtl_ir.specs.Value.{width_of, value}
 use Rattle.rtl_ir.specs.Operands.{IsRead}
 use Rattle.rtl_ir.proofs.Ports.{value_agrees}
 use Rattle.verilog_sim.specs.declared.offer.Offer.{Offer}
-use Rattle.verilog_sim.specs.declared.given.Counts.{Counts}
+use Rattle.rtl_ir.specs.declared.interface.Interface.{Interface}
+use Rattle.rtl_ir.specs.Typed.{is_input}
+use Rattle.verilog_sim.specs.Gifts.{Every, gifts}
 use Rattle.verilog_sim.specs.Contents.{family_of, contents_of}
 use Rattle.verilog_sim.specs.Runnable.{IsRunnable, IsOrderOf, IsPartOf}
 use Rattle.verilog_sim.specs.Settled.{AreWords, Settles, Progress}
@@ -29,7 +30,9 @@ module _ {A : Type 0} (p : A → Bool) where
   filtered_at [] i x e = absurd (cc)
   filtered_at (y ∷ ys) i x e = by_test (λ j f. filtered_at ys j x f) (p y) i e
     where
-      by_test : ((j : ℕ) → slice_get (filter p ys) j ≡ Some x → (k : ℕ) × (slice_get ys k ≡ Some x)) → (b : Bool) (i : ℕ) → slice_get (cond b (y ∷ filter p ys) (filter p ys)) i ≡ Some x → (k : ℕ) × (slice_get (y ∷ ys) k ≡ Some x)
+      by_test : ((j : ℕ) → slice_get (filter p ys) j ≡ Some x → (k : ℕ) × (slice_get ys k ≡ Some x))
+          → (b : Bool) (i : ℕ) → slice_get (cond b (y ∷ filter p ys) (filter p ys)) i ≡ Some x → (k : ℕ)
+          × (slice_get (y ∷ ys) k ≡ Some x)
       by_test rest true zero e = (zero, e)
       by_test rest true (suc i) e = let r = rest i e in (suc r.0, r.1)
       by_test rest false i e = let r = rest i e in (suc r.0, r.1)
@@ -42,8 +45,10 @@ module _ {A : Type 0} (p : A → Bool) where
   filtered_pair (z ∷ zs) i j x y lt e f = by_test (λ i j lt e f. filtered_pair zs i j x y lt e f) (p z) i j lt e f
     where
       by_test :
-          ((i j : ℕ) → i < j → slice_get (filter p zs) i ≡ Some x → slice_get (filter p zs) j ≡ Some y → (k : ℕ) × (l : ℕ) × (k < l) × (slice_get zs k ≡ Some x) × (slice_get zs l ≡ Some y))
-          → (b : Bool) (i j : ℕ) → i < j → slice_get (cond b (z ∷ filter p zs) (filter p zs)) i ≡ Some x → slice_get (cond b (z ∷ filter p zs) (filter p zs)) j ≡ Some y
+          ((i j : ℕ) → i < j → slice_get (filter p zs) i ≡ Some x → slice_get (filter p zs) j ≡ Some y → (k : ℕ)
+          × (l : ℕ) × (k < l) × (slice_get zs k ≡ Some x) × (slice_get zs l ≡ Some y))
+          → (b : Bool) (i j : ℕ) → i < j → slice_get (cond b (z ∷ filter p zs) (filter p zs)) i ≡ Some x
+          → slice_get (cond b (z ∷ filter p zs) (filter p zs)) j ≡ Some y
           → (k : ℕ) × (l : ℕ) × (k < l) × (slice_get (z ∷ zs) k ≡ Some x) × (slice_get (z ∷ zs) l ≡ Some y)
       by_test rest true i zero lt e f = absurd (omega arith)
       by_test rest true zero (suc j) lt e f = let r = filtered_at zs j y f in (zero, suc r.0, omega arith, e, r.1)
@@ -55,7 +60,8 @@ module _ {A : Type 0} (p : A → Bool) where
   filtered_passes [] i x e = absurd (cc)
   filtered_passes (y ∷ ys) i x e = by_test (λ j f. filtered_passes ys j x f) (p y) refl i e
     where
-      by_test : ((j : ℕ) → slice_get (filter p ys) j ≡ Some x → p x ≡ true) → (b : Bool) → p y ≡ b → (i : ℕ) → slice_get (cond b (y ∷ filter p ys) (filter p ys)) i ≡ Some x → p x ≡ true
+      by_test : ((j : ℕ) → slice_get (filter p ys) j ≡ Some x → p x ≡ true) → (b : Bool) → p y ≡ b → (i : ℕ)
+          → slice_get (cond b (y ∷ filter p ys) (filter p ys)) i ≡ Some x → p x ≡ true
       by_test rest true q zero e = (let r : y ≡ x = cc in subst (λ (z : A). p z ≡ true) r q)
       by_test rest true q (suc i) e = rest i e
       by_test rest false q i e = rest i e
@@ -75,8 +81,10 @@ module _ {A : Type 0} (p : A → Bool) where
 pub part_of_order : (m : Module) (order : List Assign) → IsOrderOf m order → IsPartOf m order
 part_of_order m order o = record { in_order = o.in_order; from = o.from }
 
-pub part_of_feeding : (m : Module) (order feeding : List Assign) (IsWanted : ℕ → Type 0) → IsOrderOf m order → IsFeeding order feeding IsWanted → IsPartOf m feeding
-part_of_feeding m order feeding IsWanted o f = subst (IsPartOf m) (sym f.are) (record { in_order = record { typed = typed; unread = unread; once = once }; from = from })
+pub part_of_feeding : (m : Module) (order feeding : List Assign) (IsWanted : ℕ → Type 0) → IsOrderOf m order
+    → IsFeeding order feeding IsWanted → IsPartOf m feeding
+part_of_feeding m order feeding IsWanted o f = subst (IsPartOf m) (sym f.are)
+    (record { in_order = record { typed = typed; unread = unread; once = once }; from = from })
   where
     test : Assign → Bool
     test a = is_marked f.marks a.target && not (is_literal a.expr)
@@ -91,7 +99,9 @@ part_of_feeding m order feeding IsWanted o f = subst (IsPartOf m) (sym f.are) (r
     once i j a b lt e g = let r = filtered_pair test order i j a b lt e g in o.in_order.once r.0 r.1 a b r.2 r.3 r.4
 
     unread : (i j : ℕ) (a b : Assign) → i ≤ j → slice_get (filter test order) i ≡ Some a → slice_get (filter test order) j ≡ Some b → IsRead a.expr b.target → ⊥
-    unread i j a b le e g read = ⊎_elim (λ lt. (let r = filtered_pair test order i j a b lt e g in let less = r.2 in o.in_order.unread r.0 r.1 a b (omega (arith, less)) r.3 r.4 read)) (λ ge. same (omega arith)) (cases_lt i j)
+    unread i j a b le e g read = ⊎_elim (λ lt. (let r = filtered_pair test order i j a b lt e g in let less
+        = r.2 in o.in_order.unread r.0 r.1 a b (omega (arith, less)) r.3 r.4 read)) (λ ge. same (omega arith))
+        (cases_lt i j)
       where
         same : i ≡ j → ⊥
         same q =
@@ -101,7 +111,8 @@ part_of_feeding m order feeding IsWanted o f = subst (IsPartOf m) (sym f.are) (r
             o.in_order.unread k.0 k.0 a a (omega arith) k.1 k.1 (subst (λ (x : Assign). IsRead a.expr x.target) r read)
 
 -- the values that all assignments give
-module _ (m : Module) (order : List Assign) (memories : List (List ℕ)) (old : List ℕ) (r : IsRunnable m) (o : IsOrderOf m order) (w : AreWords m old memories) where
+module _ (m : Module) (order : List Assign) (memories : List (List ℕ)) (old : List ℕ) (r : IsRunnable m)
+    (o : IsOrderOf m order) (w : AreWords m old memories) where
   values_after : (k : ℕ) → k ≤ length order → (v : List ℕ) × Progress m order memories old v k
   values_after zero le = (old, at_start m order memories old w)
   values_after (suc k) le =
@@ -113,8 +124,11 @@ module _ (m : Module) (order : List Assign) (memories : List (List ℕ)) (old : 
       let from = o.from k a at in
       let lt : a.target < length v = omega (arith, (r.assigns from.0 a from.1).target, before.1.nets) in
       let x = value m (contents_of [] memories) (family_of v) (width_of m a.target) a.expr in
-      let next : k + 1 ≡ suc k = omega arith in
-      (set v a.target x, subst (λ (n : ℕ). Progress m order memories old (set v a.target x) n) next (one_more m order memories old v k a x o.in_order w at lt refl before.1))
+      let next : k + 1 ≡ suc k = omega arith in (
+        set v a.target x,
+        subst (λ (n : ℕ). Progress m order memories old (set v a.target x) n) next
+            (one_more m order memories old v k a x o.in_order w at lt refl before.1),
+      )
 
   pub all_settled : (v : List ℕ) × Settles m order memories old v
   all_settled =
@@ -155,10 +169,12 @@ not_true true h = absurd (false≢true h)
 not_true false h = refl
 
 -- no literal is among those that feed nets
-pub no_literal : (order feeding : List Assign) (IsWanted : ℕ → Type 0) → IsFeeding order feeding IsWanted → (i : ℕ) (a : Assign) → slice_get feeding i ≡ Some a → is_literal a.expr ≡ false
+pub no_literal : (order feeding : List Assign) (IsWanted : ℕ → Type 0) → IsFeeding order feeding IsWanted
+    → (i : ℕ) (a : Assign) → slice_get feeding i ≡ Some a → is_literal a.expr ≡ false
 no_literal order feeding IsWanted f i a at =
     let at' : slice_get (marked_of f.marks order) i ≡ Some a = subst (λ (l : List Assign). slice_get l i ≡ Some a) f.are at in
-    not_true (is_literal a.expr) (both_true (is_marked f.marks a.target) (not (is_literal a.expr)) (filtered_passes (λ (x : Assign). is_marked f.marks x.target && not (is_literal x.expr)) order i a at')).1
+    not_true (is_literal a.expr) (both_true (is_marked f.marks a.target) (not (is_literal a.expr))
+    (filtered_passes (λ (x : Assign). is_marked f.marks x.target && not (is_literal x.expr)) order i a at')).1
 
 -- the word of a literal
 data LiteralOf (e : Expr) : Type 0 where
@@ -179,7 +195,8 @@ literal_of (Cell k n) = other refl
 -- the target of a literal is not that of an assignment that is no literal
 pub literal_free :
     (m : Module) (part : List Assign) → IsRunnable m → IsPartOf m part → ((i : ℕ) (a : Assign) → slice_get part i ≡ Some a → is_literal a.expr ≡ false)
-    → (k : ℕ) (a : Assign) (x : Word) → slice_get m.assigns k ≡ Some a → a.expr ≡ Literal x → (i : ℕ) (b : Assign) → slice_get part i ≡ Some b → b.target ≢ a.target
+    → (k : ℕ) (a : Assign) (x : Word) → slice_get m.assigns k ≡ Some a → a.expr ≡ Literal x → (i : ℕ) (b : Assign)
+    → slice_get part i ≡ Some b → b.target ≢ a.target
 literal_free m part r p none k a x at lit i b bt q =
     let from = p.from i b bt in
     let same : from.0 ≡ k = r.one from.0 k b a from.1 at q in
@@ -189,7 +206,8 @@ literal_free m part r p none k a x at lit i b bt q =
 
 module _
     (m : Module) (order : List Assign) (marks : List Bool) (memories : List (List ℕ)) (old all part : List ℕ) (run : IsRunnable m)
-    (o : IsOrderOf m order) (p : AreMarkedFrom order marks 0) (constant : AreConstant m old) (sa : Settles m order memories old all) (ss : Settles m (marked_of marks order) memories old part) where
+    (o : IsOrderOf m order) (p : AreMarkedFrom order marks 0) (constant : AreConstant m old)
+    (sa : Settles m order memories old all) (ss : Settles m (marked_of marks order) memories old part) where
   abbrev test : Assign → Bool
   test a = is_marked marks a.target && not (is_literal a.expr)
 
@@ -200,7 +218,8 @@ module _
   literal_agrees : (i : ℕ) (a : Assign) (x : Word) → slice_get order i ≡ Some a → a.expr ≡ Literal x → get_or part a.target 0 ≡ get_or all a.target 0
   literal_agrees i a x at lit =
       let from = o.from i a at in
-      let is : value m (contents_of [] memories) (family_of all) (width_of m a.target) a.expr ≡ x.bits = ap (value m (contents_of [] memories) (family_of all) (width_of m a.target)) lit in
+      let is : value m (contents_of [] memories) (family_of all) (width_of m a.target) a.expr ≡ x.bits = ap
+      (value m (contents_of [] memories) (family_of all) (width_of m a.target)) lit in
       ss.others a.target (λ j b e q. free j b e q)
       ∙ constant from.0 a x from.1 lit
       ∙ sym (sa.assigned i a at ∙ is)
@@ -248,33 +267,46 @@ module _
 
   agrees_before : (k i : ℕ) (a : Assign) → i < k → slice_get order i ≡ Some a → is_marked marks a.target ≡ true → get_or part a.target 0 ≡ get_or all a.target 0
   agrees_before zero i a lt at mark = absurd (omega arith)
-  agrees_before (suc k) i a lt at mark = target_agrees i a at mark (reads_agree i a at mark (λ j b less e mk. agrees_before k j b (omega arith) e mk)) (literal_of a.expr)
+  agrees_before (suc k) i a lt at mark = target_agrees i a at mark
+      (reads_agree i a at mark (λ j b less e mk. agrees_before k j b (omega arith) e mk)) (literal_of a.expr)
 
   pub feeding_agrees : (n : ℕ) → is_marked marks n ≡ true → get_or part n 0 ≡ get_or all n 0
   feeding_agrees n mark = agrees (target_in order n)
     where
       agrees : TargetIn order n → get_or part n 0 ≡ get_or all n 0
       agrees (missing f) = untouched n f
-      agrees (found i a e q) = subst (λ (x : ℕ). get_or part x 0 ≡ get_or all x 0) q (agrees_before (suc i) i a (omega arith) e (subst (λ (x : ℕ). is_marked marks x ≡ true) (sym q) mark))
+      agrees (found i a e q) = subst (λ (x : ℕ). get_or part x 0 ≡ get_or all x 0) q
+          (agrees_before (suc i) i a (omega arith) e (subst (λ (x : ℕ). is_marked marks x ≡ true) (sym q) mark))
 
 -- all nets have values, with which those of some nets agree
 pub record Completed
-    (m : Module) (IsWanted : ℕ → Type 0) (c : Counts) (reset : Bool) (steady : List ℕ) (offers : List Offer) (accepts holds : List Bool)
+    (m : Module) (IsWanted : ℕ → Type 0) (c : Interface) (reset : Bool) (steady : List ℕ) (offers : List Offer) (accepts holds : List Bool)
     (held : List ℕ) (memories : List (List ℕ)) (new : List ℕ) : Type 0 where
   pub values : List ℕ
   pub evaluated : IsEvaluated m c reset steady offers accepts holds held memories values
   pub same : (n : ℕ) → IsWanted n → get_or new n 0 ≡ get_or values n 0
 
 pub completed :
-    (m : Module) (order feeding : List Assign) (IsWanted : ℕ → Type 0) (c : Counts) (reset : Bool) (steady : List ℕ) (offers : List Offer) (accepts holds : List Bool) (held new : List ℕ) (memories : List (List ℕ))
-    → IsRunnable m → IsOrderOf m order → IsFeeding order feeding IsWanted → ((i : ℕ) (p : Port) → slice_get m.ports i ≡ Some p → is_reg m p.net ≡ false)
+    (m : Module) (order feeding : List Assign) (IsWanted : ℕ → Type 0) (c : Interface) (reset : Bool) (steady : List ℕ)
+    (offers : List Offer) (accepts holds : List Bool) (held new : List ℕ) (memories : List (List ℕ))
+    → IsRunnable m → IsOrderOf m order → IsFeeding order feeding IsWanted
+    → Every (λ (g : ℕ × ℕ). is_input m.ports g.0 ≡ true) (gifts c reset steady offers accepts holds)
     → IsEvaluatedBy m feeding c reset steady offers accepts holds held memories new
     → Completed m IsWanted c reset steady offers accepts holds held memories new
-completed m order feeding IsWanted c reset steady offers accepts holds held new memories r o f wires e =
+completed m order feeding IsWanted c reset steady offers accepts holds held new memories r o f inputs e =
     let all = all_settled m order memories e.driven r o e.words in
     let part : Settles m (marked_of f.marks order) memories e.driven new = subst (λ (l : List Assign). Settles m l memories e.driven new) f.are e.settles in
     record {
       values = all.0;
-      evaluated = evaluated m c reset steady offers accepts holds held all.0 memories order r o wires (record { driven = e.driven; words = e.words; kept = e.kept; constant = e.constant; given = e.given; settles = all.1 });
+      evaluated = evaluated m c reset steady offers accepts holds held all.0 memories order r o inputs
+          (record {
+            driven = e.driven;
+            words = e.words;
+            kept = e.kept;
+            constant = e.constant;
+            given = e.given;
+            settles
+                = all.1;
+          });
       same = λ n w. feeding_agrees m order f.marks memories e.driven all.0 new r o f.marked e.constant all.1 part n (f.wanted n w);
     }

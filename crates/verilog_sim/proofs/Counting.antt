@@ -3,9 +3,8 @@ use Rattle.std.proofs.Common.{◌≡◌, ℕ, suc, cond, ◌+◌, List, [], ◌�
 use Rattle.std.proofs.lemmas.List.Sums.{sum_by-append}
 use Rattle.std.specs.Prelude.{count_by, codes, nat_eq, not, ◌&&◌}
 use Rattle.rtl_ir.specs.declared.design.Module.{Module}
-use Rattle.rtl_ir.specs.Ports.{Shape, PortView, HasShape, port_view, kernel_ports, scalar_ports, host_input_ports, host_output_ports, shape_ports}
-use Rattle.verilog_sim.specs.declared.given.Counts.{Counts}
-use Rattle.verilog_sim.specs.Simulates.{AreCounts}
+use Rattle.rtl_ir.specs.Ports.{Shape, PortView, HasShape, port_view, kernel_ports, scalar_ports, host_input_ports, host_output_ports, shape_ports, outer_of}
+use Rattle.verilog_sim.proofs.Shapes.{same_outer}
 
 -- whether a name begins with a byte
 abbrev starts : ℕ → List ℕ → Bool
@@ -58,10 +57,23 @@ h_in_outputs (x ∷ xs) = let e = h_in_outputs xs in omega (arith, e)
 
 h_in_shape : (s : Shape) → tally (begins 104 false) (shape_ports s) ≡ length s.kernels
 h_in_shape s =
-    omega (arith, tally_append (begins 104 false) (kernel_ports s.kernels ++ scalar_ports s.scalars ++ host_input_ports s.inputs ++ host_output_ports s.outputs) (done_port ∷ []), tally_append (begins 104 false) (kernel_ports s.kernels ++ scalar_ports s.scalars ++ host_input_ports s.inputs) (host_output_ports s.outputs), tally_append (begins 104 false) (kernel_ports s.kernels ++ scalar_ports s.scalars) (host_input_ports s.inputs), tally_append (begins 104 false) (kernel_ports s.kernels) (scalar_ports s.scalars), h_in_kernels s.kernels, h_in_scalars s.scalars, h_in_inputs s.inputs, h_in_outputs s.outputs)
+    omega (
+      arith,
+      tally_append (begins 104 false) (kernel_ports s.kernels ++ scalar_ports s.scalars ++ host_input_ports
+          s.inputs ++ host_output_ports s.outputs) (done_port ∷ []),
+      tally_append (begins 104 false)
+          (kernel_ports s.kernels ++ scalar_ports s.scalars ++ host_input_ports s.inputs) (host_output_ports s.outputs),
+      tally_append (begins 104 false) (kernel_ports s.kernels ++ scalar_ports s.scalars) (host_input_ports s.inputs),
+      tally_append (begins 104 false) (kernel_ports s.kernels) (scalar_ports s.scalars),
+      h_in_kernels s.kernels,
+      h_in_scalars s.scalars,
+      h_in_inputs s.inputs,
+      h_in_outputs s.outputs,
+    )
 
 kernels_counted : (m : Module) (s : Shape) → HasShape m s → count_by (λ p. begins 104 false (port_view m p)) m.ports ≡ length s.kernels
-kernels_counted m s h = tally_is (λ p. begins 104 false (port_view m p)) m.ports ∙ sym (tally_map (begins 104 false) (port_view m) m.ports) ∙ ap (tally (begins 104 false)) h ∙ h_in_shape s
+kernels_counted m s h = tally_is (λ p. begins 104 false (port_view m p)) m.ports
+    ∙ sym (tally_map (begins 104 false) (port_view m) m.ports) ∙ ap (tally (begins 104 false)) h ∙ h_in_shape s
 
 s_in_kernels : (xs : List (List ℕ)) → tally (begins 115 false) (kernel_ports xs) ≡ 0
 s_in_kernels [] = refl
@@ -81,10 +93,23 @@ s_in_outputs (x ∷ xs) = let e = s_in_outputs xs in omega (arith, e)
 
 s_in_shape : (s : Shape) → tally (begins 115 false) (shape_ports s) ≡ length s.scalars
 s_in_shape s =
-    omega (arith, tally_append (begins 115 false) (kernel_ports s.kernels ++ scalar_ports s.scalars ++ host_input_ports s.inputs ++ host_output_ports s.outputs) (done_port ∷ []), tally_append (begins 115 false) (kernel_ports s.kernels ++ scalar_ports s.scalars ++ host_input_ports s.inputs) (host_output_ports s.outputs), tally_append (begins 115 false) (kernel_ports s.kernels ++ scalar_ports s.scalars) (host_input_ports s.inputs), tally_append (begins 115 false) (kernel_ports s.kernels) (scalar_ports s.scalars), s_in_kernels s.kernels, s_in_scalars s.scalars, s_in_inputs s.inputs, s_in_outputs s.outputs)
+    omega (
+      arith,
+      tally_append (begins 115 false) (kernel_ports s.kernels ++ scalar_ports s.scalars ++ host_input_ports
+          s.inputs ++ host_output_ports s.outputs) (done_port ∷ []),
+      tally_append (begins 115 false)
+          (kernel_ports s.kernels ++ scalar_ports s.scalars ++ host_input_ports s.inputs) (host_output_ports s.outputs),
+      tally_append (begins 115 false) (kernel_ports s.kernels ++ scalar_ports s.scalars) (host_input_ports s.inputs),
+      tally_append (begins 115 false) (kernel_ports s.kernels) (scalar_ports s.scalars),
+      s_in_kernels s.kernels,
+      s_in_scalars s.scalars,
+      s_in_inputs s.inputs,
+      s_in_outputs s.outputs,
+    )
 
 scalars_counted : (m : Module) (s : Shape) → HasShape m s → count_by (λ p. begins 115 false (port_view m p)) m.ports ≡ length s.scalars
-scalars_counted m s h = tally_is (λ p. begins 115 false (port_view m p)) m.ports ∙ sym (tally_map (begins 115 false) (port_view m) m.ports) ∙ ap (tally (begins 115 false)) h ∙ s_in_shape s
+scalars_counted m s h = tally_is (λ p. begins 115 false (port_view m p)) m.ports
+    ∙ sym (tally_map (begins 115 false) (port_view m) m.ports) ∙ ap (tally (begins 115 false)) h ∙ s_in_shape s
 
 i_in_kernels : (xs : List (List ℕ)) → tally (begins 105 true) (kernel_ports xs) ≡ 0
 i_in_kernels [] = refl
@@ -96,7 +121,8 @@ i_in_scalars (x ∷ xs) = let e = i_in_scalars xs in omega (arith, e)
 
 i_in_inputs : (xs : List (List ℕ × ℕ)) → tally (begins 105 true) (host_input_ports xs) ≡ length xs
 i_in_inputs [] = refl
-i_in_inputs (x ∷ xs) = let e = i_in_inputs xs in let one : 0 + (0 + (1 + tally (begins 105 true) (host_input_ports xs))) ≡ suc (length xs) = omega (arith, e) in one
+i_in_inputs (x ∷ xs) = let e = i_in_inputs xs in let one :
+    0 + (0 + (1 + tally (begins 105 true) (host_input_ports xs))) ≡ suc (length xs) = omega (arith, e) in one
 
 i_in_outputs : (xs : List (List ℕ × ℕ)) → tally (begins 105 true) (host_output_ports xs) ≡ 0
 i_in_outputs [] = refl
@@ -104,10 +130,23 @@ i_in_outputs (x ∷ xs) = let e = i_in_outputs xs in omega (arith, e)
 
 i_in_shape : (s : Shape) → tally (begins 105 true) (shape_ports s) ≡ length s.inputs
 i_in_shape s =
-    omega (arith, tally_append (begins 105 true) (kernel_ports s.kernels ++ scalar_ports s.scalars ++ host_input_ports s.inputs ++ host_output_ports s.outputs) (done_port ∷ []), tally_append (begins 105 true) (kernel_ports s.kernels ++ scalar_ports s.scalars ++ host_input_ports s.inputs) (host_output_ports s.outputs), tally_append (begins 105 true) (kernel_ports s.kernels ++ scalar_ports s.scalars) (host_input_ports s.inputs), tally_append (begins 105 true) (kernel_ports s.kernels) (scalar_ports s.scalars), i_in_kernels s.kernels, i_in_scalars s.scalars, i_in_inputs s.inputs, i_in_outputs s.outputs)
+    omega (
+      arith,
+      tally_append (begins 105 true) (kernel_ports s.kernels ++ scalar_ports s.scalars ++ host_input_ports
+          s.inputs ++ host_output_ports s.outputs) (done_port ∷ []),
+      tally_append (begins 105 true)
+          (kernel_ports s.kernels ++ scalar_ports s.scalars ++ host_input_ports s.inputs) (host_output_ports s.outputs),
+      tally_append (begins 105 true) (kernel_ports s.kernels ++ scalar_ports s.scalars) (host_input_ports s.inputs),
+      tally_append (begins 105 true) (kernel_ports s.kernels) (scalar_ports s.scalars),
+      i_in_kernels s.kernels,
+      i_in_scalars s.scalars,
+      i_in_inputs s.inputs,
+      i_in_outputs s.outputs,
+    )
 
 inputs_counted : (m : Module) (s : Shape) → HasShape m s → count_by (λ p. begins 105 true (port_view m p)) m.ports ≡ length s.inputs
-inputs_counted m s h = tally_is (λ p. begins 105 true (port_view m p)) m.ports ∙ sym (tally_map (begins 105 true) (port_view m) m.ports) ∙ ap (tally (begins 105 true)) h ∙ i_in_shape s
+inputs_counted m s h = tally_is (λ p. begins 105 true (port_view m p)) m.ports
+    ∙ sym (tally_map (begins 105 true) (port_view m) m.ports) ∙ ap (tally (begins 105 true)) h ∙ i_in_shape s
 
 o_in_kernels : (xs : List (List ℕ)) → tally (begins 111 false) (kernel_ports xs) ≡ 0
 o_in_kernels [] = refl
@@ -123,20 +162,32 @@ o_in_inputs (x ∷ xs) = let e = o_in_inputs xs in omega (arith, e)
 
 o_in_outputs : (xs : List (List ℕ × ℕ)) → tally (begins 111 false) (host_output_ports xs) ≡ length xs
 o_in_outputs [] = refl
-o_in_outputs (x ∷ xs) = let e = o_in_outputs xs in let one : 0 + (0 + (1 + tally (begins 111 false) (host_output_ports xs))) ≡ suc (length xs) = omega (arith, e) in one
+o_in_outputs (x ∷ xs) = let e = o_in_outputs xs in let one :
+    0 + (0 + (1 + tally (begins 111 false) (host_output_ports xs))) ≡ suc (length xs) = omega (arith, e) in one
 
 o_in_shape : (s : Shape) → tally (begins 111 false) (shape_ports s) ≡ length s.outputs
 o_in_shape s =
-    omega (arith, tally_append (begins 111 false) (kernel_ports s.kernels ++ scalar_ports s.scalars ++ host_input_ports s.inputs ++ host_output_ports s.outputs) (done_port ∷ []), tally_append (begins 111 false) (kernel_ports s.kernels ++ scalar_ports s.scalars ++ host_input_ports s.inputs) (host_output_ports s.outputs), tally_append (begins 111 false) (kernel_ports s.kernels ++ scalar_ports s.scalars) (host_input_ports s.inputs), tally_append (begins 111 false) (kernel_ports s.kernels) (scalar_ports s.scalars), o_in_kernels s.kernels, o_in_scalars s.scalars, o_in_inputs s.inputs, o_in_outputs s.outputs)
+    omega (
+      arith,
+      tally_append (begins 111 false) (kernel_ports s.kernels ++ scalar_ports s.scalars ++ host_input_ports
+          s.inputs ++ host_output_ports s.outputs) (done_port ∷ []),
+      tally_append (begins 111 false)
+          (kernel_ports s.kernels ++ scalar_ports s.scalars ++ host_input_ports s.inputs) (host_output_ports s.outputs),
+      tally_append (begins 111 false) (kernel_ports s.kernels ++ scalar_ports s.scalars) (host_input_ports s.inputs),
+      tally_append (begins 111 false) (kernel_ports s.kernels) (scalar_ports s.scalars),
+      o_in_kernels s.kernels,
+      o_in_scalars s.scalars,
+      o_in_inputs s.inputs,
+      o_in_outputs s.outputs,
+    )
 
 outputs_counted : (m : Module) (s : Shape) → HasShape m s → count_by (λ p. begins 111 false (port_view m p)) m.ports ≡ length s.outputs
-outputs_counted m s h = tally_is (λ p. begins 111 false (port_view m p)) m.ports ∙ sym (tally_map (begins 111 false) (port_view m) m.ports) ∙ ap (tally (begins 111 false)) h ∙ o_in_shape s
+outputs_counted m s h = tally_is (λ p. begins 111 false (port_view m p)) m.ports
+    ∙ sym (tally_map (begins 111 false) (port_view m) m.ports) ∙ ap (tally (begins 111 false)) h ∙ o_in_shape s
 
-pub counts_same : (m : Module) (c : Counts) (s t : Shape) → HasShape m s → HasShape m t → AreCounts c s → AreCounts c t
-counts_same m c s t h g e =
-    record {
-      kernels = e.kernels ∙ sym (kernels_counted m s h) ∙ kernels_counted m t g;
-      scalars = e.scalars ∙ sym (scalars_counted m s h) ∙ scalars_counted m t g;
-      inputs = e.inputs ∙ sym (inputs_counted m s h) ∙ inputs_counted m t g;
-      outputs = e.outputs ∙ sym (outputs_counted m s h) ∙ outputs_counted m t g;
-    }
+-- the nets of the outer ports are the same by all shapes that a module has
+pub outer_once : (m : Module) (s t : Shape) → HasShape m s → HasShape m t → outer_of s m ≡ outer_of t m
+outer_once m s t h g =
+    same_outer m s t (sym (kernels_counted m s h) ∙ kernels_counted m t g)
+    (sym (scalars_counted m s h) ∙ scalars_counted m t g) (sym (inputs_counted m s h) ∙ inputs_counted m t g)
+    (sym (outputs_counted m s h) ∙ outputs_counted m t g)

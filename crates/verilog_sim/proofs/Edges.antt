@@ -1,57 +1,59 @@
 -- What a call does, in the words of the meaning of a design.
-use Rattle.std.proofs.Common.{◌≡◌, ℕ, zero, suc, eqb, Vec, Global, ◌+◌, ◌-◌, ◌*◌, ◌^◌, ◌<◌, ◌≤◌, ◌&&◌, Bool, true, false, List, [], ◌∷◌, ◌++◌, length, map, set, get_or, Some, refl, sym, ap, ◌∙◌, subst, ⊎_elim, arith, get_or-set_other, get_or-set_same}
+use Rattle.std.proofs.Common.{◌≡◌, ◌⊎◌, inl, inr, ℕ, zero, suc, eqb, Vec, Global, ◌+◌, ◌*◌, ◌^◌, ◌<◌, ◌&&◌, Bool, true, false, List, [], ◌∷◌, ◌++◌, length, map, set, get_or, Some, refl, sym, ap, ◌∙◌, subst, ⊎_elim, arith, get_or-set_other, get_or-set_same}
 use Rattle.std.specs.Prelude.{slice_get}
-use Rattle.std.proofs.lemmas.Bool.{cases_eq, cases_lt}
+use Rattle.std.specs.Vec.{with_items}
+use Rattle.std.proofs.lemmas.Bool.{cases_eq}
 use Rattle.std.proofs.lemmas.Nat.{pow_pos}
 use Rattle.std.proofs.lemmas.Option.{slice_get-get_or, slice_get_within}
-use Rattle.std.proofs.lemmas.List.{length-set, length-append, length-map, get_or-map, get_or_append_left, get_or-append_right, ext_get_or, with_items_is}
+use Rattle.std.proofs.lemmas.List.{length-set, length-map, with_items_is}
 use Rattle.rtl_ir.specs.declared.design.Design.{Design}
-use Rattle.std.specs.Vec.{with_items}
+use Rattle.rtl_ir.specs.declared.design.Module.{Module}
 use Rattle.rtl_ir.specs.declared.design.Port.{Port}
 use Rattle.rtl_ir.specs.declared.design.Update.{Update}
+use Rattle.rtl_ir.specs.declared.interface.Interface.{Interface}
+use Rattle.rtl_ir.specs.declared.interface.KernelPorts.{KernelPorts}
+use Rattle.rtl_ir.specs.declared.interface.StreamPorts.{StreamPorts}
 use Rattle.rtl_ir.specs.Edge.{after_edge}
-use Rattle.rtl_ir.specs.declared.design.Module.{Module}
-use Rattle.rtl_ir.specs.Value.{Family, width_of}
 use Rattle.rtl_ir.specs.Flat.{AllContents, FitsFlat, top_of, after_flat}
+use Rattle.rtl_ir.specs.Interfaces.{nets_of, shape_of, scalar_shape, stream_shape, stream_channel}
+use Rattle.rtl_ir.specs.Ports.{first_input, first_output, done_port, port_net, port_view, net_at, outer_of}
 use Rattle.rtl_ir.specs.Run.{Channel, Outer}
-use Rattle.rtl_ir.specs.Ports.{Shape, first_input, first_output, done_port, port_net, net_at, outer_of}
+use Rattle.rtl_ir.specs.Value.{Family, width_of}
 use Rattle.verilog_sim.specs.declared.offer.Offer.{Offer}
 use Rattle.verilog_sim.specs.declared.offer.Event.{Event}
-use Rattle.verilog_sim.specs.declared.given.Counts.{Counts}
 use Rattle.verilog_sim.specs.declared.compile.Program.{Program}
 use Rattle.verilog_sim.specs.declared.place.Place.{Place}
 use Rattle.verilog_sim.specs.Contents.{family_of, contents_of}
 use Rattle.verilog_sim.specs.Parts.{families_of, contents_by_path}
 use Rattle.verilog_sim.specs.PartLists.{parts_of}
-use Rattle.verilog_sim.proofs.PartLists.{parts_say}
-use Rattle.verilog_sim.specs.Channels.{channel_of, first_channel}
 use Rattle.verilog_sim.specs.State.{State, contents}
-use Rattle.verilog_sim.specs.Sources.{port_count, IsGiven}
-use Rattle.verilog_sim.specs.Calls.{nothing, Given, Settled, SettledAlone, event_of, IsEdge, IsResetEdge, IsDone}
-use Rattle.verilog_sim.specs.Simulates.{unnamed, outer_at, AreCounts, AreOffered, IsReady, Simulates, AreKept, IsEvaluated, IsStepped}
-use Rattle.verilog_sim.proofs.Shapes.{channel_at, channels_get, length_channels}
-use Rattle.verilog_sim.proofs.Outer.{SaysSame, outer_same, given_of}
-use Rattle.verilog_sim.proofs.Whole.{whole_fits, whole_after, whole_own}
+use Rattle.verilog_sim.specs.Gifts.{Every, gifts, AreGiven, AreNetsOf}
 use Rattle.verilog_sim.specs.Origins.{with_lists}
+use Rattle.verilog_sim.specs.Calls.{nothing, Settled, SettledAlone, event_of, IsEdge, IsResetEdge, IsDone}
+use Rattle.verilog_sim.specs.Simulates.{AreOffered, IsReady, Simulates, AreKept, IsEvaluated, IsStepped}
+use Rattle.verilog_sim.proofs.PartLists.{parts_say}
+use Rattle.verilog_sim.proofs.Shapes.{channel_at, length_shape}
+use Rattle.verilog_sim.proofs.Outer.{SaysSame}
+use Rattle.verilog_sim.proofs.Facing.{gifts_rise, input_net, output_net}
+use Rattle.verilog_sim.proofs.Rising.{rising_within}
+use Rattle.verilog_sim.proofs.Told.{Told, given_told}
+use Rattle.verilog_sim.proofs.Whole.{whole_fits, whole_after, whole_own}
 use Rattle.verilog_sim.proofs.Fronts.{outer_same_ports, ports_flat, net_in, steady_flat, offered_flat}
 
 -- what a contract sees of a simulator
-abbrev pub state : Design → Counts → List Place → List ℕ → List ℕ → List (List ℕ) → State
-state d c ps steady held memories = record { design = d; outer = outer_at (top_of d) c; steady = steady; parts = parts_of (top_of d) ps held memories }
-
-abbrev pub outer_top : Design → Counts → Outer
-outer_top d c = outer_at (top_of d) c
-
-pub top_outer : (d : Design) (m : Module) (c : Counts) (s : Shape) → top_of d ≡ Some m → AreCounts c s → outer_of s m ≡ outer_top d c
-top_outer d m c s e counts = sym (outer_same m c s counts) ∙ ap (λ o. outer_at o c) (sym e)
+abbrev pub state : Design → Interface → List Place → List ℕ → List ℕ → List (List ℕ) → State
+state d i ps steady held memories = record { design = d; outer = nets_of i; steady = steady; parts = parts_of (top_of d) ps held memories }
 
 -- a slice that was written is that of its vector
 pub back : {X : Type 0} (v : Vec X Global) (new old : List X) → length new ≡ length old → old ≡ v.items → (with_items v new).items ≡ new
 back v new old e same = with_items_is v new (omega (arith, e, ap length same, v.ok))
 
 pub stepped_back :
-    (m : Module) (c : Counts) (reset : Bool) (steady steady' : List ℕ) (offers : List Offer) (accepts holds : List Bool) (held held0 : List ℕ) (memories memories0 : List (List ℕ)) (new held' held1 : List ℕ) (memories' memories1 : List (List ℕ))
-    → IsStepped m c reset steady offers accepts holds held memories new held' memories' → steady ≡ steady' → held ≡ held0 → memories ≡ memories0 → held' ≡ held1 → memories' ≡ memories1
+    (m : Module) (c : Interface) (reset : Bool) (steady steady' : List ℕ) (offers : List Offer)
+    (accepts holds : List Bool) (held held0 : List ℕ) (memories memories0 : List (List ℕ))
+    (new held' held1 : List ℕ) (memories' memories1 : List (List ℕ))
+    → IsStepped m c reset steady offers accepts holds held memories new held' memories' → steady ≡ steady'
+    → held ≡ held0 → memories ≡ memories0 → held' ≡ held1 → memories' ≡ memories1
     → IsStepped m c reset steady' offers accepts holds held0 memories0 new held1 memories1
 stepped_back m c reset steady steady' offers accepts holds held held0 memories memories0 new held' held1 memories' memories1 s a b e f g =
     subst (λ (l : List (List ℕ)). IsStepped m c reset steady' offers accepts holds held0 memories0 new held1 l) g
@@ -65,52 +67,47 @@ event_made moved word = record { moved = moved; word = word }
 
 -- values that agree at the ports tell the same of a stream
 event_at_ports :
-    (new values : List ℕ) (ports : List Port) (k : ℕ)
-    → ((i : ℕ) (p : Port) → slice_get ports i ≡ Some p → get_or new p.net 0 ≡ get_or values p.net 0)
-    → k + 2 < length ports → event_of (family_of new) (channel_of ports k) ≡ event_of (family_of values) (channel_of ports k)
-event_at_ports new values ports k same lt =
-    ap (λ x. event_made (eqb x 1 && eqb (get_or new (port_net (slice_get ports (k + 2))) 0) 1) (get_or new (port_net (slice_get ports k)) 0)) (at (k + 1) (omega (arith, lt)))
-    ∙ ap (λ x. event_made (eqb (get_or values (port_net (slice_get ports (k + 1))) 0) 1 && eqb x 1) (get_or new (port_net (slice_get ports k)) 0)) (at (k + 2) lt)
-    ∙ ap (λ x. event_made (eqb (get_or values (port_net (slice_get ports (k + 1))) 0) 1 && eqb (get_or values (port_net (slice_get ports (k + 2))) 0) 1) x) (at k (omega (arith, lt)))
-  where
-    none : Port
-    none = record { net = 0; output = false }
+    (new values : Family) (m : Module) (k : ℕ)
+    → ((j : ℕ) → j < length m.ports → new (net_at m j) ≡ values (net_at m j))
+    → k + 2 < length m.ports → event_of new (channel_at m k) ≡ event_of values (channel_at m k)
+event_at_ports new values m k same lt =
+    ap (λ x. event_made (eqb x 1 && eqb (new (net_at m (k + 2))) 1) (new (net_at m k))) (same (k + 1) (omega (arith, lt)))
+    ∙ ap (λ x. event_made (eqb (values (net_at m (k + 1))) 1 && eqb x 1) (new (net_at m k))) (same (k + 2) lt)
+    ∙ ap (λ x. event_made (eqb (values (net_at m (k + 1))) 1 && eqb (values (net_at m (k + 2))) 1) x) (same k (omega (arith, lt)))
 
-    at : (i : ℕ) → i < length ports → get_or new (port_net (slice_get ports i)) 0 ≡ get_or values (port_net (slice_get ports i)) 0
-    at i less =
-        let e : slice_get ports i ≡ Some (get_or ports i none) = slice_get-get_or ports i none less in
-        subst (λ (n : ℕ). get_or new n 0 ≡ get_or values n 0) (sym (ap port_net e)) (same i (get_or ports i none) e)
+-- a stream among the inputs and the outputs
+in_streams : (xs ys : List StreamPorts) (k : ℕ) (x : StreamPorts) → slice_get (xs ++ ys) k ≡ Some x
+    → ((j : ℕ) × (slice_get xs j ≡ Some x)) ⊎ ((j : ℕ) × (slice_get ys j ≡ Some x))
+in_streams [] ys k x e = inr (k, e)
+in_streams (z ∷ zs) ys zero x e = inl (zero, e)
+in_streams (z ∷ zs) ys (suc k) x e = ⊎_elim (λ f. inl (suc f.0, f.1)) (λ f. inr f) (in_streams zs ys k x e)
 
-abbrev idle : Event
-idle = record { moved = false; word = 0 }
+all_told :
+    (v : Family) (xs : List StreamPorts) (events : List Event) → length events ≡ length xs
+    → ((k : ℕ) (x : StreamPorts) (e : Event) → slice_get xs k ≡ Some x → slice_get events k ≡ Some e → e ≡ event_of v (stream_channel x))
+    → events ≡ map (λ (x : StreamPorts). event_of v (stream_channel x)) xs
+all_told v [] [] size told = refl
+all_told v [] (e ∷ es) size told = absurd (omega arith)
+all_told v (x ∷ xs) [] size told = absurd (omega arith)
+all_told v (x ∷ xs) (e ∷ es) size told = ap (λ (y : Event). y ∷ es) (told 0 x e refl refl)
+    ∙ ap (λ (l : List Event). event_of v (stream_channel x) ∷ l)
+    (all_told v xs es (omega (arith, size)) (λ k y d at is. told (suc k) y d at is))
 
-events_are :
-    (m : Module) (c : Counts) (s : Shape) (v : Family) (events : List Event)
-    → AreCounts c s → length events ≡ length (outer_of s m).inputs + length (outer_of s m).outputs
-    → ((k : ℕ) (e : Event) → slice_get events k ≡ Some e → e ≡ event_of v (channel_of m.ports (first_channel c + 3 * k)))
-    → events ≡ map (event_of v) ((outer_of s m).inputs ++ (outer_of s m).outputs)
-events_are m c s v events n size told =
-    ext_get_or idle events (map (event_of v) ((outer_of s m).inputs ++ (outer_of s m).outputs))
-    (omega (arith, size, length-append (outer_of s m).inputs (outer_of s m).outputs, length-map ((outer_of s m).inputs ++ (outer_of s m).outputs) (event_of v)))
-    (λ k lt. told k (get_or events k idle) (slice_get-get_or events k idle lt) ∙ sym (get_or-map (event_of v) ((outer_of s m).inputs ++ (outer_of s m).outputs) k (channel_at m 0) idle (omega (arith, lt, size, length-append (outer_of s m).inputs (outer_of s m).outputs)) ∙ ap (event_of v) (channel k (omega (arith, lt, size)))))
-  where
-    len : length (outer_of s m).inputs ≡ length s.inputs
-    len = length_channels m (first_input s) s.inputs
+map_twice : {A B C : Type 0} (f : B → C) (g : A → B) (xs : List A) → map (λ x. f (g x)) xs ≡ map f (map g xs)
+map_twice f g [] = refl
+map_twice f g (x ∷ xs) = ap (λ l. f (g x) ∷ l) (map_twice f g xs)
 
-    channel : (k : ℕ) → k < length (outer_of s m).inputs + length (outer_of s m).outputs → get_or ((outer_of s m).inputs ++ (outer_of s m).outputs) k (channel_at m 0) ≡ channel_at m (first_channel c + 3 * k)
-    channel k lt = ⊎_elim of_input of_output (cases_lt k (length s.inputs))
-      where
-        of_input : k < length s.inputs → get_or ((outer_of s m).inputs ++ (outer_of s m).outputs) k (channel_at m 0) ≡ channel_at m (first_channel c + 3 * k)
-        of_input less =
-            let place : first_input s + 3 * k ≡ first_channel c + 3 * k = omega (arith, n.kernels, n.scalars) in
-            get_or_append_left (outer_of s m).inputs (outer_of s m).outputs (channel_at m 0) k (omega (arith, less, length_channels m (first_input s) s.inputs))
-            ∙ channels_get m (first_input s) k s.inputs (channel_at m 0) less ∙ ap (channel_at m) place
+map_both : {A B C : Type 0} (f : B → C) (g : A → B) (xs ys : List A) → map (λ x. f (g x)) (xs ++ ys) ≡ map f (map g xs ++ map g ys)
+map_both f g [] ys = map_twice f g ys
+map_both f g (x ∷ xs) ys = ap (λ l. f (g x) ∷ l) (map_both f g xs ys)
 
-        of_output : length s.inputs ≤ k → get_or ((outer_of s m).inputs ++ (outer_of s m).outputs) k (channel_at m 0) ≡ channel_at m (first_channel c + 3 * k)
-        of_output ge =
-            let place : first_output s + 3 * (k - length s.inputs) ≡ first_channel c + 3 * k = omega (arith, n.kernels, n.scalars) in
-            get_or-append_right (outer_of s m).inputs (outer_of s m).outputs (length s.inputs) k (channel_at m 0) (length_channels m (first_input s) s.inputs) ge
-            ∙ channels_get m (first_output s) (k - length s.inputs) s.outputs (channel_at m 0) (omega (arith, lt, length_channels m (first_input s) s.inputs, length_channels m (first_output s) s.outputs)) ∙ ap (channel_at m) place
+length_both : (xs ys : List StreamPorts) → length (xs ++ ys) ≡ length xs + length ys
+length_both [] ys = let e : length ys ≡ 0 + length ys = omega arith in e
+length_both (x ∷ xs) ys = let r = length_both xs ys in let e : suc (length (xs ++ ys)) ≡ suc (length xs) + length ys = omega (arith, r) in e
+
+every_both : {A : Type 0} {P Q R : A → Type 0} → ((x : A) → P x → Q x → R x) → (xs : List A) → Every P xs → Every Q xs → Every R xs
+every_both f [] p q = tt
+every_both f (x ∷ xs) p q = (f x p.0 q.0, every_both f xs p.1 q.1)
 
 same_said : (offers : List Offer) (accepts holds : List Bool) → SaysSame offers offers accepts accepts holds holds
 same_said offers accepts holds = record { offers_same = λ k. refl; accepts_same = λ k. refl; holds_same = λ k. refl }
@@ -121,11 +118,17 @@ all_nothing (x ∷ xs) b zero = refl
 all_nothing (x ∷ xs) b (suc k) = all_nothing xs b k
 
 none_said : (o : Outer) → SaysSame [] (map (λ (x : Channel). nothing) o.inputs) [] (map (λ (x : Channel). false) o.outputs) [] (map (λ (n : ℕ). false) o.holds)
-none_said o = record { offers_same = λ k. sym (all_nothing o.inputs nothing k); accepts_same = λ k. sym (all_nothing o.outputs false k); holds_same = λ k. sym (all_nothing o.holds false k) }
+none_said o = record {
+  offers_same = λ k. sym (all_nothing o.inputs nothing k);
+  accepts_same = λ k. sym
+      (all_nothing o.outputs false k);
+  holds_same = λ k. sym (all_nothing o.holds false k);
+}
 
 pub kept_back :
-    (m : Module) (c : Counts) (steady steady' held held' values values' : List ℕ) (memories memories' : List (List ℕ))
-    → AreKept m c steady held values memories → steady ≡ steady' → held ≡ held' → values ≡ values' → memories ≡ memories' → AreKept m c steady' held' values' memories'
+    (m : Module) (c : Interface) (steady steady' held held' values values' : List ℕ) (memories memories' : List (List ℕ))
+    → AreKept m c steady held values memories → steady ≡ steady' → held ≡ held' → values ≡ values'
+    → memories ≡ memories' → AreKept m c steady' held' values' memories'
 kept_back m c steady steady' held held' values values' memories memories' k a b e f =
     subst (λ (l : List (List ℕ)). AreKept m c steady' held' values' l) f
     (subst (λ (l : List ℕ). AreKept m c steady' held' l memories) e
@@ -136,13 +139,11 @@ kept_back m c steady steady' held held' values values' memories memories' k a b 
 pub none_offered : (m : Module) (o : Outer) → AreOffered m o []
 none_offered m o = λ k c at. pow_pos (width_of m c.word)
 
-module _ {d : Design} {c : Counts} {pr : Program} {us : List Update} {ps : List Place} {steady held values : List ℕ} {memories : List (List ℕ)} (s : Simulates d c pr us ps steady held values memories) where
+module _ {d : Design} {c : Interface} {pr : Program} {us : List Update} {ps : List Place} {steady held values : List ℕ}
+    {memories : List (List ℕ)} (s : Simulates d c pr us ps steady held values memories) where
   -- the module that is run in place of the flat one
   abbrev pub run : Module
   run = with_lists s.flat s.assigns us
-
-  run_outer : (sh : Shape) → outer_of sh run ≡ outer_of sh s.flat
-  run_outer sh = outer_same_ports s.flat run sh refl
 
   -- what the one says the other says
   evaluated_flat :
@@ -157,7 +158,8 @@ module _ {d : Design} {c : Counts} {pr : Program} {us : List Update} {ps : List 
 
   stepped_flat :
       (reset : Bool) (offers : List Offer) (accepts holds : List Bool) (new later : List ℕ) (memories' : List (List ℕ))
-      → IsStepped run c reset steady offers accepts holds held memories new later memories' → IsStepped s.flat c reset steady offers accepts holds held memories new later memories'
+      → IsStepped run c reset steady offers accepts holds held memories new later memories'
+      → IsStepped s.flat c reset steady offers accepts holds held memories new later memories'
   stepped_flat reset offers accepts holds new later memories' e =
       record {
         values = e.values;
@@ -169,32 +171,45 @@ module _ {d : Design} {c : Counts} {pr : Program} {us : List Update} {ps : List 
   pub top_is : (m : Module) → top_of d ≡ Some m → s.is_flat.top ≡ m
   top_is m e = let f = s.is_flat.is_top in cc
 
-  is_outer : outer_of s.simulable.shape s.is_flat.top ≡ outer_top d c
-  is_outer = top_outer d s.is_flat.top c s.simulable.shape s.is_flat.is_top s.simulable.counts
+  -- the nets of the outer ports are the same in the flat module
+  nets_flat : outer_of (shape_of c) s.flat ≡ nets_of c
+  nets_flat = outer_same_ports s.is_flat.top s.flat (shape_of c) (ports_flat d s.accepted s.is_flat) ∙ sym s.has.nets
 
   pub ready_at :
-      (ports' : List Port) (us' : List Update) (steady' held' values' : List ℕ) (memories' : List (List ℕ)) (offers : List Offer) (m : Module)
-      → top_of d ≡ Some m → ports' ≡ m.ports → us' ≡ us → steady' ≡ steady → held' ≡ held → values' ≡ values → memories' ≡ memories → AreOffered m (outer_top d c) offers
-      → IsReady run ports' us' c steady' offers held' values' memories'
-  ready_at ports' us' steady' held' values' memories' offers m e pe ue se he ve me o =
-      let q = top_is m e in
-      let o' : AreOffered s.is_flat.top (outer_of (unnamed c) s.is_flat.top) offers =
-      subst (λ (u : Outer). AreOffered s.is_flat.top u offers) (ap (λ t. outer_at t c) s.is_flat.is_top) (subst (λ (x : Module). AreOffered x (outer_top d c) offers) (sym q) o) in
+      (us' : List Update) (steady' held' values' : List ℕ) (memories' : List (List ℕ)) (offers : List Offer)
+      → us' ≡ us → steady' ≡ steady → held' ≡ held → values' ≡ values → memories' ≡ memories
+      → ((m : Module) → top_of d ≡ Some m → AreOffered m (nets_of c) offers)
+      → IsReady run us' c steady' offers held' values' memories'
+  ready_at us' steady' held' values' memories' offers ue se he ve me o =
+      let o' : AreOffered s.is_flat.top (outer_of (shape_of c) s.is_flat.top) offers = subst
+      (λ (u : Outer). AreOffered s.is_flat.top u offers) s.has.nets (o s.is_flat.top s.is_flat.is_top) in
       record {
         simulable = s.simulable;
-        ports_are = pe ∙ ap (λ (x : Module). x.ports) (sym q) ∙ sym (ports_flat d s.accepted s.is_flat);
         updates_are = ue;
         kept = kept_back run c steady steady' held held' values values' memories memories' s.kept (sym se) (sym he) (sym ve) (sym me);
-        offered = subst (λ (u : Outer). AreOffered run u offers) (sym (run_outer (unnamed c))) (offered_flat d s.accepted s.is_flat (unnamed c) offers o');
+        offered = subst (λ (u : Outer). AreOffered run u offers) nets_flat (offered_flat d s.accepted s.is_flat (shape_of c) offers o');
       }
 
   -- the same simulator with other words
-  pub kept_on : (steady' held' values' : List ℕ) (memories' : List (List ℕ)) → AreKept run c steady' held' values' memories' → Simulates d c pr us ps steady' held' values' memories'
+  pub kept_on : (steady' held' values' : List ℕ) (memories' : List (List ℕ))
+      → AreKept run c steady' held' values' memories' → Simulates d c pr us ps steady' held' values' memories'
   kept_on steady' held' values' memories' k =
-      record { accepted = s.accepted; flat = s.flat; is_flat = s.is_flat; assigns = s.assigns; stand = s.stand; simulable = s.simulable; program = s.program; has = s.has; kept = k }
+      record {
+        accepted = s.accepted;
+        flat = s.flat;
+        is_flat = s.is_flat;
+        assigns = s.assigns;
+        stand = s.stand;
+        simulable = s.simulable;
+        program = s.program;
+        has = s.has;
+        kept = k;
+      }
 
   -- words may be set at a port that keeps one value
-  pub set_kept : (k x : ℕ) → k < length steady → ((m : Module) → top_of d ≡ Some m → x < 2 ^ width_of m (get_or (outer_top d c).steady k 0)) → Simulates d c pr us ps (set steady k x) held values memories
+  pub set_kept : (k x : ℕ) → k < length steady → ((m : Module) → top_of d ≡ Some m
+      → x < 2 ^ width_of m (get_or (nets_of c).steady k 0))
+      → Simulates d c pr us ps (set steady k x) held values memories
   set_kept k x lt fits =
       kept_on (set steady k x) held values memories
       (record {
@@ -205,21 +220,22 @@ module _ {d : Design} {c : Counts} {pr : Program} {us : List Update} {ps : List 
         loaded = s.kept.loaded;
         constant = s.kept.constant;
         steady_ports = length-set steady k x ∙ s.kept.steady_ports;
-        steady_words = λ j less. ⊎_elim (λ e. here j e) (λ ne. subst (λ (y : ℕ). y < 2 ^ width_of run (get_or (outer_of (unnamed c) run).steady j 0)) (sym (get_or-set_other steady k j x 0 ne)) (s.kept.steady_words j (omega (arith, less, length-set steady k x)))) (cases_eq j k);
+        steady_words = λ j less. ⊎_elim (λ e. here j e) (λ ne. subst
+            (λ (y : ℕ). y < 2 ^ width_of run (get_or (nets_of c).steady j 0))
+            (sym (get_or-set_other steady k j x 0 ne)) (s.kept.steady_words j
+            (omega (arith, less, length-set steady k x)))) (cases_eq j k);
       })
     where
-      fits_flat : x < 2 ^ width_of s.flat (get_or (outer_of (unnamed c) s.flat).steady k 0)
-      fits_flat =
-          subst (λ (w : ℕ). x < 2 ^ w) (sym (steady_flat d s.accepted s.is_flat (unnamed c) k))
-          (subst (λ (o : Outer). x < 2 ^ width_of s.is_flat.top (get_or o.steady k 0)) (ap (λ o. outer_at o c) s.is_flat.is_top) (fits s.is_flat.top s.is_flat.is_top))
+      fits_run : x < 2 ^ width_of run (get_or (nets_of c).steady k 0)
+      fits_run =
+          subst (λ (o : Outer). x < 2 ^ width_of s.flat (get_or o.steady k 0)) nets_flat
+          (subst (λ (w : ℕ). x < 2 ^ w) (sym (steady_flat d s.accepted s.is_flat (shape_of c) k))
+          (subst (λ (o : Outer). x < 2 ^ width_of s.is_flat.top (get_or o.steady k 0)) s.has.nets (fits s.is_flat.top s.is_flat.is_top)))
 
-      fits_run : x < 2 ^ width_of run (get_or (outer_of (unnamed c) run).steady k 0)
-      fits_run = subst (λ (o : Outer). x < 2 ^ width_of run (get_or o.steady k 0)) (sym (run_outer (unnamed c))) fits_flat
-
-      here : (j : ℕ) → j ≡ k → get_or (set steady k x) j 0 < 2 ^ width_of run (get_or (outer_of (unnamed c) run).steady j 0)
+      here : (j : ℕ) → j ≡ k → get_or (set steady k x) j 0 < 2 ^ width_of run (get_or (nets_of c).steady j 0)
       here j e =
-          subst (λ (i : ℕ). get_or (set steady k x) i 0 < 2 ^ width_of run (get_or (outer_of (unnamed c) run).steady i 0)) (sym e)
-          (subst (λ (y : ℕ). y < 2 ^ width_of run (get_or (outer_of (unnamed c) run).steady k 0)) (sym (get_or-set_same steady k x 0 lt)) fits_run)
+          subst (λ (i : ℕ). get_or (set steady k x) i 0 < 2 ^ width_of run (get_or (nets_of c).steady i 0)) (sym e)
+          (subst (λ (y : ℕ). y < 2 ^ width_of run (get_or (nets_of c).steady k 0)) (sym (get_or-set_same steady k x 0 lt)) fits_run)
 
   -- the value of a port is that of the flat module
   own_at : (v : Family) (k : ℕ) → v (net_at s.is_flat.top k) ≡ families_of s.is_flat.top ps v [] (net_at s.is_flat.top k)
@@ -228,123 +244,200 @@ module _ {d : Design} {c : Counts} {pr : Program} {us : List Update} {ps : List 
   held_is : (h : List ℕ) (ms : List (List ℕ)) → contents (state d c ps steady h ms) ≡ contents_by_path (Some s.is_flat.top) ps (contents_of h ms)
   held_is h ms = parts_say (top_of d) ps h ms ∙ ap (λ o. contents_by_path o ps (contents_of h ms)) s.is_flat.is_top
 
+  -- what is given to the flat module is given to the top one
+  given_top :
+      (reset : Bool) (offers : List Offer) (accepts holds : List Bool) (new : List ℕ)
+      → AreGiven c reset steady offers accepts holds new → Told (families_of s.is_flat.top ps (family_of new) []) (gifts c reset steady offers accepts holds)
+  given_top reset offers accepts holds new given =
+      every_both (λ g lt e. whole_own d s.accepted s.is_flat (family_of new) g.0 lt ∙ e) (gifts c reset steady offers accepts holds) nets given
+    where
+      nets : Every (λ (g : ℕ × ℕ). g.0 < length s.is_flat.top.nets) (gifts c reset steady offers accepts holds)
+      nets =
+          rising_within s.is_flat.top.ports (length s.is_flat.top.nets)
+          (λ k p at. (let e : net_at s.is_flat.top k ≡ p.net = ap port_net at in subst
+          (λ (n : ℕ). n < length s.is_flat.top.nets) e (net_in d s.accepted s.is_flat k)))
+          (gifts_rise s.is_flat.top c s.has reset steady offers accepts holds)
+
   settled_is :
       (reset : Bool) (offers offers' : List Offer) (accepts accepts' holds holds' : List Bool) (new : List ℕ)
-      → length offers' ≡ length (outer_top d c).inputs → length accepts' ≡ length (outer_top d c).outputs → length holds' ≡ length (outer_top d c).holds
+      → length offers' ≡ length (nets_of c).inputs → length accepts' ≡ length (nets_of c).outputs → length holds' ≡ length (nets_of c).holds
       → SaysSame offers offers' accepts accepts' holds holds'
       → IsEvaluated s.flat c reset steady offers accepts holds held memories new
       → Settled s.is_flat.top (state d c ps steady held memories) reset offers' accepts' holds' (families_of s.is_flat.top ps (family_of new))
   settled_is reset offers offers' accepts accepts' holds holds' new lo la lh same done =
       record {
-        fits = subst (λ (u : AllContents). FitsFlat d s.is_flat.top u (families_of s.is_flat.top ps (family_of new))) (sym (held_is held memories)) (whole_fits d s.accepted s.is_flat (contents_of held memories) (family_of new) done.fits);
-        given = subst (λ (o : Outer). Given o reset steady offers' accepts' holds' (families_of s.is_flat.top ps (family_of new) [])) is_outer
-            (given_of s.is_flat.top c s.simulable.shape reset steady offers offers' accepts accepts' holds holds' (families_of s.is_flat.top ps (family_of new) []) s.has s.simulable.counts s.kept.steady_ports
-            (lo ∙ ap (λ (o : Outer). length o.inputs) (sym is_outer)) (la ∙ ap (λ (o : Outer). length o.outputs) (sym is_outer)) (lh ∙ ap (λ (o : Outer). length o.holds) (sym is_outer)) same given);
+        fits = subst (λ (u : AllContents). FitsFlat d s.is_flat.top u (families_of s.is_flat.top ps (family_of new)))
+            (sym (held_is held memories)) (whole_fits d s.accepted s.is_flat (contents_of held memories)
+            (family_of new) done.fits);
+        given = given_told (families_of s.is_flat.top ps (family_of new) []) c reset steady offers offers' accepts
+            accepts' holds holds' s.kept.steady_ports (lo ∙ length-map c.inputs stream_channel)
+            (la ∙ length-map c.outputs stream_channel)
+            (lh ∙ length-map c.kernels (λ (k : KernelPorts). k.hold)) same (given_top reset offers accepts holds new done.given);
       }
-    where
-      given : (i : ℕ) (p : Port) → slice_get s.is_flat.top.ports i ≡ Some p → p.output ≡ false → IsGiven c reset steady offers accepts holds i (families_of s.is_flat.top ps (family_of new) [] p.net)
-      given i p at out =
-          let here : net_at s.is_flat.top i ≡ p.net = ap port_net at in
-          subst (λ (n : ℕ). IsGiven c reset steady offers accepts holds i (families_of s.is_flat.top ps (family_of new) [] n)) here
-          (subst (IsGiven c reset steady offers accepts holds i) (own_at (family_of new) i)
-          (subst (λ (n : ℕ). IsGiven c reset steady offers accepts holds i (family_of new n)) (sym here)
-          (done.given i p (ap (λ (l : List Port). slice_get l i) (ports_flat d s.accepted s.is_flat) ∙ at) out)))
 
   after_state :
       (held' new : List ℕ) (memories' : List (List ℕ))
       → contents_of held' memories' ≡ after_edge s.flat (contents_of held memories) (family_of new)
-      → contents (state d c ps steady held' memories') ≡ after_flat d s.is_flat.top (contents (state d c ps steady held memories)) (families_of s.is_flat.top ps (family_of new))
+      → contents (state d c ps steady held' memories') ≡ after_flat d s.is_flat.top
+      (contents (state d c ps steady held memories)) (families_of s.is_flat.top ps (family_of new))
   after_state held' new memories' after =
       held_is held' memories'
       ∙ ap (contents_by_path (Some s.is_flat.top) ps) after
       ∙ whole_after d s.accepted s.is_flat (contents_of held memories) (family_of new)
       ∙ ap (λ (u : AllContents). after_flat d s.is_flat.top u (families_of s.is_flat.top ps (family_of new))) (sym (held_is held memories))
 
-  event_same : (v : Family) (k : ℕ) → event_of v (channel_of s.is_flat.top.ports k) ≡ event_of (families_of s.is_flat.top ps v []) (channel_of s.is_flat.top.ports k)
-  event_same v k =
-      ap (λ x. event_made (eqb x 1 && eqb (v (net_at s.is_flat.top (k + 2))) 1) (v (net_at s.is_flat.top k))) (own_at v (k + 1))
-      ∙ ap (λ x. event_made (eqb (families_of s.is_flat.top ps v [] (net_at s.is_flat.top (k + 1))) 1 && eqb x 1) (v (net_at s.is_flat.top k))) (own_at v (k + 2))
-      ∙ ap (λ x. event_made (eqb (families_of s.is_flat.top ps v [] (net_at s.is_flat.top (k + 1))) 1 && eqb (families_of s.is_flat.top ps v [] (net_at s.is_flat.top (k + 2))) 1) x) (own_at v k)
+  -- where the ports of a stream stand
+  ports_many : length s.is_flat.top.ports ≡ 2 + 2 * length c.kernels + length c.scalars + 3 * length c.inputs + 3 * length c.outputs + 1
+  ports_many =
+      let size = length_shape (shape_of c) in
+      let views = ap length s.has.shape in
+      omega (
+        arith,
+        size,
+        views,
+        length-map s.is_flat.top.ports (port_view s.is_flat.top),
+        length-map c.kernels
+            (λ (k : KernelPorts). k.name),
+        length-map c.scalars scalar_shape,
+        length-map c.inputs stream_shape,
+        length-map c.outputs stream_shape,
+      )
 
-  -- the ports of the top module, as many as were counted
-  pub ports_counted : (m : Module) → top_of d ≡ Some m → port_count c ≡ length m.ports
-  ports_counted m e = s.simulable.counted ∙ ap length (ports_flat d s.accepted s.is_flat) ∙ ap (λ (x : Module). length x.ports) (top_is m e)
+  stream_place : (k : ℕ) (x : StreamPorts) → slice_get (c.inputs ++ c.outputs) k ≡ Some x → (j : ℕ)
+      × (stream_channel x ≡ channel_at s.is_flat.top j) × (j + 2 < length s.is_flat.top.ports)
+  stream_place k x at =
+      let ks = length-map c.kernels (λ (y : KernelPorts). y.name) in
+      let ss = length-map c.scalars scalar_shape in
+      let xs = length-map c.inputs stream_shape in
+      ⊎_elim
+      (λ f. (
+        first_input (shape_of c) + 3 * f.0,
+        input_net s.is_flat.top c s.has f.0 x f.1,
+        omega
+            (arith, ports_many, slice_get_within c.inputs f.0 x f.1, ks, ss),
+      ))
+      (λ f. (
+        first_output (shape_of c) + 3 * f.0,
+        output_net s.is_flat.top c s.has f.0 x f.1,
+        omega
+            (arith, ports_many, slice_get_within c.outputs f.0 x f.1, ks, ss, xs),
+      ))
+      (in_streams c.inputs c.outputs k x at)
 
-  -- as many streams as were counted
-  pub streams_counted : length (outer_top d c).inputs + length (outer_top d c).outputs ≡ c.inputs + c.outputs
-  streams_counted =
-      let n = s.simulable.counts in
-      let sh = s.simulable.shape in
-      subst (λ (o : Outer). length o.inputs + length o.outputs ≡ c.inputs + c.outputs) is_outer
-      (omega (arith, length_channels s.is_flat.top (first_input sh) sh.inputs, length_channels s.is_flat.top (first_output sh) sh.outputs, n.inputs, n.outputs))
+  none : Port
+  none = record { net = 0; output = false }
 
-  -- the ports of a stream that is counted
-  within : (events : List Event) (k : ℕ) → length events ≡ length (outer_top d c).inputs + length (outer_top d c).outputs → k < length events → first_channel c + 3 * k + 2 < length s.is_flat.top.ports
-  within events k size lt = omega (arith, lt, size, streams_counted, ports_counted s.is_flat.top s.is_flat.is_top)
+  -- the nets of the ports have values
+  pub nets_within : (values' : List ℕ) → length values' ≡ length s.flat.nets → (k : ℕ) (x : StreamPorts)
+      → slice_get (c.inputs ++ c.outputs) k ≡ Some x → AreNetsOf (length values') x
+  nets_within values' len k x at =
+      let q = stream_place k x at in
+      let lt = q.2 in (
+        subst (λ (n : ℕ). n < length values') (sym (ap (λ (y : Channel). y.word) q.1)) (below q.0 (omega (arith, lt))),
+        subst (λ (n : ℕ). n < length values') (sym (ap (λ (y : Channel). y.valid) q.1)) (below (q.0 + 1) (omega (arith, lt))),
+        subst (λ (n : ℕ). n < length values') (sym (ap (λ (y : Channel). y.ready) q.1)) (below (q.0 + 2) lt),
+      )
+    where
+      below : (j : ℕ) → j < length s.is_flat.top.ports → net_at s.is_flat.top j < length values'
+      below j lt =
+          let p = get_or s.is_flat.top.ports j none in
+          let at : slice_get s.is_flat.top.ports j ≡ Some p = slice_get-get_or s.is_flat.top.ports j none lt in
+          let here : slice_get s.flat.ports j ≡ Some p = ap (λ (l : List Port). slice_get l j) (ports_flat d s.accepted s.is_flat) ∙ at in
+          let e : net_at s.is_flat.top j ≡ p.net = ap port_net at in
+          let less = (s.simulable.formed j p here).net in
+          omega (arith, e, less, len)
+
+  -- as many streams as events
+  pub streams_counted : (events : List Event) → length events ≡ length (nets_of c).inputs + length (nets_of c).outputs
+      → length events ≡ length c.inputs + length c.outputs
+  streams_counted events size = omega (arith, size, length-map c.inputs stream_channel, length-map c.outputs stream_channel)
 
   edge_at :
       (offers : List Offer) (accepts holds : List Bool) (held' new : List ℕ) (memories' : List (List ℕ)) (events : List Event)
-      → length offers ≡ length (outer_top d c).inputs → length accepts ≡ length (outer_top d c).outputs → length holds ≡ length (outer_top d c).holds
+      → length offers ≡ length (nets_of c).inputs → length accepts ≡ length (nets_of c).outputs → length holds ≡ length (nets_of c).holds
       → IsStepped s.flat c false steady offers accepts holds held memories new held' memories'
-      → length events ≡ length (outer_top d c).inputs + length (outer_top d c).outputs
-      → ((k : ℕ) (e : Event) → slice_get events k ≡ Some e → e ≡ event_of (family_of new) (channel_of s.is_flat.top.ports (first_channel c + 3 * k)))
+      → length events ≡ length (nets_of c).inputs + length (nets_of c).outputs
+      → ((k : ℕ) (x : StreamPorts) (e : Event) → slice_get (c.inputs ++ c.outputs) k ≡ Some x
+      → slice_get events k ≡ Some e → e ≡ event_of (family_of new) (stream_channel x))
       → IsEdge s.is_flat.top offers accepts holds (state d c ps steady held memories) (state d c ps steady held' memories') events
   edge_at offers accepts holds held' new memories' events lo la lh step size told =
       record {
         family = families_of s.is_flat.top ps (family_of step.values);
         settled = settled_is false offers offers accepts accepts holds holds step.values lo la lh (same_said offers accepts holds) step.evaluated;
         after = after_state held' step.values memories' step.after;
-        events_are = subst (λ (o : Outer). events ≡ map (event_of (families_of s.is_flat.top ps (family_of step.values) [])) (o.inputs ++ o.outputs)) is_outer
-            (events_are s.is_flat.top c s.simulable.shape (families_of s.is_flat.top ps (family_of step.values) []) events s.simulable.counts (subst (λ (o : Outer). length events ≡ length o.inputs + length o.outputs) (sym is_outer) size)
-            (λ k e at. told k e at ∙ event_at_ports new step.values s.is_flat.top.ports (first_channel c + 3 * k) (λ i p at'. step.ports i p (ap (λ (l : List Port). slice_get l i) (ports_flat d s.accepted s.is_flat) ∙ at')) (within events k size (slice_get_within events k e at)) ∙ event_same (family_of step.values) (first_channel c + 3 * k)));
+        events_are = all_told top (c.inputs ++ c.outputs) events
+            (streams_counted events size ∙ sym (length_both c.inputs c.outputs)) seen
+            ∙ map_both (event_of top) stream_channel c.inputs c.outputs;
       }
+    where
+      top : Family
+      top = families_of s.is_flat.top ps (family_of step.values) []
+
+      at_port : (j : ℕ) → j < length s.is_flat.top.ports → get_or new (net_at s.is_flat.top j) 0 ≡ families_of
+          s.is_flat.top ps (family_of step.values) [] (net_at s.is_flat.top j)
+      at_port j lt =
+          let p = get_or s.is_flat.top.ports j none in
+          let at : slice_get s.is_flat.top.ports j ≡ Some p = slice_get-get_or s.is_flat.top.ports j none lt in
+          let here : slice_get s.flat.ports j ≡ Some p = ap (λ (l : List Port). slice_get l j) (ports_flat d s.accepted s.is_flat) ∙ at in
+          let e : net_at s.is_flat.top j ≡ p.net = ap port_net at in
+          ap (family_of new) e ∙ step.ports j p here ∙ ap (family_of step.values) (sym e) ∙ own_at (family_of step.values) j
+
+      seen : (k : ℕ) (x : StreamPorts) (e : Event) → slice_get (c.inputs ++ c.outputs) k ≡ Some x
+          → slice_get events k ≡ Some e → e ≡ event_of (families_of s.is_flat.top ps (family_of step.values) [])
+          (stream_channel x)
+      seen k x e at is =
+          let q = stream_place k x at in
+          let v = families_of s.is_flat.top ps (family_of step.values) [] in
+          told k x e at is ∙ ap (event_of (family_of new)) q.1 ∙ event_at_ports (family_of new) v s.is_flat.top q.0 at_port q.2 ∙ sym (ap (event_of v) q.1)
 
   pub edge_is :
       (m : Module) (offers : List Offer) (accepts holds : List Bool) (held' new : List ℕ) (memories' : List (List ℕ)) (events : List Event)
       → top_of d ≡ Some m
-      → length offers ≡ length (outer_top d c).inputs → length accepts ≡ length (outer_top d c).outputs → length holds ≡ length (outer_top d c).holds
+      → length offers ≡ length (nets_of c).inputs → length accepts ≡ length (nets_of c).outputs → length holds ≡ length (nets_of c).holds
       → IsStepped run c false steady offers accepts holds held memories new held' memories'
-      → length events ≡ length (outer_top d c).inputs + length (outer_top d c).outputs
-      → ((k : ℕ) (e : Event) → slice_get events k ≡ Some e → e ≡ event_of (family_of new) (channel_of m.ports (first_channel c + 3 * k)))
+      → length events ≡ length (nets_of c).inputs + length (nets_of c).outputs
+      → ((k : ℕ) (x : StreamPorts) (e : Event) → slice_get (c.inputs ++ c.outputs) k ≡ Some x
+      → slice_get events k ≡ Some e → e ≡ event_of (family_of new) (stream_channel x))
       → IsEdge m offers accepts holds (state d c ps steady held memories) (state d c ps steady held' memories') events
   edge_is m offers accepts holds held' new memories' events e lo la lh step size told =
-      let q = top_is m e in
-      subst (λ (x : Module). IsEdge x offers accepts holds (state d c ps steady held memories) (state d c ps steady held' memories') events) q
-      (edge_at offers accepts holds held' new memories' events lo la lh (stepped_flat false offers accepts holds new held' memories' step) size
-      (subst (λ (x : Module). (k : ℕ) (e : Event) → slice_get events k ≡ Some e → e ≡ event_of (family_of new) (channel_of x.ports (first_channel c + 3 * k))) (sym q) told))
+      subst (λ (x : Module). IsEdge x offers accepts holds (state d c ps steady held memories) (state d c ps steady held' memories') events) (top_is m e)
+      (edge_at offers accepts holds held' new memories' events lo la lh (stepped_flat false offers accepts holds new held' memories' step) size told)
 
-  settled_alone : (reset : Bool) (new : List ℕ) → IsEvaluated s.flat c reset steady [] [] [] held memories new → SettledAlone s.is_flat.top (state d c ps steady held memories) reset (families_of s.is_flat.top ps (family_of new))
+  settled_alone : (reset : Bool) (new : List ℕ) → IsEvaluated s.flat c reset steady [] [] [] held memories new
+      → SettledAlone s.is_flat.top (state d c ps steady held memories) reset
+      (families_of s.is_flat.top ps (family_of new))
   settled_alone reset new done =
-      settled_is reset [] _ [] _ [] _ new (length-map (outer_top d c).inputs (λ (x : Channel). nothing)) (length-map (outer_top d c).outputs (λ (x : Channel). false)) (length-map (outer_top d c).holds (λ (n : ℕ). false)) (none_said (outer_top d c)) done
+      settled_is reset [] _ [] _ [] _ new (length-map (nets_of c).inputs (λ (x : Channel). nothing))
+      (length-map (nets_of c).outputs (λ (x : Channel). false)) (length-map (nets_of c).holds (λ (n : ℕ). false))
+      (none_said (nets_of c)) done
 
-  pub reset_is : (m : Module) (held' new : List ℕ) (memories' : List (List ℕ)) → top_of d ≡ Some m → IsStepped run c true steady [] [] [] held memories new held' memories' → IsResetEdge m (state d c ps steady held memories) (state d c ps steady held' memories')
+  pub reset_is : (m : Module) (held' new : List ℕ) (memories' : List (List ℕ)) → top_of d ≡ Some m
+      → IsStepped run c true steady [] [] [] held memories new held' memories'
+      → IsResetEdge m (state d c ps steady held memories) (state d c ps steady held' memories')
   reset_is m held' new memories' e st =
       let step = stepped_flat true [] [] [] new held' memories' st in
       subst (λ (x : Module). IsResetEdge x (state d c ps steady held memories) (state d c ps steady held' memories')) (top_is m e)
-      (record { family = families_of s.is_flat.top ps (family_of step.values); settled = settled_alone true step.values step.evaluated; after = after_state held' step.values memories' step.after })
+      (record {
+        family = families_of s.is_flat.top ps (family_of step.values);
+        settled = settled_alone true step.values
+            step.evaluated;
+        after = after_state held' step.values memories' step.after;
+      })
 
-  done_at : (new : List ℕ) (answer : Bool) → IsEvaluated s.flat c false steady [] [] [] held memories new → answer ≡ eqb (get_or new (port_net (slice_get s.is_flat.top.ports (length s.is_flat.top.ports - 1))) 0) 1 → IsDone s.is_flat.top (state d c ps steady held memories) answer
+  done_at : (new : List ℕ) (answer : Bool) → IsEvaluated s.flat c false steady [] [] [] held memories new
+      → answer ≡ eqb (get_or new c.done 0) 1 → IsDone s.is_flat.top (state d c ps steady held memories) answer
   done_at new answer done is =
       record {
         family = families_of s.is_flat.top ps (family_of new);
         settled = settled_alone false new done;
-        answer_is = is ∙ ap (λ n. eqb n 1) (own_at (family_of new) (length s.is_flat.top.ports - 1)) ∙ ap (λ n. eqb (families_of s.is_flat.top ps (family_of new) [] n) 1) last;
+        answer_is = is ∙ ap (λ n. eqb n 1) (subst (λ (n : ℕ). family_of new n ≡ families_of s.is_flat.top ps
+            (family_of new) [] n) (sym (ap (λ (o : Outer). o.done) s.has.nets))
+            (own_at (family_of new) (done_port (shape_of c))));
       }
-    where
-      place : length s.is_flat.top.ports - 1 ≡ done_port s.simulable.shape
-      place = (let n = s.simulable.counts in omega (arith, ports_counted s.is_flat.top s.is_flat.is_top, n.kernels, n.scalars, n.inputs, n.outputs))
 
-      last : net_at s.is_flat.top (length s.is_flat.top.ports - 1) ≡ (outer_top d c).done
-      last = ap (net_at s.is_flat.top) place ∙ ap (λ (o : Outer). o.done) is_outer
-
-  pub done_is : (m : Module) (new : List ℕ) (answer : Bool) → top_of d ≡ Some m → IsEvaluated run c false steady [] [] [] held memories new → answer ≡ eqb (get_or new (port_net (slice_get m.ports (length m.ports - 1))) 0) 1 → IsDone m (state d c ps steady held memories) answer
+  pub done_is : (m : Module) (new : List ℕ) (answer : Bool) → top_of d ≡ Some m
+      → IsEvaluated run c false steady [] [] [] held memories new → answer ≡ eqb (get_or new c.done 0) 1
+      → IsDone m (state d c ps steady held memories) answer
   done_is m new answer e done is =
-      let q = top_is m e in
-      subst (λ (x : Module). IsDone x (state d c ps steady held memories) answer) q
-      (done_at new answer (evaluated_flat false steady [] [] [] held memories new done) (subst (λ (x : Module). answer ≡ eqb (get_or new (port_net (slice_get x.ports (length x.ports - 1))) 0) 1) (sym q) is))
-
-  -- the nets of the ports have values
-  pub nets_within : (m : Module) (ports : List Port) (values' : List ℕ) → top_of d ≡ Some m → ports ≡ m.ports → length values' ≡ length s.flat.nets → (i : ℕ) (q : Port) → slice_get ports i ≡ Some q → q.net < length values'
-  nets_within m ports values' e same len i q at =
-      let at' : slice_get s.flat.ports i ≡ Some q = ap (λ (l : List Port). slice_get l i) (ports_flat d s.accepted s.is_flat ∙ ap (λ (x : Module). x.ports) (top_is m e) ∙ sym same) ∙ at in
-      omega (arith, (s.simulable.formed i q at').net, len)
+      subst (λ (x : Module). IsDone x (state d c ps steady held memories) answer) (top_is m e)
+      (done_at new answer (evaluated_flat false steady [] [] [] held memories new done) is)

@@ -8,7 +8,6 @@ pub mod Driving
 pub mod Compiling
 pub mod Batching
 pub mod Levelling
-pub mod Driven
 pub mod Shapes
 pub mod Evaluated
 pub mod Marking
@@ -20,7 +19,6 @@ pub mod Alone
 pub mod Outer
 pub mod Edges
 pub mod Starting
-pub mod Counting
 pub mod Cutting
 pub mod CutEdges
 pub mod Sitting
@@ -45,5 +43,7 @@ pub mod Rising
 pub mod Facing
 pub mod Told
 pub mod GiftSteps
+pub mod Gifting
+pub mod Counting
 pub mod CellSums
 pub mod Origins

@@ -1,5 +1,5 @@
 -- What the lists of parts say by paths is what the flat module says.
-use Rattle.std.proofs.Common.{◌≡◌, ◌≢◌, ℕ, ◌+◌, ◌-◌, ◌<◌, ◌≤◌, Bool, true, false, cond, ◌&&◌, eqb, ltb, List, [], ◌∷◌, ◌++◌, length, take, drop, get_or, Option, Some, None, refl, sym, ap, ◌∙◌, arith, ⊎_elim}
+use Rattle.std.proofs.Common.{◌≡◌, ℕ, ◌+◌, ◌-◌, ◌<◌, ◌≤◌, Bool, true, false, cond, ◌&&◌, eqb, ltb, List, [], ◌∷◌, ◌++◌, length, take, drop, get_or, Option, Some, None, refl, sym, ap, ◌∙◌, arith, ⊎_elim}
 use mathlib.Core.Path.{fun_ext}
 use Rattle.std.proofs.lemmas.Bool.{cases_eq, cases_lt, lt-ltb, le-ltb, ltb-true, ltb-false, eq-eqb, ne_eqb}
 use Rattle.std.proofs.lemmas.List.{get_or-take, get_or-drop, get_or_past, length-take}
@@ -23,10 +23,13 @@ get_cut first count xs i d = by_test (ltb i count) refl
 abbrev made : (ℕ → ℕ) → (ℕ → ℕ → ℕ) → Contents
 made regs cells = record { regs = regs; cells = cells }
 
-contents_cut : (f n g m : ℕ) (regs : List ℕ) (cells : List (List ℕ)) → contents_of (cut_list f n regs) (cut_list g m cells) ≡ cut_contents f n g m (contents_of regs cells)
+contents_cut : (f n g m : ℕ) (regs : List ℕ) (cells : List (List ℕ))
+    → contents_of (cut_list f n regs) (cut_list g m cells) ≡ cut_contents f n g m (contents_of regs cells)
 contents_cut f n g m regs cells =
     ap (λ r. made r (λ k a. get_or (get_or (cut_list g m cells) k []) a 0)) (fun_ext (λ i. get_cut f n regs i 0))
-    ∙ ap (made (λ i. cond (ltb i n) (get_or regs (f + i) 0) 0)) (fun_ext (λ k. fun_ext (λ a. ap (λ (l : List ℕ). get_or l a 0) (get_cut g m cells k []) ∙ inside k a (ltb k m))))
+    ∙ ap (made (λ i. cond (ltb i n) (get_or regs (f + i) 0) 0))
+    (fun_ext (λ k. fun_ext (λ a. ap (λ (l : List ℕ). get_or l a 0) (get_cut g m cells k [])
+    ∙ inside k a (ltb k m))))
   where
     inside : (k a : ℕ) (b : Bool) → get_or (cond b (get_or cells (g + k) []) []) a 0 ≡ cond b (get_or (get_or cells (g + k) []) a 0) 0
     inside k a true = refl
@@ -115,11 +118,15 @@ module _ (s : Place) where
   front_at (x ∷ xs) = front_one x.path x.regs x.cells (parts_before s xs) xs (front_at xs)
 
   below_one :
-      (j : ℕ) (q : Path) → j < s.instance → (path : Path) (regs : List ℕ) (cells : List (List ℕ)) (rest xs : List PartContents) → held_at rest (j ∷ q) ≡ held_at xs (j ∷ q)
+      (j : ℕ) (q : Path) → j < s.instance → (path : Path) (regs : List ℕ) (cells : List (List ℕ))
+      (rest xs : List PartContents) → held_at rest (j ∷ q) ≡ held_at xs (j ∷ q)
       → held_at (split_at s path regs cells ++ rest) (j ∷ q) ≡ cond (is_path path (j ∷ q)) (contents_of regs cells) (held_at xs (j ∷ q))
   below_one j q lt [] regs cells rest xs e =
-      ap (λ b. cond (b && is_path [] q) (contents_of (cut_list s.first_net s.nets regs) (cut_list s.first_mem s.mems cells)) (held_at rest (j ∷ q))) (ne_eqb s.instance j (λ g. omega (arith, g, lt))) ∙ e
-  below_one j q lt (k ∷ p) regs cells rest xs e = chosen _ _ (contents_of regs cells) (held_at rest (j ∷ q)) (held_at xs (j ∷ q)) (path_below s.instance k p j q lt) e
+      ap (λ b. cond (b && is_path [] q) (contents_of (cut_list s.first_net s.nets regs)
+      (cut_list s.first_mem s.mems cells)) (held_at rest (j ∷ q)))
+      (ne_eqb s.instance j (λ g. omega (arith, g, lt))) ∙ e
+  below_one j q lt (k ∷ p) regs cells rest xs e = chosen _ _ (contents_of regs cells) (held_at rest (j ∷ q))
+      (held_at xs (j ∷ q)) (path_below s.instance k p j q lt) e
 
   below_at : (j : ℕ) (q : Path) → j < s.instance → (xs : List PartContents) → held_at (parts_before s xs) (j ∷ q) ≡ held_at xs (j ∷ q)
   below_at j q lt [] = refl
@@ -129,7 +136,8 @@ module _ (s : Place) where
       (path : Path) (regs : List ℕ) (cells : List (List ℕ)) (rest xs : List PartContents) → held_at rest (s.instance ∷ []) ≡ part_cut (held_at xs [])
       → held_at (split_at s path regs cells ++ rest) (s.instance ∷ []) ≡ part_cut (cond (is_path path []) (contents_of regs cells) (held_at xs []))
   part_one [] regs cells rest xs e =
-      ap (λ b. cond (b && true) (contents_of (cut_list s.first_net s.nets regs) (cut_list s.first_mem s.mems cells)) (held_at rest (s.instance ∷ []))) (eq-eqb s.instance s.instance refl)
+      ap (λ b. cond (b && true) (contents_of (cut_list s.first_net s.nets regs) (cut_list s.first_mem s.mems cells))
+      (held_at rest (s.instance ∷ []))) (eq-eqb s.instance s.instance refl)
       ∙ contents_cut s.first_net s.nets s.first_mem s.mems regs cells
   part_one (k ∷ p) regs cells rest xs e = ap (λ b. cond b (contents_of regs cells) (held_at rest (s.instance ∷ []))) (path_part s.instance k p) ∙ e
 
@@ -138,21 +146,28 @@ module _ (s : Place) where
   part_at (x ∷ xs) = part_one x.path x.regs x.cells (parts_before s xs) xs (part_at xs)
 
   within_one :
-      (j : ℕ) (r : Path) (path : Path) (regs : List ℕ) (cells : List (List ℕ)) (rest xs : List PartContents) → held_at rest (s.instance ∷ j ∷ r) ≡ held_at xs ((s.instance + j) ∷ r)
-      → held_at (split_at s path regs cells ++ rest) (s.instance ∷ j ∷ r) ≡ cond (is_path path ((s.instance + j) ∷ r)) (contents_of regs cells) (held_at xs ((s.instance + j) ∷ r))
+      (j : ℕ) (r : Path) (path : Path) (regs : List ℕ) (cells : List (List ℕ)) (rest xs : List PartContents)
+      → held_at rest (s.instance ∷ j ∷ r) ≡ held_at xs ((s.instance + j) ∷ r)
+      → held_at (split_at s path regs cells ++ rest) (s.instance ∷ j ∷ r) ≡ cond (is_path path ((s.instance + j) ∷ r))
+      (contents_of regs cells) (held_at xs ((s.instance + j) ∷ r))
   within_one j r [] regs cells rest xs e =
-      ap (λ b. cond b (contents_of (cut_list s.first_net s.nets regs) (cut_list s.first_mem s.mems cells)) (held_at rest (s.instance ∷ j ∷ r))) (and_false (eqb s.instance s.instance)) ∙ e
-  within_one j r (k ∷ p) regs cells rest xs e = chosen _ _ (contents_of regs cells) (held_at rest (s.instance ∷ j ∷ r)) (held_at xs ((s.instance + j) ∷ r)) (path_within s.instance k p j r) e
+      ap (λ b. cond b (contents_of (cut_list s.first_net s.nets regs) (cut_list s.first_mem s.mems cells))
+      (held_at rest (s.instance ∷ j ∷ r))) (and_false (eqb s.instance s.instance)) ∙ e
+  within_one j r (k ∷ p) regs cells rest xs e = chosen _ _ (contents_of regs cells) (held_at rest (s.instance ∷ j ∷ r))
+      (held_at xs ((s.instance + j) ∷ r)) (path_within s.instance k p j r) e
 
   within_at : (j : ℕ) (r : Path) (xs : List PartContents) → held_at (parts_before s xs) (s.instance ∷ j ∷ r) ≡ held_at xs ((s.instance + j) ∷ r)
   within_at j r [] = refl
   within_at j r (x ∷ xs) = within_one j r x.path x.regs x.cells (parts_before s xs) xs (within_at j r xs)
 
   above_one :
-      (j : ℕ) (q : Path) → s.instance < j → (path : Path) (regs : List ℕ) (cells : List (List ℕ)) (rest : List PartContents) → held_at rest (j ∷ q) ≡ no_contents
+      (j : ℕ) (q : Path) → s.instance < j → (path : Path) (regs : List ℕ) (cells : List (List ℕ))
+      (rest : List PartContents) → held_at rest (j ∷ q) ≡ no_contents
       → held_at (split_at s path regs cells ++ rest) (j ∷ q) ≡ no_contents
   above_one j q lt [] regs cells rest e =
-      ap (λ b. cond (b && is_path [] q) (contents_of (cut_list s.first_net s.nets regs) (cut_list s.first_mem s.mems cells)) (held_at rest (j ∷ q))) (ne_eqb s.instance j (λ g. omega (arith, g, lt))) ∙ e
+      ap (λ b. cond (b && is_path [] q) (contents_of (cut_list s.first_net s.nets regs)
+      (cut_list s.first_mem s.mems cells)) (held_at rest (j ∷ q)))
+      (ne_eqb s.instance j (λ g. omega (arith, g, lt))) ∙ e
   above_one j q lt (k ∷ p) regs cells rest e = ap (λ b. cond b (contents_of regs cells) (held_at rest (j ∷ q))) (path_above s.instance k p j q lt) ∙ e
 
   above_at : (j : ℕ) (q : Path) → s.instance < j → (xs : List PartContents) → held_at (parts_before s xs) (j ∷ q) ≡ no_contents
@@ -163,7 +178,8 @@ module _ (s : Place) where
   chosen_below : (k : ℕ) (a b c : Contents) → k < s.instance → a ≡ cond (ltb k s.instance) a (cond (eqb k s.instance) b c)
   chosen_below k a b c lt = sym (ap (λ t. cond t a (cond (eqb k s.instance) b c)) (lt-ltb k s.instance lt))
 
-  chosen_past : (k : ℕ) (a b c : Contents) → s.instance ≤ k → (t : Bool) → eqb k s.instance ≡ t → cond t b c ≡ cond (ltb k s.instance) a (cond (eqb k s.instance) b c)
+  chosen_past : (k : ℕ) (a b c : Contents) → s.instance ≤ k → (t : Bool) → eqb k s.instance ≡ t
+      → cond t b c ≡ cond (ltb k s.instance) a (cond (eqb k s.instance) b c)
   chosen_past k a b c ge t e = sym (ap (λ u. cond u a (cond (eqb k s.instance) b c)) (le-ltb k s.instance ge) ∙ ap (λ u. cond u b c) e)
 
   last_at : (xs : List PartContents) (r : Path) → held_at (parts_before s xs) (s.instance ∷ r) ≡ within_part s.instance part_cut (λ p. held_at xs p) r
@@ -176,7 +192,8 @@ module _ (s : Place) where
       let inner : Contents = within_part s.instance part_cut (λ p. held_at xs p) q in
       ⊎_elim (λ lt. below_at k q lt xs ∙ chosen_below k (held_at xs (k ∷ q)) inner no_contents lt)
       (λ ge. ⊎_elim
-      (λ e. ap (λ i. held_at (parts_before s xs) (i ∷ q)) e ∙ last_at xs q ∙ chosen_past k (held_at xs (k ∷ q)) inner no_contents ge true (eq-eqb k s.instance e))
+      (λ e. ap (λ i. held_at (parts_before s xs) (i ∷ q)) e ∙ last_at xs q
+      ∙ chosen_past k (held_at xs (k ∷ q)) inner no_contents ge true (eq-eqb k s.instance e))
       (λ ne. above_at k q (omega (arith, ge, ne)) xs ∙ chosen_past k (held_at xs (k ∷ q)) inner no_contents ge false (ne_eqb k s.instance ne))
       (cases_eq k s.instance))
       (cases_lt k s.instance)
@@ -189,7 +206,8 @@ first_at : (ss : List Place) (xs : List PartContents) → by_path (parts_first s
 first_at [] xs = refl
 first_at (s ∷ ss) xs = fun_ext (before_at s (parts_first ss xs)) ∙ ap (contents_before s) (first_at ss xs)
 
-alone_at : (held : List ℕ) (memories : List (List ℕ)) → by_path (record { path = []; regs = held; cells = memories } ∷ []) ≡ alone_contents (contents_of held memories)
+alone_at : (held : List ℕ) (memories : List (List ℕ)) → by_path
+    (record { path = []; regs = held; cells = memories } ∷ []) ≡ alone_contents (contents_of held memories)
 alone_at held memories = fun_ext at
   where
     at : (p : Path) → held_at (record { path = []; regs = held; cells = memories } ∷ []) p ≡ alone_contents (contents_of held memories) p
@@ -222,7 +240,8 @@ module _ (nets mems : ℕ) where
   tops_say xs (k ∷ q) = inner_is k q xs ∙ ap (λ i. held_at xs (i ∷ q)) (let e : k ≡ 0 + k = omega arith in e)
 
 -- the parts of a design say what its flat module says of them
-pub parts_say : (m : Option Module) (ss : List Place) (held : List ℕ) (memories : List (List ℕ)) → by_path (parts_of m ss held memories) ≡ contents_by_path m ss (contents_of held memories)
+pub parts_say : (m : Option Module) (ss : List Place) (held : List ℕ) (memories : List (List ℕ))
+    → by_path (parts_of m ss held memories) ≡ contents_by_path m ss (contents_of held memories)
 parts_say None ss held memories = refl
 parts_say (Some m) ss held memories =
     let flat : List PartContents = record { path = []; regs = held; cells = memories } ∷ [] in

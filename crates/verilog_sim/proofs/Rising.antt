@@ -7,8 +7,7 @@ use Rattle.rtl_ir.specs.declared.interface.ScalarPort.{ScalarPort}
 use Rattle.rtl_ir.specs.declared.interface.StreamPorts.{StreamPorts}
 use Rattle.rtl_ir.specs.Typed.{is_input}
 use Rattle.verilog_sim.specs.declared.offer.Offer.{Offer}
-use Rattle.verilog_sim.specs.Sources.{AreApart}
-use Rattle.verilog_sim.specs.Gifts.{Every, kernel_gifts, scalar_gifts, input_gifts, output_gifts}
+use Rattle.verilog_sim.specs.Gifts.{Every, AreApart, kernel_gifts, scalar_gifts, input_gifts, output_gifts}
 use Rattle.verilog_sim.proofs.Evaluated.{input_of}
 use Rattle.verilog_sim.proofs.Written.{Apart}
 
@@ -38,7 +37,8 @@ module _ (ports : List Port) where
   rising_append (next i e at r) s = next i e at (rising_append r s)
 
   -- another port has another net
-  others : (apart : AreApart ports) (k : ℕ) (p : Port) → slice_get ports k ≡ Some p → {a b : ℕ} {gs : List (ℕ × ℕ)} → k < a → Rising ports a gs b → Every (λ (h : ℕ × ℕ). h.0 ≢ p.net) gs
+  others : (apart : AreApart ports) (k : ℕ) (p : Port) → slice_get ports k ≡ Some p → {a b : ℕ} {gs : List (ℕ × ℕ)}
+      → k < a → Rising ports a gs b → Every (λ (h : ℕ × ℕ). h.0 ≢ p.net) gs
   others apart k p at lt (none e) = tt
   others apart k p at lt (next i e q r) = (
     (λ same. (let z : k ≡ i = apart k i p q.port at q.at (sym same ∙ sym q.net) in absurd (omega (arith, z, lt, e)))),
@@ -47,13 +47,18 @@ module _ (ports : List Port) where
 
   pub rising_apart : AreApart ports → {a b : ℕ} {gs : List (ℕ × ℕ)} → Rising ports a gs b → Apart gs
   rising_apart apart (none e) = tt
-  rising_apart apart (next {gs = gs} i e q r) = (subst (λ (n : ℕ). Every (λ (h : ℕ × ℕ). h.0 ≢ n) gs) q.net (others apart i q.port q.at (omega arith) r), rising_apart apart r)
+  rising_apart apart (next {gs = gs} i e q r) = (
+    subst (λ (n : ℕ). Every (λ (h : ℕ × ℕ). h.0 ≢ n) gs) q.net
+        (others apart i q.port q.at (omega arith) r),
+    rising_apart apart r,
+  )
 
   pub rising_inputs : {a b : ℕ} {gs : List (ℕ × ℕ)} → Rising ports a gs b → Every (λ (g : ℕ × ℕ). is_input ports g.0 ≡ true) gs
   rising_inputs (none e) = tt
   rising_inputs (next i e q r) = (subst (λ (n : ℕ). is_input ports n ≡ true) q.net (input_of ports i q.port q.at q.input), rising_inputs r)
 
-  pub rising_within : (n : ℕ) → ((i : ℕ) (p : Port) → slice_get ports i ≡ Some p → p.net < n) → {a b : ℕ} {gs : List (ℕ × ℕ)} → Rising ports a gs b → Every (λ (g : ℕ × ℕ). g.0 < n) gs
+  pub rising_within : (n : ℕ) → ((i : ℕ) (p : Port) → slice_get ports i ≡ Some p → p.net < n)
+      → {a b : ℕ} {gs : List (ℕ × ℕ)} → Rising ports a gs b → Every (λ (g : ℕ × ℕ). g.0 < n) gs
   rising_within n below (none e) = tt
   rising_within n below (next i e q r) = (subst (λ (k : ℕ). k < n) q.net (below i q.port q.at), rising_within n below r)
 

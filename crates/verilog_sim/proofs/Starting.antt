@@ -15,7 +15,8 @@ use Rattle.mx_bits.specs.declared.word.Word.{Word}
 use Rattle.rtl_ir.specs.Value.{width_of, net_width, is_reg, net_kept, depth_of, mem_depth}
 use Rattle.rtl_ir.specs.Typed.{word_width, mem_width, IsTyped}
 use Rattle.rtl_ir.specs.Rules.{IsAccepted, HoldsWords, AllHold}
-use Rattle.verilog_sim.specs.declared.given.Counts.{Counts}
+use Rattle.rtl_ir.specs.declared.interface.Interface.{Interface}
+use Rattle.rtl_ir.specs.Interfaces.{nets_of}
 use Rattle.verilog_sim.specs.Contents.{contents_of}
 use Rattle.rtl_ir.specs.Value.{Contents}
 use Rattle.rtl_ir.specs.Flat.{top_of}
@@ -29,17 +30,18 @@ use Rattle.verilog_sim.proofs.Whole.{whole_filled}
 use Rattle.verilog_sim.specs.Runnable.{IsRunnable}
 use Rattle.verilog_sim.specs.Updates.{IsLoaded}
 use Rattle.verilog_sim.specs.First.{IsLiteralAt, AreLiteralsSet, AreFirst}
-use Rattle.verilog_sim.specs.Simulates.{AreConstant, AreKept, unnamed}
+use Rattle.verilog_sim.specs.Simulates.{AreConstant, AreKept}
 use Rattle.verilog_sim.proofs.Evaluated.{loaded_regs, loaded_constants}
-use Rattle.rtl_ir.specs.Ports.{outer_of}
 use Rattle.verilog_sim.proofs.Driving.{same_all}
 
-nets_at : (fill : ℕ) (xs : List Net) (n : ℕ) → get_or (map (held_at_start fill) xs) n 0 ≡ cond (net_kept (slice_get xs n)) (fill % 2 ^ net_width (slice_get xs n)) 0
+nets_at : (fill : ℕ) (xs : List Net) (n : ℕ) → get_or (map (held_at_start fill) xs) n 0 ≡ cond
+    (net_kept (slice_get xs n)) (fill % 2 ^ net_width (slice_get xs n)) 0
 nets_at fill [] n = refl
 nets_at fill (x ∷ xs) zero = refl
 nets_at fill (x ∷ xs) (suc n) = nets_at fill xs n
 
-mems_at : (fill : ℕ) (xs : List Mem) (k : ℕ) → get_or (map (words_at_start fill) xs) k [] ≡ replicate (mem_depth (slice_get xs k)) (fill % 2 ^ mem_width (slice_get xs k))
+mems_at : (fill : ℕ) (xs : List Mem) (k : ℕ) → get_or (map (words_at_start fill) xs) k [] ≡ replicate
+    (mem_depth (slice_get xs k)) (fill % 2 ^ mem_width (slice_get xs k))
 mems_at fill [] k = refl
 mems_at fill (x ∷ xs) zero = refl
 mems_at fill (x ∷ xs) (suc k) = mems_at fill xs k
@@ -55,13 +57,22 @@ cell_fits depth fill w a = ⊎_elim within past (cases_lt a depth)
     within lt = subst (λ (y : ℕ). y < 2 ^ w) (sym (cell_at depth (fill % 2 ^ w) a lt)) (mod_below fill (2 ^ w) (pow_pos w))
 
     past : depth ≤ a → get_or (replicate depth (fill % 2 ^ w)) a 0 < 2 ^ w
-    past ge = subst (λ (y : ℕ). y < 2 ^ w) (sym (get_or_past (replicate depth (fill % 2 ^ w)) a 0 (omega (arith, length-replicate depth (fill % 2 ^ w))))) (pow_pos w)
+    past ge = subst (λ (y : ℕ). y < 2 ^ w) (sym (get_or_past (replicate depth (fill % 2 ^ w)) a 0
+        (omega (arith, length-replicate depth (fill % 2 ^ w))))) (pow_pos w)
 
-words_held : (m : Module) (fill : ℕ) (held : List ℕ) (memories : List (List ℕ)) → held ≡ map (held_at_start fill) m.nets → memories ≡ map (words_at_start fill) m.mems → HoldsWords m (contents_of held memories)
+words_held : (m : Module) (fill : ℕ) (held : List ℕ) (memories : List (List ℕ))
+    → held ≡ map (held_at_start fill) m.nets → memories ≡ map (words_at_start fill) m.mems
+    → HoldsWords m (contents_of held memories)
 words_held m fill held memories eh em =
     record {
-      regs = λ n reg. subst (λ (y : ℕ). y < 2 ^ width_of m n) (sym (ap (λ (l : List ℕ). get_or l n 0) eh ∙ nets_at fill m.nets n ∙ ap (λ b. cond b (fill % 2 ^ width_of m n) 0) reg)) (mod_below fill (2 ^ width_of m n) (pow_pos (width_of m n)));
-      cells = λ k a. subst (λ (y : ℕ). y < 2 ^ word_width m k) (sym (ap (λ (l : List (List ℕ)). get_or (get_or l k []) a 0) em ∙ ap (λ (l : List ℕ). get_or l a 0) (mems_at fill m.mems k))) (cell_fits (depth_of m k) fill (word_width m k) a);
+      regs = λ n reg. subst (λ (y : ℕ). y < 2 ^ width_of m n)
+          (sym (ap (λ (l : List ℕ). get_or l n 0) eh ∙ nets_at fill m.nets n
+          ∙ ap (λ b. cond b (fill % 2 ^ width_of m n) 0) reg))
+          (mod_below fill (2 ^ width_of m n) (pow_pos (width_of m n)));
+      cells = λ k a. subst (λ (y : ℕ). y < 2 ^ word_width m k)
+          (sym (ap (λ (l : List (List ℕ)). get_or (get_or l k []) a 0) em
+          ∙ ap (λ (l : List ℕ). get_or l a 0) (mems_at fill m.mems k)))
+          (cell_fits (depth_of m k) fill (word_width m k) a);
     }
 
 zero_fits : (n k w : ℕ) → get_or (replicate n 0) k 0 < 2 ^ w
@@ -77,17 +88,21 @@ literal_fits m r n x l =
     let width : l.word.width ≡ width_of m l.assign.target = subst (IsTyped m (width_of m l.assign.target)) l.literal t in
     subst (λ (w : ℕ). x < 2 ^ w) (width ∙ ap (width_of m) l.target) (subst (λ (y : ℕ). y < 2 ^ l.word.width) (sym l.bits) l.word.fits)
 
-first_fits : (m : Module) (held values : List ℕ) → IsRunnable m → ((n : ℕ) → is_reg m n ≡ true → get_or held n 0 < 2 ^ width_of m n) → AreFirst m held values → (n : ℕ) → get_or values n 0 < 2 ^ width_of m n
+first_fits : (m : Module) (held values : List ℕ) → IsRunnable m
+    → ((n : ℕ) → is_reg m n ≡ true → get_or held n 0 < 2 ^ width_of m n) → AreFirst m held values → (n : ℕ)
+    → get_or values n 0 < 2 ^ width_of m n
 first_fits m held values r h f n = by_kind (is_reg m n) refl
   where
     by_kind : (b : Bool) → is_reg m n ≡ b → get_or values n 0 < 2 ^ width_of m n
     by_kind true e = subst (λ (y : ℕ). y < 2 ^ width_of m n) (sym (f.loaded n e)) (h n e)
     by_kind false e =
-        ⊎_elim (λ z. subst (λ (y : ℕ). y < 2 ^ width_of m n) (sym z) (pow_pos (width_of m n))) (λ l. literal_fits m r n (get_or values n 0) l) (f.others n (λ t. false≢true (sym e ∙ t)))
+        ⊎_elim (λ z. subst (λ (y : ℕ). y < 2 ^ width_of m n) (sym z) (pow_pos (width_of m n)))
+        (λ l. literal_fits m r n (get_or values n 0) l) (f.others n (λ t. false≢true (sym e ∙ t)))
 
 pub start_kept :
-    (m : Module) (c : Counts) (fill : ℕ) (steady held values : List ℕ) (memories : List (List ℕ))
-    → IsRunnable m → held ≡ map (held_at_start fill) m.nets → memories ≡ map (words_at_start fill) m.mems → AreFirst m held values → steady ≡ replicate (c.kernels + c.scalars) 0
+    (m : Module) (c : Interface) (fill : ℕ) (steady held values : List ℕ) (memories : List (List ℕ))
+    → IsRunnable m → held ≡ map (held_at_start fill) m.nets → memories ≡ map (words_at_start fill) m.mems
+    → AreFirst m held values → steady ≡ replicate (length c.kernels + length c.scalars) 0
     → AreKept m c steady held values memories
 start_kept m c fill steady held values memories r eh em first es =
     record {
@@ -95,15 +110,17 @@ start_kept m c fill steady held values memories r eh em first es =
       words = record {
         nets = first.size;
         words = first_fits m held values r (words_held m fill held memories eh em).regs first;
-        depths = λ k. ap (λ (l : List (List ℕ)). length (get_or l k [])) em ∙ ap length (mems_at fill m.mems k) ∙ length-replicate (depth_of m k) (fill % 2 ^ word_width m k);
+        depths = λ k. ap (λ (l : List (List ℕ)). length (get_or l k [])) em ∙ ap length (mems_at fill m.mems k)
+            ∙ length-replicate (depth_of m k) (fill % 2 ^ word_width m k);
         cells = (words_held m fill held memories eh em).cells;
       };
       held_nets = ap length eh ∙ length-map m.nets (held_at_start fill);
       held_words = (words_held m fill held memories eh em).regs;
       loaded = first.loaded;
       constant = first.constant;
-      steady_ports = ap length es ∙ length-replicate (c.kernels + c.scalars) 0;
-      steady_words = λ k lt. subst (λ (l : List ℕ). get_or l k 0 < 2 ^ width_of m (get_or (outer_of (unnamed c) m).steady k 0)) (sym es) (zero_fits (c.kernels + c.scalars) k (width_of m (get_or (outer_of (unnamed c) m).steady k 0)));
+      steady_ports = ap length es ∙ length-replicate (length c.kernels + length c.scalars) 0;
+      steady_words = λ k lt. subst (λ (l : List ℕ). get_or l k 0 < 2 ^ width_of m (get_or (nets_of c).steady k 0))
+          (sym es) (zero_fits (length c.kernels + length c.scalars) k (width_of m (get_or (nets_of c).steady k 0)));
     }
 
 -- literals are set one after another
@@ -118,7 +135,9 @@ module _ (assigns : List Assign) (old new : List ℕ) (i : ℕ) (a : Assign) (at
   none_more free =
       record {
         size = p.size;
-        each = λ k b x lt e lit. ⊎_elim (λ less. p.each k b x less e lit) (λ ge. absurd (free x (ap (λ (y : Assign). y.expr) (same_assign k b (omega arith) e) ∙ lit))) (cases_lt k i);
+        each = λ k b x lt e lit. ⊎_elim (λ less. p.each k b x less e lit)
+            (λ ge. absurd (free x (ap (λ (y : Assign). y.expr) (same_assign k b (omega arith) e) ∙ lit)))
+            (cases_lt k i);
         others = p.others;
       }
 
@@ -127,7 +146,10 @@ module _ (assigns : List Assign) (old new : List ℕ) (i : ℕ) (a : Assign) (at
       record {
         size = length-set new a.target x.bits ∙ p.size;
         each = each;
-        others = λ n. ⊎_elim (λ e. inr (here n e)) (λ ne. ⊎_elim (λ z. inl (get_or-set_other new a.target n x.bits 0 ne ∙ z)) (λ l. inr (subst (IsLiteralAt assigns n) (sym (get_or-set_other new a.target n x.bits 0 ne)) l)) (p.others n)) (cases_eq n a.target);
+        others = λ n. ⊎_elim (λ e. inr (here n e)) (λ ne. ⊎_elim
+            (λ z. inl (get_or-set_other new a.target n x.bits 0 ne ∙ z))
+            (λ l. inr (subst (IsLiteralAt assigns n) (sym (get_or-set_other new a.target n x.bits 0 ne)) l))
+            (p.others n)) (cases_eq n a.target);
       }
     where
       here : (n : ℕ) → n ≡ a.target → IsLiteralAt assigns n (get_or (set new a.target x.bits) n 0)
@@ -142,21 +164,29 @@ module _ (assigns : List Assign) (old new : List ℕ) (i : ℕ) (a : Assign) (at
             bits = ap (λ (k : ℕ). get_or (set new a.target x.bits) k 0) e ∙ get_or-set_same new a.target x.bits 0 lt;
           }
 
-      each : (k : ℕ) (b : Assign) (y : Word) → k < i + 1 → slice_get assigns k ≡ Some b → b.expr ≡ Literal y → IsLiteralAt assigns b.target (get_or (set new a.target x.bits) b.target 0)
+      each : (k : ℕ) (b : Assign) (y : Word) → k < i + 1 → slice_get assigns k ≡ Some b → b.expr ≡ Literal y
+          → IsLiteralAt assigns b.target (get_or (set new a.target x.bits) b.target 0)
       each k b y less e lit' =
           ⊎_elim (λ q. here b.target q)
-          (λ ne. ⊎_elim (λ before. subst (IsLiteralAt assigns b.target) (sym (get_or-set_other new a.target b.target x.bits 0 ne)) (p.each k b y before e lit')) (λ ge. absurd (ne (sym (ap (λ (z : Assign). z.target) (same_assign k b (omega arith) e))))) (cases_lt k i))
+          (λ ne. ⊎_elim (λ before. subst (IsLiteralAt assigns b.target)
+          (sym (get_or-set_other new a.target b.target x.bits 0 ne)) (p.each k b y before e lit'))
+          (λ ge. absurd (ne (sym (ap (λ (z : Assign). z.target) (same_assign k b (omega arith) e)))))
+          (cases_lt k i))
           (cases_eq b.target a.target)
 
 -- the values of nets before the first edge
 pub first_are :
-    (m : Module) (held zeros old new : List ℕ) → IsRunnable m → zeros ≡ replicate (length m.nets) 0 → AreLiteralsSet m.assigns zeros old (length m.assigns) → IsLoaded m.updates held old new → AreFirst m held new
+    (m : Module) (held zeros old new : List ℕ) → IsRunnable m → zeros ≡ replicate (length m.nets) 0
+    → AreLiteralsSet m.assigns zeros old (length m.assigns) → IsLoaded m.updates held old new → AreFirst m held new
 first_are m held zeros old new r z s l =
     record {
       size = l.size ∙ s.size ∙ ap length z ∙ length-replicate (length m.nets) 0;
       loaded = loaded_regs m held old new r l;
       constant = loaded_constants m held old new r l constant;
-      others = λ n free. (let same : get_or new n 0 ≡ get_or old n 0 = l.others n (λ j u e t. free (r.regs j n u e t)) in ⊎_elim (λ e. inl (same ∙ e ∙ ap (λ (x : List ℕ). get_or x n 0) z ∙ same_all (length m.nets) n 0)) (λ q. inr (subst (IsLiteralAt m.assigns n) (sym same) q)) (s.others n));
+      others = λ n free. (let same : get_or new n 0 ≡ get_or old n 0 = l.others n
+          (λ j u e t. free (r.regs j n u e t)) in ⊎_elim (λ e. inl
+          (same ∙ e ∙ ap (λ (x : List ℕ). get_or x n 0) z ∙ same_all (length m.nets) n 0))
+          (λ q. inr (subst (IsLiteralAt m.assigns n) (sym same) q)) (s.others n));
     }
   where
     constant : AreConstant m old
@@ -184,16 +214,21 @@ cells_at depth x a = ⊎_elim within past (cases_lt a depth)
 abbrev made : (ℕ → ℕ) → (ℕ → ℕ → ℕ) → Contents
 made regs cells = record { regs = regs; cells = cells }
 
-filled_alone : (m : Module) (fill : ℕ) (held : List ℕ) (memories : List (List ℕ)) → held ≡ map (held_at_start fill) m.nets → memories ≡ map (words_at_start fill) m.mems → contents_of held memories ≡ filled_part (Some m) fill
+filled_alone : (m : Module) (fill : ℕ) (held : List ℕ) (memories : List (List ℕ))
+    → held ≡ map (held_at_start fill) m.nets → memories ≡ map (words_at_start fill) m.mems
+    → contents_of held memories ≡ filled_part (Some m) fill
 filled_alone m fill held memories eh em =
     ap (λ (r : ℕ → ℕ). made r (λ k a. get_or (get_or memories k []) a 0)) (fun_ext (λ n. ap (λ (l : List ℕ). get_or l n 0) eh ∙ nets_at fill m.nets n))
     ∙ ap (made (λ n. cond (is_reg m n) (fill % 2 ^ width_of m n) 0))
-    (fun_ext (λ k. fun_ext (λ a. ap (λ (l : List (List ℕ)). get_or (get_or l k []) a 0) em ∙ ap (λ (l : List ℕ). get_or l a 0) (mems_at fill m.mems k) ∙ cells_at (depth_of m k) (fill % 2 ^ word_width m k) a)))
+    (fun_ext (λ k. fun_ext (λ a. ap (λ (l : List (List ℕ)). get_or (get_or l k []) a 0) em
+    ∙ ap (λ (l : List ℕ). get_or l a 0) (mems_at fill m.mems k)
+    ∙ cells_at (depth_of m k) (fill % 2 ^ word_width m k) a)))
 
 -- a simulator holds at first what the whole design holds at first
 pub contents_filled :
     (d : Design) (h : IsAccepted d) (ps : List Place) (n : Module) (f : IsFlat d ps n) (fill : ℕ) (held : List ℕ) (memories : List (List ℕ))
-    → held ≡ map (held_at_start fill) n.nets → memories ≡ map (words_at_start fill) n.mems → contents_by_path (top_of d) ps (contents_of held memories) ≡ start.filled d f.top fill
+    → held ≡ map (held_at_start fill) n.nets → memories ≡ map (words_at_start fill) n.mems
+    → contents_by_path (top_of d) ps (contents_of held memories) ≡ start.filled d f.top fill
 contents_filled d h ps n f fill held memories eh em =
     ap (λ o. contents_by_path o ps (contents_of held memories)) f.is_top
     ∙ ap (contents_by_path (Some f.top) ps) (filled_alone n fill held memories eh em)
@@ -210,7 +245,8 @@ part_filled m fill =
 part_words : (m : Module) (fill : ℕ) → HoldsWords m (filled_part (Some m) fill)
 part_words m fill =
     record {
-      regs = λ n reg. subst (λ (y : ℕ). y < 2 ^ width_of m n) (sym ((part_filled m fill).regs n reg)) (mod_below fill (2 ^ width_of m n) (pow_pos (width_of m n)));
+      regs = λ n reg. subst (λ (y : ℕ). y < 2 ^ width_of m n) (sym ((part_filled m fill).regs n reg))
+          (mod_below fill (2 ^ width_of m n) (pow_pos (width_of m n)));
       cells = λ k a. choose (ltb a (depth_of m k)) (word_width m k);
     }
   where

@@ -11,9 +11,7 @@ pub mod Feeding
 pub mod Levels
 pub mod State
 pub mod Calls
-pub mod Sources
 pub mod Simulates
-pub mod Channels
 pub mod Start
 pub mod Moved
 pub mod Parts

@@ -13,9 +13,9 @@ ghost use Rattle.verilog_sim.specs.Start.{all_cells, IsFilled, IsRefusal, filled
 
 use crate::cells::count_cells;
 use crate::compile::{Program, compile};
-use crate::evaluate::{is_done, net_of_last, step, tell};
+use crate::evaluate::{is_done, step, tell};
 use crate::flatten::flatten;
-use crate::given::{Counts, Given, counts_of};
+use crate::given::Given;
 use crate::memory::Memory;
 use crate::order::both_orders;
 use crate::origin::at_origins;
@@ -39,7 +39,7 @@ const MOST_CELLS: u64 = 1 << 26;
 #[derive(Drop)]
 pub struct Sim<'a> {
     design: &'a Design,
-    counts: Counts,
+    interface: &'a Interface,
     program: Program,
     updates: List<Update>,
     places: Vec<Place>,
@@ -56,21 +56,22 @@ impl<'a> Model for Sim<'a> {
     ghost Value = { State };
 
     ghost use Rattle.verilog_sim.specs.PartLists.{parts_of};
-    ghost use Rattle.verilog_sim.specs.Simulates.{outer_at, Simulates};
+    ghost use Rattle.rtl_ir.specs.Interfaces.{nets_of};
+    ghost use Rattle.verilog_sim.specs.Simulates.{Simulates};
 
     ghost view = { λ a. record {
       design = a.design.now;
-      outer = outer_at (top_of a.design.now) a.counts;
+      outer = nets_of a.interface.now;
       steady = a.steady.items;
       parts = parts_of (top_of a.design.now) a.places.items a.held.items a.memories.items;
     } };
 
-    ghost invariant = { λ a. Simulates a.design.now a.counts a.program a.updates a.places.items a.steady.items a.held.items a.values a.memories.items };
+    ghost invariant = { λ a. Simulates a.design.now a.interface.now a.program a.updates a.places.items a.steady.items a.held.items a.values a.memories.items };
 }
 
 impl<'a> Sim<'a> {
-    /// A simulator of an accepted design, whose top module has these ports. Each register and each memory word holds the low bits of
-    /// `fill`, and each port that keeps one value is 0.
+    /// A simulator of an accepted design, whose top module has these ports. Each register and each
+    /// memory word holds the low bits of `fill`, and each port that keeps one value is 0.
     ///
     /// `TooManyCells` comes only where the design has more than 2^26 wires, registers and memory
     /// words, those of all its instances counted, and there is a simulator only where it has no more.
@@ -80,7 +81,7 @@ impl<'a> Sim<'a> {
     pub fn new(
         alloc: Global,
         design: &'a Design,
-        interface: &Interface,
+        interface: &'a Interface,
         fill: u128,
     ) -> Result<Self, SimError>
         requires accepted { IsAccepted design.now }
@@ -99,19 +100,19 @@ impl<'a> Sim<'a> {
         if cells > MOST_CELLS {
             return Err(SimError::TooManyCells(cells));
         }
-        let counts = counts_of(interface);
         let flat = flatten(alloc, design)?;
         let module = at_origins(alloc, flat.module)?;
-        let done = net_of_last(module.ports.as_slice());
-        let orders = both_orders(alloc, &module, done)?;
+        let orders = both_orders(alloc, &module, interface.done)?;
         let held = registers(alloc, &module, fill)?;
         let values = first_values(alloc, &module, held.as_slice())?;
+        let kernels = interface.kernels.as_slice().len();
+        let scalars = interface.scalars.as_slice().len();
         Ok(Sim {
             design,
-            counts,
+            interface,
             program: compile(alloc, &module, &orders)?,
             places: flat.places,
-            steady: vec![in alloc; 0; counts.kernels + counts.scalars]?,
+            steady: vec![in alloc; 0; kernels + scalars]?,
             held,
             memories: memories(alloc, &module, fill)?,
             values,
@@ -142,11 +143,9 @@ impl<'a> Sim<'a> {
             accepts: &[],
             holds: &[],
         };
-        let ports = self.design.top().ports.as_slice();
         step(
-            ports,
             self.updates.as_slice(),
-            self.counts,
+            self.interface,
             &self.program,
             &given,
             self.held.as_mut_slice(),
@@ -167,10 +166,8 @@ impl<'a> Sim<'a> {
             accepts: &[],
             holds: &[],
         };
-        let ports = self.design.top().ports.as_slice();
         is_done(
-            ports,
-            self.counts,
+            self.interface,
             &self.program,
             &given,
             self.memories.as_slice(),
@@ -199,17 +196,15 @@ impl<'a> Sim<'a> {
             accepts,
             holds,
         };
-        let ports = self.design.top().ports.as_slice();
         step(
-            ports,
             self.updates.as_slice(),
-            self.counts,
+            self.interface,
             &self.program,
             &given,
             self.held.as_mut_slice(),
             self.memories.as_mut_slice(),
             &mut self.values,
         );
-        tell(ports, self.counts, &self.values, events);
+        tell(self.interface, &self.values, events);
     }
 }

@@ -1,7 +1,5 @@
-use Rattle.std.proofs.Common.{◌≡◌, ◌∙◌, refl, eqb, List, Some, subst, ap, arith}
-use Rattle.std.specs.Prelude.{slice_get}
-use Rattle.rtl_ir.specs.declared.design.Port.{Port}
-use Rattle.verilog_sim.specs.Simulates.{last_net}
+use Rattle.std.proofs.Common.{◌∙◌, refl, eqb, ap, arith}
+use Rattle.verilog_sim.proofs.Gifting.{given_inputs, done_in}
 use Rattle.verilog_sim.proofs.Evaluated.{kept_on_lines}
 use Rattle.verilog_sim.proofs.Answering.{part_of_feeding, no_literal, literal_free, completed}
 use Rattle.verilog_sim.proofs.Compiling.{lines_at}
@@ -10,27 +8,48 @@ use Rattle.verilog_sim.proofs.evaluate.is_done.Goals as goal
 
 pub evaluate-requires : goal.evaluate-requires
 evaluate-requires c =
-    let p = c.requires.4 in
-    (c.requires.0, p.feeding, c.requires.1, c.requires.2, c.requires.3, part_of_feeding c.requires.0 p.order p.feeding _ p.ordered p.feeds, lines_at c.requires.0 p.feeding (lines_of_all c.args.program.now.feeding.items) (lines_of_all c.as_slice-batches.result.now) (ap lines_of_all c.as_slice-batches.ensures.value) p.feeding_are)
+    let p = c.requires.4 in (
+      c.requires.0,
+      p.feeding,
+      c.requires.1,
+      c.requires.2,
+      c.requires.3,
+      part_of_feeding c.requires.0 p.order p.feeding
+          _ p.ordered p.feeds,
+      lines_at c.requires.0 p.feeding (lines_of_all c.args.program.now.feeding.items)
+          (lines_of_all c.as_slice-batches.result.now) (ap lines_of_all c.as_slice-batches.ensures.value) p.feeding_are,
+    )
 
-pub value_at-requires-clause-nets : goal.value_at-requires-clause-nets
-value_at-requires-clause-nets c = λ i q at.
+pub get-requires : goal.get-requires
+get-requires c =
     let p = c.requires.4 in
     let r = c.requires.3 in
-    let by = c.evaluate.ensures c.requires.0 p.feeding c.requires.1 c.requires.2 r (part_of_feeding c.requires.0 p.order p.feeding _ p.ordered p.feeds) (lines_at c.requires.0 p.feeding (lines_of_all c.args.program.now.feeding.items) (lines_of_all c.as_slice-batches.result.now) (ap lines_of_all c.as_slice-batches.ensures.value) p.feeding_are) in
-    let lt = (r.simulable.formed i q (subst (λ (l : List Port). slice_get l i ≡ Some q) r.ports_are at)).net in
+    let g = c.args.given.now in
+    let by = c.evaluate.ensures c.requires.0 p.feeding c.requires.1 c.requires.2 r
+    (part_of_feeding c.requires.0 p.order p.feeding _ p.ordered p.feeds)
+    (lines_at c.requires.0 p.feeding (lines_of_all c.args.program.now.feeding.items)
+    (lines_of_all c.as_slice-batches.result.now) (ap lines_of_all c.as_slice-batches.ensures.value)
+    p.feeding_are) in
+    let lt = done_in c.requires.0 c.args.interface.now r.simulable in
     omega (arith, lt, by.settles.nets)
 
 pub returns : goal.returns
 returns c = λ m updates held r p.
     let g = c.args.given.now in
     let part = part_of_feeding m p.order p.feeding _ p.ordered p.feeds in
-    let by = c.evaluate.ensures m p.feeding updates held r part (lines_at m p.feeding (lines_of_all c.args.program.now.feeding.items) (lines_of_all c.as_slice-batches.result.now) (ap lines_of_all c.as_slice-batches.ensures.value) p.feeding_are) in
+    let by = c.evaluate.ensures m p.feeding updates held r part
+    (lines_at m p.feeding (lines_of_all c.args.program.now.feeding.items)
+    (lines_of_all c.as_slice-batches.result.now) (ap lines_of_all c.as_slice-batches.ensures.value)
+    p.feeding_are) in
     let free = literal_free m p.feeding r.simulable.runnable part (no_literal p.order p.feeding _ p.feeds) in
-    let all = completed m p.order p.feeding _ c.args.counts g.reset g.steady.now g.offers.now g.accepts.now g.holds.now held c.evaluate.new.values c.args.memories.now r.simulable.runnable p.ordered p.feeds (λ i q at. (r.simulable.formed i q at).wire) by in
+    let all = completed m p.order p.feeding _ c.args.interface.now g.reset g.steady.now g.offers.now g.accepts.now
+    g.holds.now held c.evaluate.new.values c.args.memories.now r.simulable.runnable p.ordered p.feeds
+    (given_inputs m c.args.interface.now r.simulable g.reset g.steady.now g.offers.now g.accepts.now g.holds.now)
+    by in
     record {
-      kept = kept_on_lines m p.feeding c.args.counts g.reset g.steady.now g.offers.now g.accepts.now g.holds.now held c.args.values.now c.evaluate.new.values c.args.memories.now r.simulable.runnable part free r.kept by;
+      kept = kept_on_lines m p.feeding c.args.interface.now g.reset g.steady.now g.offers.now g.accepts.now g.holds.now
+          held c.args.values.now c.evaluate.new.values c.args.memories.now r.simulable.runnable part free r.kept by;
       values = all.values;
       evaluated = all.evaluated;
-      answer_is = ap (λ n. eqb n 1) (c.value_at.ensures ∙ all.same (last_net c.args.ports.now) refl);
+      answer_is = ap (λ n. eqb n 1) (c.get.ensures ∙ all.same c.args.interface.now.done refl);
     }
