@@ -7,6 +7,7 @@ pub mod Linking
 pub mod Waiting
 pub mod Searching
 pub mod Reaching
+pub mod Following
 pub mod Finding
 pub mod Found
 pub mod Balancing

@@ -3,6 +3,8 @@ pub mod Adjacency
 pub mod Queue
 pub mod Reach
 pub mod Search
+pub mod Start
+pub mod Follow
 pub mod Tree
 pub mod Balance
 pub mod Best

@@ -58,7 +58,7 @@ use mx_base::NoMemory;
 use schedule_problem::Problem;
 
 /// How far the end of arc `j` stands above what the arc asks.
-fn slack(problem: &Problem, x: &[i128], j: usize) -> i128
+pub fn slack(problem: &Problem, x: &[i128], j: usize) -> i128
     requires arc { j < length problem.now.arcs.list }
     requires ends { EndsInRange (length x.now) problem.now.arcs.list }
     requires small { (v : ℕ) → unsigned_abs (numbers_of x.now v) ≤ 2 ^ 116 }

@@ -10,7 +10,11 @@ ghost use Rattle.schedule_flow.specs.Best.{HasNoTimes};
 use crate::adjacency::adjacency_of;
 use crate::balance::send_all;
 use crate::earliest::earliest;
+use crate::follow::take_up;
+use crate::guide::Guide;
 use crate::network::Residual;
+use crate::simplex::guessed;
+use crate::start::first_times;
 use crate::tree::Tree;
 use cycle_find::{Cycle, SolveError, solve};
 use mx_base::{List, NoMemory};
@@ -80,7 +84,9 @@ pub fn best_counted(alloc: Global, problem: &Problem) -> Result<(Answer, Residua
 {
     let legal = legal_times(alloc, problem)?;
     let mut net = Residual::new(alloc, problem, &legal)?;
-    let x = balance(alloc, problem, &mut net, &legal)?;
+    let guess = guessed(alloc, problem, &legal, net.rest())?;
+    let first = first_times(problem, guess.times, legal);
+    let x = balance(alloc, problem, &mut net, &first, &guess.flow)?;
     let times = earliest(alloc, problem, net.flow(), &x)?;
     let flow = Vec::from_slice(alloc, net.flow())?;
     let answer = Answer {
@@ -106,12 +112,14 @@ fn legal_times(alloc: Global, problem: &Problem) -> Result<Vec<i64>, BestError>
     }
 }
 
-/// Sends all surplus from legal times on. It answers the numbers that are then tight.
+/// Sends all surplus from legal times on, first as a guessed flow says. It answers the numbers that are
+/// then tight.
 fn balance(
     alloc: Global,
     problem: &Problem,
     net: &mut Residual,
     times: &[i64],
+    guide_flow: &[u64],
 ) -> Result<Vec<i128>, NoMemory>
     requires problem { IsProblem problem.now }
     requires light { weights problem.now ≤ℤ pos (2 ^ 52) }
@@ -130,6 +138,8 @@ fn balance(
     let nodes = problem.arcs.nodes as usize;
     let mut tree = Tree::new(alloc, nodes)?;
     let mut x = wide(alloc, times)?;
+    let mut guide = Guide::new(alloc, problem, guide_flow, net.rest())?;
+    take_up(alloc, problem, net, x.as_slice(), &mut tree, &mut guide)?;
     send_all(alloc, problem, &links, net, x.as_mut_slice(), &mut tree)?;
     Ok(x)
 }

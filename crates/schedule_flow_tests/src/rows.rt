@@ -16,7 +16,7 @@ pub struct Row {
 }
 
 /// The word before, the word and the word after, added in two sums of latency 1.
-const SUM_OF_NEIGHBOURS: Row = Row {
+pub const SUM_OF_NEIGHBOURS: Row = Row {
     nodes: 6,
     edges: &[
         (0, 2, 0, -1),
@@ -31,6 +31,17 @@ const SUM_OF_NEIGHBOURS: Row = Row {
     times: &[0, 0, 0, 0, 1, 2],
     chains: &[(0, 1, &[1])],
 };
+
+/// Times of a problem, what they cost, and the first arc that they break.
+pub type Costs = (&'static [i64], i128, Option<u32>);
+
+/// The best times, later ones, and times at which the second sum is early; each with the last ticks in
+/// which words are read.
+pub const NEIGHBOURS_COSTS: &[Costs] = &[
+    (&[0, 0, 0, 0, 1, 2, 1, 0, 1, 0, 2, 0], 32, None),
+    (&[0, 0, 0, 0, 2, 3, 1, 0, 2, 0, 3, 0], 64, None),
+    (&[0, 0, 0, 0, 0, 2, 1, 0, 0, 0, 2, 0], 32, Some(4)),
+];
 
 /// A word and its square of latency 3, each in 64 bits, added.
 pub const SQUARE_AND_WORD: Row = Row {

@@ -1,12 +1,12 @@
 // Worked examples: least bits and times, the flow's count of paths, and the chains.
-ghost use Rattle.std.specs.Prelude.{◌≡◌, ℕ, ◌≤◌, ◌^◌, length, unsigned_abs, IfOk};
+ghost use Rattle.std.specs.Prelude.{◌≡◌, ℕ, ◌≤◌, ◌^◌, length, unsigned_abs, IfOk, IsTrue};
 ghost use Rattle.cycle_find.specs.Constraints.{numbers_of, NeedsWithin};
 ghost use Rattle.schedule_problem.specs.Flow.{TermsInRange};
 ghost use Rattle.schedule_problem.specs.Optimum.{IsBest, IsProblem};
 
 use crate::problems::{Edge, is_problem, problem_of};
-use crate::rows::{ROWS, SQUARE_AND_WORD};
-use cycle_find::SolveError;
+use crate::rows::{NEIGHBOURS_COSTS, ROWS, SQUARE_AND_WORD, SUM_OF_NEIGHBOURS};
+use cycle_find::{SolveError, solve_ok};
 use fifo_sharing::{Chain, share};
 use schedule_flow::{BestError, best, best_counted};
 use schedule_problem::{Answer, Problem, cost};
@@ -48,6 +48,24 @@ fn cycle_of(alloc: Global, problem: &Problem) -> Option<usize>
         Err(BestError::Cycle(cycle)) => Some(cycle.arcs.len()),
         _ => None,
     }
+}
+
+/// What times cost, and the first arc that they break. Numbers that are too many, too few or too great
+/// are no times.
+fn judged(problem: &Problem, times: &[i64]) -> Option<(i128, Option<u32>)>
+    requires { IsProblem problem.now }
+{
+    if times.len() == problem.arcs.nodes as usize && are_small(times) {
+        Some((cost(problem, times), solve_ok(&problem.arcs, times)))
+    } else {
+        None
+    }
+}
+
+fn are_small(times: &[i64]) -> bool
+    ensures { IsTrue result → (v : ℕ) → unsigned_abs (numbers_of times.now v) ≤ 2 ^ 60 }
+{
+    times.iter().all(|time| time.unsigned_abs() <= 1 << 60)
 }
 
 fn is_chain(chain: &Chain, producer: u32, words: u64, taps: &[u64]) -> bool {
@@ -100,5 +118,21 @@ fn earliest_times_can_cost_more(rt: HostRuntime) -> Result<(), Fail> {
     let problem = problem_of(alloc, row.nodes, row.edges, row.producers, row.base)?;
     assert!(rt; is_problem(&problem));
     assert_eq!(rt; cost_of_earliest(alloc, &problem)?, 192);
+    Ok(())
+}
+
+#[test]
+fn times_have_their_costs(rt: HostRuntime) -> Result<(), Fail> {
+    let alloc = rt.alloc();
+    let row = &SUM_OF_NEIGHBOURS;
+    let problem = problem_of(alloc, row.nodes, row.edges, row.producers, row.base)?;
+    assert!(rt; is_problem(&problem));
+    for (times, bits, broken) in NEIGHBOURS_COSTS {
+        assert_eq!(rt;
+            judged(&problem, times),
+            Some((*bits, *broken)),
+            "{times:?}"
+        );
+    }
     Ok(())
 }
