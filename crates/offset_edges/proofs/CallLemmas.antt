@@ -1,5 +1,32 @@
 -- What holds of calls each of which was lawful after those before it.
-use Rattle.std.proofs.Common.{◌≡◌, ℕ, zero, suc, ◌+◌, ◌≤◌, ◌<◌, ◌^◌, Bool, true, false, List, [], ◌∷◌, ◌++◌, length, refl, ap, sym, subst, arith, inl, inr, ◌⊎◌, ⊎_elim, length-append}
+use Rattle.std.proofs.Common.{
+  ◌≡◌,
+  ℕ,
+  zero,
+  suc,
+  ◌+◌,
+  ◌≤◌,
+  ◌<◌,
+  ◌^◌,
+  Bool,
+  true,
+  false,
+  List,
+  [],
+  ◌∷◌,
+  ◌++◌,
+  length,
+  refl,
+  ap,
+  sym,
+  subst,
+  arith,
+  inl,
+  inr,
+  ◌⊎◌,
+  ⊎_elim,
+  length-append,
+}
 use Rattle.std.specs.Prelude.{◌==◌, if◌then◌else◌, ℤ, pos, negsuc, Option, Some, None, Ok, Err}
 use Rattle.std.specs.Prelude.{All, nat_lt, Result}
 use Rattle.std.proofs.lemmas.List.Elements.{All-nil, All-cons, All-append}
@@ -20,7 +47,8 @@ use Rattle.stream_graph.specs.Steps.{WereLawful}
 
 -- ---- which calls make nodes
 
-pub makes_cases : (newest : Call) (older : List Call) (n : ℕ) (call : Call) → Makes (newest ∷ older) n call →
+pub makes_cases : (newest : Call) (older : List Call) (n : ℕ) (call : Call)
+    → Makes (newest ∷ older) n call →
     ((nodes_of newest ≡ 1) × (n ≡ count_of older) × (call ≡ newest)) ⊎ Makes older n call
 makes_cases (C.Connect feed value) older n call h = inr h
 makes_cases (C.Input name t control) older n call (inl p) = inl (refl, p.0, p.1)
@@ -87,14 +115,16 @@ made (newest ∷ older) n h = ⊎_elim
     (λ (z : nodes_of newest ≡ 0). absurd (omega arith))
     (makes_next newest older))
     (λ (d : n ≡ count_of older → ⊥).
-    let below : n < count_of older = below_older n (count_of older) (nodes_of newest) (few newest older) h d in
+    let below : n < count_of older = below_older n (count_of older) (nodes_of newest) (few newest
+    older) h d in
     let m = made older n below in
     (m.0, makes_older newest older n m.0 m.1))
     (cases_eq n (count_of older))
   where
     few : (newest : Call) (older : List Call) → nodes_of newest ≤ 1
     few newest older = ⊎_elim
-        (λ (p : Makes (newest ∷ older) (count_of older) newest × (nodes_of newest ≡ 1)). let e = p.1 in omega arith)
+        (λ (p : Makes (newest ∷ older) (count_of older) newest × (nodes_of newest ≡ 1)). let e = p.1
+        in omega arith)
         (λ (z : nodes_of newest ≡ 0). omega arith)
         (makes_next newest older)
 
@@ -103,7 +133,8 @@ made (newest ∷ older) n h = ⊎_elim
 
 -- ---- each call was lawful after those before it
 
-pub were_later : (so_far calls : List Call) → WereLawful so_far → AreLawful so_far calls → WereLawful (later so_far calls)
+pub were_later : (so_far calls : List Call) → WereLawful so_far → AreLawful so_far calls
+    → WereLawful (later so_far calls)
 were_later so_far [] w a = w
 were_later so_far (call ∷ calls) w a = were_later (call ∷ so_far) calls (a.0, w) a.1
 
@@ -113,28 +144,37 @@ pub record WasLawful (n : ℕ) (call : Call) : Type 0 where
   pub lawful : IsLawful older call
   pub count : count_of older ≡ n
 
-pub was_lawful : (so_far : List Call) (n : ℕ) (call : Call) → WereLawful so_far → Makes so_far n call → WasLawful n call
+pub was_lawful : (so_far : List Call) (n : ℕ) (call : Call) → WereLawful so_far
+    → Makes so_far n call → WasLawful n call
 was_lawful [] n call w h = absurd h
 was_lawful (newest ∷ older) n call w h = by_newest (makes_cases newest older n call h)
     (λ g. was_lawful older n call w.1 g) w.0
   where
-    by_newest : ((nodes_of newest ≡ 1) × (n ≡ count_of older) × (call ≡ newest)) ⊎ Makes older n call →
+    by_newest : ((nodes_of newest ≡ 1) × (n ≡ count_of older) × (call ≡ newest)) ⊎ Makes older n
+        call →
         (Makes older n call → WasLawful n call) → IsLawful older newest → WasLawful n call
     by_newest (inl p) rest l =
-        record { older = older; lawful = subst (λ c. IsLawful older c) (sym p.2) l; count = sym p.1 }
+        record {
+          older = older;
+          lawful = subst (λ c. IsLawful older c) (sym p.2) l;
+          count = sym p.1;
+        }
     by_newest (inr g) rest l = rest g
 
-pub made_below : (so_far : List Call) (n : ℕ) (call : Call) → Makes so_far n call → n < count_of so_far
+pub made_below : (so_far : List Call) (n : ℕ) (call : Call) → Makes so_far n call
+    → n < count_of so_far
 made_below [] n call h = absurd h
 made_below (newest ∷ older) n call h = by_newest (makes_cases newest older n call h)
     (λ g. made_below older n call g)
   where
-    by_newest : ((nodes_of newest ≡ 1) × (n ≡ count_of older) × (call ≡ newest)) ⊎ Makes older n call →
+    by_newest : ((nodes_of newest ≡ 1) × (n ≡ count_of older) × (call ≡ newest)) ⊎ Makes older n
+        call →
         (Makes older n call → n < count_of older) → n < count_of older + nodes_of newest
     by_newest (inl p) below = let a = p.0 in let b = p.1 in omega arith
     by_newest (inr g) below = let b = below g in omega arith
 
-pub stream_below : (so_far : List Call) (n : ℕ) (t : StreamType) → IsStream so_far n t → n < count_of so_far
+pub stream_below : (so_far : List Call) (n : ℕ) (t : StreamType) → IsStream so_far n t
+    → n < count_of so_far
 stream_below so_far n t s = made_below so_far n s.0 s.1
 
 -- ---- the bits of counters
@@ -148,14 +188,16 @@ unfolding bits_up_to
 bits_bounds zero n = (omega arith, omega arith)
 bits_bounds (suc more) n =
     let r = bits_bounds more n in
-    picked (nat_lt n (2 ^ suc more)) (bits_up_to more n) (suc (suc more)) (λ k. (1 ≤ k) × (k ≤ suc (suc more)))
+    picked (nat_lt n (2 ^ suc more)) (bits_up_to more n) (suc (suc more)) (λ k. (1 ≤ k) × (k ≤ suc
+    (suc more)))
     (r.0, omega arith) (omega arith, omega arith)
 
 bits_or : ℕ → Result CounterDigit CounterError → ℕ
 bits_or n (Ok d) = d.bits
 bits_or n (Err e) = n
 
-digit_bounds : (max inc : ℤ) (d : CounterDigit) → digit_of max inc ≡ Ok d → (1 ≤ d.bits) × (d.bits ≤ 128)
+digit_bounds : (max inc : ℤ) (d : CounterDigit) → digit_of max inc ≡ Ok d
+    → (1 ≤ d.bits) × (d.bits ≤ 128)
 unfolding bits_or bits_up_to
 digit_bounds (pos (suc greatest)) (pos (suc less)) d e =
     let b = bits_bounds 127 greatest in
@@ -166,7 +208,8 @@ digit_bounds (pos (suc greatest)) (negsuc n) d e = absurd (cc)
 digit_bounds (pos zero) inc d e = absurd (cc)
 digit_bounds (negsuc n) inc d e = absurd (cc)
 
-simple_bounds : (bits : ℕ) (max : Option ℤ) (d : CounterDigit) → 1 ≤ bits → bits ≤ 128 → simple_of bits max ≡ Ok d →
+simple_bounds : (bits : ℕ) (max : Option ℤ) (d : CounterDigit) → 1 ≤ bits → bits ≤ 128
+    → simple_of bits max ≡ Ok d →
     (1 ≤ d.bits) × (d.bits ≤ 128)
 unfolding bits_or
 simple_bounds bits None d low high e =
@@ -191,24 +234,32 @@ chain_bits_most [] n w = omega arith
 chain_bits_most (C.ChainDigit chain d ∷ older) n w =
     by_test (chain == n) (λ e. eqb-true chain n e) w.0.2 (chain_bits_most older n w.1)
   where
-    by_test : (b : Bool) → (b ≡ true → chain ≡ n) → bits_in older chain + d.bits ≤ 128 → bits_in older n ≤ 128 →
+    by_test : (b : Bool) → (b ≡ true → chain ≡ n) → bits_in older chain + d.bits ≤ 128
+        → bits_in older n ≤ 128 →
         bits_in older n + (elim b [ true ↦ d.bits | false ↦ 0 ]) ≤ 128
     by_test true same own others = subst (λ k. bits_in older k + d.bits ≤ 128) (same refl) own
     by_test false same own others = omega arith
-chain_bits_most (C.Input name t control ∷ older) n w = let r = chain_bits_most older n w.1 in omega arith
-chain_bits_most (C.Output name value control t ∷ older) n w = let r = chain_bits_most older n w.1 in omega arith
+chain_bits_most (C.Input name t control ∷ older) n w = let r = chain_bits_most older n w.1 in omega
+    arith
+chain_bits_most (C.Output name value control t ∷ older) n w = let r = chain_bits_most older n w.1 in
+    omega arith
 chain_bits_most (C.Scalar name t ∷ older) n w = let r = chain_bits_most older n w.1 in omega arith
 chain_bits_most (C.Constant bits t ∷ older) n w = let r = chain_bits_most older n w.1 in omega arith
-chain_bits_most (C.Operation op mode amount args t ∷ older) n w = let r = chain_bits_most older n w.1 in omega arith
-chain_bits_most (C.Offset value k t ∷ older) n w = let r = chain_bits_most older n w.1 in omega arith
+chain_bits_most (C.Operation op mode amount args t ∷ older) n w = let r = chain_bits_most older n
+    w.1 in omega arith
+chain_bits_most (C.Offset value k t ∷ older) n w = let r = chain_bits_most older n w.1 in omega
+    arith
 chain_bits_most (C.Feed t ∷ older) n w = let r = chain_bits_most older n w.1 in omega arith
-chain_bits_most (C.Connect feed value ∷ older) n w = let r = chain_bits_most older n w.1 in omega arith
-chain_bits_most (C.Hold value store t ∷ older) n w = let r = chain_bits_most older n w.1 in omega arith
+chain_bits_most (C.Connect feed value ∷ older) n w = let r = chain_bits_most older n w.1 in omega
+    arith
+chain_bits_most (C.Hold value store t ∷ older) n w = let r = chain_bits_most older n w.1 in omega
+    arith
 chain_bits_most (C.Counter d ∷ older) n w = let r = chain_bits_most older n w.1 in omega arith
 chain_bits_most (C.Chain ∷ older) n w = let r = chain_bits_most older n w.1 in omega arith
 
 -- a chain has at least as many bits as digits
-pub chain_bits_least : (so_far : List Call) (n : ℕ) → WereLawful so_far → length (digits_to so_far n) ≤ bits_in so_far n
+pub chain_bits_least : (so_far : List Call) (n : ℕ) → WereLawful so_far
+    → length (digits_to so_far n) ≤ bits_in so_far n
 chain_bits_least [] n w = omega arith
 chain_bits_least (C.ChainDigit chain d ∷ older) n w =
     by_test (chain == n) (digit_width d w.0.1).0 (chain_bits_least older n w.1)
@@ -218,15 +269,22 @@ chain_bits_least (C.ChainDigit chain d ∷ older) n w =
         [ true ↦ d.bits | false ↦ 0 ])
     by_test true some r = omega (arith, length-append (digits_to older n) (d ∷ []))
     by_test false some r = omega (arith, length-append {A = CounterDigit} (digits_to older n) [])
-chain_bits_least (C.Input name t control ∷ older) n w = let r = chain_bits_least older n w.1 in omega arith
-chain_bits_least (C.Output name value control t ∷ older) n w = let r = chain_bits_least older n w.1 in omega arith
+chain_bits_least (C.Input name t control ∷ older) n w = let r = chain_bits_least older n w.1 in
+    omega arith
+chain_bits_least (C.Output name value control t ∷ older) n w = let r = chain_bits_least older n w.1
+    in omega arith
 chain_bits_least (C.Scalar name t ∷ older) n w = let r = chain_bits_least older n w.1 in omega arith
-chain_bits_least (C.Constant bits t ∷ older) n w = let r = chain_bits_least older n w.1 in omega arith
-chain_bits_least (C.Operation op mode amount args t ∷ older) n w = let r = chain_bits_least older n w.1 in omega arith
-chain_bits_least (C.Offset value k t ∷ older) n w = let r = chain_bits_least older n w.1 in omega arith
+chain_bits_least (C.Constant bits t ∷ older) n w = let r = chain_bits_least older n w.1 in omega
+    arith
+chain_bits_least (C.Operation op mode amount args t ∷ older) n w = let r = chain_bits_least older n
+    w.1 in omega arith
+chain_bits_least (C.Offset value k t ∷ older) n w = let r = chain_bits_least older n w.1 in omega
+    arith
 chain_bits_least (C.Feed t ∷ older) n w = let r = chain_bits_least older n w.1 in omega arith
-chain_bits_least (C.Connect feed value ∷ older) n w = let r = chain_bits_least older n w.1 in omega arith
-chain_bits_least (C.Hold value store t ∷ older) n w = let r = chain_bits_least older n w.1 in omega arith
+chain_bits_least (C.Connect feed value ∷ older) n w = let r = chain_bits_least older n w.1 in omega
+    arith
+chain_bits_least (C.Hold value store t ∷ older) n w = let r = chain_bits_least older n w.1 in omega
+    arith
 chain_bits_least (C.Counter d ∷ older) n w = let r = chain_bits_least older n w.1 in omega arith
 chain_bits_least (C.Chain ∷ older) n w = let r = chain_bits_least older n w.1 in omega arith
 
@@ -236,23 +294,29 @@ one_more : (older : List Call) (n : ℕ) → All (λ v. v < count_of older) (con
     All (λ v. v < count_of older + 1) (connected_to older n)
 one_more older n r = λ k d h. let b = r k d h in omega arith
 
-pub connected_below : (so_far : List Call) (n : ℕ) → WereLawful so_far → All (λ v. v < count_of so_far) (connected_to so_far n)
+pub connected_below : (so_far : List Call) (n : ℕ) → WereLawful so_far
+    → All (λ v. v < count_of so_far) (connected_to so_far n)
 connected_below [] n w = All-nil (λ v. v < 0)
 connected_below (C.Connect feed value ∷ older) n w =
     by_test (feed == n) (stream_below older value _ w.0.2) (connected_below older n w.1)
   where
-    by_test : (b : Bool) → value < count_of older → All (λ v. v < count_of older) (connected_to older n) →
+    by_test : (b : Bool) → value < count_of older → All (λ v. v < count_of older) (connected_to
+        older n) →
         All (λ v. v < count_of older + 0) (connected_to older n ++ (if b then value ∷ [] else []))
     by_test true lt r = All-append (λ v. v < count_of older + 0) (connected_to older n) (value ∷ [])
         (λ k d h. let b = r k d h in omega arith)
-        (All-cons (λ v. v < count_of older + 0) value [] (omega arith) (All-nil (λ v. v < count_of older + 0)))
+        (All-cons (λ v. v < count_of older + 0) value [] (omega arith) (All-nil (λ v. v < count_of
+        older + 0)))
     by_test false lt r = All-append (λ v. v < count_of older + 0) (connected_to older n) []
         (λ k d h. let b = r k d h in omega arith) (All-nil (λ v. v < count_of older + 0))
-connected_below (C.Input name t control ∷ older) n w = one_more older n (connected_below older n w.1)
-connected_below (C.Output name value control t ∷ older) n w = one_more older n (connected_below older n w.1)
+connected_below (C.Input name t control ∷ older) n w = one_more older n (connected_below older n
+    w.1)
+connected_below (C.Output name value control t ∷ older) n w = one_more older n (connected_below
+    older n w.1)
 connected_below (C.Scalar name t ∷ older) n w = one_more older n (connected_below older n w.1)
 connected_below (C.Constant bits t ∷ older) n w = one_more older n (connected_below older n w.1)
-connected_below (C.Operation op mode amount args t ∷ older) n w = one_more older n (connected_below older n w.1)
+connected_below (C.Operation op mode amount args t ∷ older) n w = one_more older n (connected_below
+    older n w.1)
 connected_below (C.Offset value k t ∷ older) n w = one_more older n (connected_below older n w.1)
 connected_below (C.Feed t ∷ older) n w = one_more older n (connected_below older n w.1)
 connected_below (C.Hold value store t ∷ older) n w = one_more older n (connected_below older n w.1)

@@ -1,4 +1,5 @@
-mod CallLemmas
+pub mod CallLemmas
+pub mod CoveredLemmas
 mod EdgeLemmas
 mod KernelLemmas
 mod LatencyLemmas

@@ -1,12 +1,54 @@
 -- What holds of the nodes of every kernel.
-use Rattle.std.proofs.Common.{◌≡◌, ℕ, zero, suc, ◌≤◌, ◌<◌, List, [], ◌∷◌, length, get_or, refl, ap, sym, ◌∙◌, subst, arith, inl, inr, ⊎_elim}
+use Rattle.std.proofs.Common.{
+  ◌≡◌,
+  ℕ,
+  zero,
+  suc,
+  ◌≤◌,
+  ◌<◌,
+  List,
+  [],
+  ◌∷◌,
+  length,
+  get_or,
+  refl,
+  ap,
+  sym,
+  ◌∙◌,
+  subst,
+  arith,
+  inl,
+  inr,
+  ⊎_elim,
+}
 use Rattle.std.proofs.Math.Bridge.{le_prop}
 use Rattle.std.proofs.Math.Logic.{∥∥₁_elim}
 use Rattle.std.specs.Prelude.{All, ℤ, unsigned_abs, Option, Some, None, slice_get}
 use Rattle.std.proofs.lemmas.List.Elements.{All-nil, All-cons}
 use Rattle.std.proofs.lemmas.Bool.{cases_lt}
 use Rattle.mx_bits.specs.declared.op.Op.{Op}
-use Rattle.mx_bits.specs.declared.op.Op.TheVariants.{Add, Sub, Mul, Div, Neg, And, Or, Xor, Not, Shl, Shr, Eq, Ne, Lt, Le, Gt, Ge, Mux, Cast, Round}
+use Rattle.mx_bits.specs.declared.op.Op.TheVariants.{
+  Add,
+  Sub,
+  Mul,
+  Div,
+  Neg,
+  And,
+  Or,
+  Xor,
+  Not,
+  Shl,
+  Shr,
+  Eq,
+  Ne,
+  Lt,
+  Le,
+  Gt,
+  Ge,
+  Mux,
+  Cast,
+  Round,
+}
 use Rattle.fix_arith.specs.declared.types.StreamType.{StreamType}
 use Rattle.fix_arith.specs.declared.types.RoundMode.{RoundMode}
 use Rattle.fix_arith.specs.Types.{HasWidth}
@@ -19,11 +61,32 @@ use Rattle.stream_graph.specs.declared.node.Kind.{Kind}
 use Rattle.stream_graph.specs.declared.node.Kind.TheVariants as K
 use Rattle.stream_graph.specs.declared.node.Node.{Node}
 use Rattle.stream_graph.specs.Kernels.{AreKernel}
-use Rattle.stream_graph.specs.Nodes.{later, connected_to, digits_to, IsKind, type_of, operands_by, one_or_none, IsNode, AreNodes}
+use Rattle.stream_graph.specs.Nodes.{
+  later,
+  connected_to,
+  digits_to,
+  IsKind,
+  type_of,
+  operands_by,
+  one_or_none,
+  IsNode,
+  AreNodes,
+}
 use Rattle.stream_graph.specs.Steps.{WereLawful}
 use Rattle.offset_edges.specs.Edges.{node_at, kind_at, operands_at, operand_at, no_node}
 use Rattle.offset_edges.specs.Latencies.{deciding}
-use Rattle.offset_edges.proofs.CallLemmas.{made, made_below, stream_below, WasLawful, was_lawful, were_later, digit_width, chain_bits_most, chain_bits_least, connected_below}
+use Rattle.offset_edges.proofs.CallLemmas.{
+  made,
+  made_below,
+  stream_below,
+  WasLawful,
+  was_lawful,
+  were_later,
+  digit_width,
+  chain_bits_most,
+  chain_bits_least,
+  connected_below,
+}
 
 -- ---- operations
 
@@ -31,10 +94,15 @@ pub record HasArgs (op : Op) (count : ℕ) : Type 0 where
   pub decides : deciding op < count
   pub few : count ≤ 65
 
-args_of : (op : Op) (types : List StreamType) (k : ℕ) (out : StreamType) → GivesType op types k out → HasArgs op (length types)
+args_of : (op : Op) (types : List StreamType) (k : ℕ) (out : StreamType)
+    → GivesType op types k out → HasArgs op (length types)
 args_of Cast types k out g = let e = g.0 in record { decides = omega arith; few = omega arith }
 args_of Round types k out g = let e = g.0 in record { decides = omega arith; few = omega arith }
-args_of Mux types k out g = let o = g.1.options refl in record { decides = omega arith; few = omega arith }
+args_of Mux types k out g = let o = g.1.options refl in record {
+  decides = omega arith;
+  few = omega
+      arith;
+}
 args_of Neg types k out g = let e = g.0 in record { decides = omega arith; few = omega arith }
 args_of Not types k out g = let e = g.0 in record { decides = omega arith; few = omega arith }
 args_of Shl types k out g = let e = g.0 in record { decides = omega arith; few = omega arith }
@@ -53,7 +121,8 @@ args_of Le types k out g = let e = g.0 in record { decides = omega arith; few = 
 args_of Gt types k out g = let e = g.0 in record { decides = omega arith; few = omega arith }
 args_of Ge types k out g = let e = g.0 in record { decides = omega arith; few = omega arith }
 
-streams_below : (so_far : List Call) (args : List ℕ) (types : List StreamType) → AreStreams so_far args types →
+streams_below : (so_far : List Call) (args : List ℕ) (types : List StreamType)
+    → AreStreams so_far args types →
     All (λ o. o < count_of so_far) args × (length args ≡ length types)
 streams_below so_far [] [] s = (All-nil (λ o. o < count_of so_far), refl)
 streams_below so_far (n ∷ ns) (t ∷ ts) s =
@@ -71,18 +140,23 @@ control_below so_far n (inr s) = stream_below so_far n _ s
 one_below : (so_far : List Call) (control : Option ℕ) → MayControl so_far control →
     All (λ o. o < count_of so_far) (one_or_none control) × (length (one_or_none control) ≤ 1)
 one_below so_far None m = (All-nil (λ o. o < count_of so_far), omega arith)
-one_below so_far (Some n) m =
-    (All-cons (λ o. o < count_of so_far) n [] (control_below so_far n m) (All-nil (λ o. o < count_of so_far)), omega arith)
+one_below so_far (Some n) m = (
+  All-cons (λ o. o < count_of so_far) n [] (control_below so_far n m) (All-nil (λ o. o < count_of
+      so_far)),
+  omega arith,
+)
 
 further : (m n : ℕ) (xs : List ℕ) → m ≤ n → All (λ o. o < m) xs → All (λ o. o < n) xs
 further m n xs h a = λ k d l. let b = a k d l in omega arith
 
 two_at_most : (n : ℕ) → (2 ≤ n → ⊥) → n ≤ 1
-two_at_most n never = ⊎_elim (λ (l : n < 2). omega arith) (λ (g : 2 ≤ n). absurd (never g)) (cases_lt n 2)
+two_at_most n never = ⊎_elim (λ (l : n < 2). omega arith) (λ (g : 2 ≤ n). absurd (never g))
+    (cases_lt n 2)
 
 -- each feed is connected once at most
 abbrev OnceConnected : List Call → Type 0
-OnceConnected so_far = (n : ℕ) → ((t : StreamType) × Makes so_far n (C.Feed t) × (2 ≤ length (connected_to so_far n))) → ⊥
+OnceConnected so_far = (n : ℕ) → ((t : StreamType) × Makes so_far n (C.Feed t) × (2 ≤ length
+    (connected_to so_far n))) → ⊥
 
 -- each chain has a digit
 abbrev SomeDigits : List Call → Type 0
@@ -92,24 +166,39 @@ pub record HasOperandsBelow (so_far : List Call) (operands : List ℕ) : Type 0 
   pub below : All (λ o. o < count_of so_far) operands
   pub few : length operands ≤ 65
 
-operands_below : (so_far : List Call) (n : ℕ) (call : Call) → WereLawful so_far → OnceConnected so_far →
+operands_below : (so_far : List Call) (n : ℕ) (call : Call) → WereLawful so_far
+    → OnceConnected so_far →
     Makes so_far n call → WasLawful n call → HasOperandsBelow so_far (operands_by so_far n call)
 operands_below so_far n (C.Input name t control) w once m l =
     let b = made_below so_far n _ m in
     let o = one_below l.older control l.lawful.2 in
     let e = l.count in
-    record { below = further (count_of l.older) (count_of so_far) (one_or_none control) (omega arith) o.0; few = (let f = o.1 in omega arith) }
+    record {
+      below = further (count_of l.older) (count_of so_far) (one_or_none control) (omega
+          arith) o.0;
+      few = (let f = o.1 in omega arith);
+    }
 operands_below so_far n (C.Output name value control t) w once m l =
     let b = made_below so_far n _ m in
     let o = one_below l.older control l.lawful.2 in
     let e = l.count in
     record {
-      below = further (count_of l.older) (count_of so_far) (value ∷ one_or_none control) (omega arith)
-          (All-cons (λ o. o < count_of l.older) value (one_or_none control) (stream_below l.older value t l.lawful.1) o.0);
+      below = further (count_of l.older) (count_of so_far) (value ∷ one_or_none control) (omega
+          arith)
+          (All-cons (λ o. o < count_of l.older) value (one_or_none control) (stream_below l.older
+          value t l.lawful.1) o.0);
       few = (let f = o.1 in omega arith);
     }
-operands_below so_far n (C.Scalar name t) w once m l = record { below = All-nil (λ o. o < count_of so_far); few = omega arith }
-operands_below so_far n (C.Constant bits t) w once m l = record { below = All-nil (λ o. o < count_of so_far); few = omega arith }
+operands_below so_far n (C.Scalar name t) w once m l = record {
+  below = All-nil (λ o. o < count_of
+      so_far);
+  few = omega arith;
+}
+operands_below so_far n (C.Constant bits t) w once m l = record {
+  below = All-nil (λ o. o < count_of
+      so_far);
+  few = omega arith;
+}
 operands_below so_far n (C.Operation op mode amount args t) w once m l =
     let b = made_below so_far n _ m in
     let s = streams_below l.older args l.lawful.0 l.lawful.1 in
@@ -117,16 +206,28 @@ operands_below so_far n (C.Operation op mode amount args t) w once m l =
     let e = l.count in
     let f = a.few in
     let q = s.1 in
-    record { below = further (count_of l.older) (count_of so_far) args (omega arith) s.0; few = omega arith }
+    record {
+      below = further (count_of l.older) (count_of so_far) args (omega arith) s.0;
+      few =
+          omega arith;
+    }
 operands_below so_far n (C.Offset value k t) w once m l =
     let b = made_below so_far n _ m in
     let e = l.count in
     let v = stream_below l.older value t l.lawful.0 in
-    record { below = All-cons (λ o. o < count_of so_far) value [] (omega arith) (All-nil (λ o. o < count_of so_far)); few = omega arith }
+    record {
+      below = All-cons (λ o. o < count_of so_far) value [] (omega arith) (All-nil (λ o. o <
+          count_of so_far));
+      few = omega arith;
+    }
 operands_below so_far n (C.Feed t) w once m l =
     let f = two_at_most (length (connected_to so_far n)) (λ h. once n (t, m, h)) in
     record { below = connected_below so_far n w; few = omega arith }
-operands_below so_far n (C.Connect feed value) w once m l = record { below = All-nil (λ o. o < count_of so_far); few = omega arith }
+operands_below so_far n (C.Connect feed value) w once m l = record {
+  below = All-nil (λ o. o <
+      count_of so_far);
+  few = omega arith;
+}
 operands_below so_far n (C.Hold value store t) w once m l =
     let b = made_below so_far n _ m in
     let e = l.count in
@@ -134,16 +235,28 @@ operands_below so_far n (C.Hold value store t) w once m l =
     let c = control_below l.older store l.lawful.1 in
     record {
       below = All-cons (λ o. o < count_of so_far) value (store ∷ []) (omega arith)
-          (All-cons (λ o. o < count_of so_far) store [] (omega arith) (All-nil (λ o. o < count_of so_far)));
+          (All-cons (λ o. o < count_of so_far) store [] (omega arith) (All-nil (λ o. o < count_of
+          so_far)));
       few = omega arith;
     }
-operands_below so_far n (C.Counter d) w once m l = record { below = All-nil (λ o. o < count_of so_far); few = omega arith }
-operands_below so_far n C.Chain w once m l = record { below = All-nil (λ o. o < count_of so_far); few = omega arith }
+operands_below so_far n (C.Counter d) w once m l = record {
+  below = All-nil (λ o. o < count_of
+      so_far);
+  few = omega arith;
+}
+operands_below so_far n C.Chain w once m l = record {
+  below = All-nil (λ o. o < count_of so_far);
+  few = omega arith;
+}
 operands_below so_far n (C.ChainDigit chain d) w once m l =
     let b = made_below so_far n _ m in
     let e = l.count in
     let v = made_below l.older chain _ l.lawful.0 in
-    record { below = All-cons (λ o. o < count_of so_far) chain [] (omega arith) (All-nil (λ o. o < count_of so_far)); few = omega arith }
+    record {
+      below = All-cons (λ o. o < count_of so_far) chain [] (omega arith) (All-nil (λ o. o <
+          count_of so_far));
+      few = omega arith;
+    }
 
 -- ---- the types of nodes
 
@@ -179,13 +292,20 @@ pub record IsOffset (n : ℕ) (ticks : ℤ) (operands : List ℕ) : Type 0 where
   pub earlier : value < n
   pub few : unsigned_abs ticks ≤ 1048576
 
-offset_call : (so_far : List Call) (n : ℕ) (call : Call) (kind : Kind) (ticks : ℤ) → WasLawful n call →
+offset_call : (so_far : List Call) (n : ℕ) (call : Call) (kind : Kind) (ticks : ℤ)
+    → WasLawful n call →
     IsKind so_far n call kind → kind ≡ K.Offset ticks → IsOffset n ticks (operands_by so_far n call)
 offset_call so_far n (C.Offset value k t) kind ticks l i e =
     let same : k ≡ ticks = cc in
     let v = stream_below l.older value t l.lawful.0 in
     let q = l.count in
-    record { value = value; operand = refl; earlier = omega arith; few = subst (λ j. unsigned_abs j ≤ 1048576) same l.lawful.1 }
+    record {
+      value = value;
+      operand = refl;
+      earlier = omega arith;
+      few = subst (λ j. unsigned_abs j
+          ≤ 1048576) same l.lawful.1;
+    }
 offset_call so_far n (C.Input name t control) kind ticks l i e = absurd (cc)
 offset_call so_far n (C.Output name value control t) kind ticks l i e = absurd (cc)
 offset_call so_far n (C.Scalar name t) kind ticks l i e = absurd (cc)
@@ -198,7 +318,8 @@ offset_call so_far n (C.Counter d) kind ticks l i e = absurd (cc)
 offset_call so_far n C.Chain kind ticks l i e = absurd (cc)
 offset_call so_far n (C.ChainDigit chain d) kind ticks l i e = absurd (cc)
 
-operation_call : (so_far : List Call) (n : ℕ) (call : Call) (kind : Kind) (op : Op) (mode : RoundMode) (amount : ℕ) →
+operation_call : (so_far : List Call) (n : ℕ) (call : Call) (kind : Kind) (op : Op) (mode :
+    RoundMode) (amount : ℕ) →
     WasLawful n call → IsKind so_far n call kind → kind ≡ K.Operation op mode amount →
     deciding op < length (operands_by so_far n call)
 operation_call so_far n (C.Operation op' mode' amount' args t) kind op mode amount l i e =
@@ -233,7 +354,8 @@ got [] n x d e = absurd (cc)
 got (y ∷ ys) zero x d e = cc
 got (y ∷ ys) (suc n) x d e = got ys n x d e
 
-of_node : (so_far : List Call) (nodes : List Node) (n : ℕ) → WereLawful so_far → AreNodes so_far nodes →
+of_node : (so_far : List Call) (nodes : List Node) (n : ℕ) → WereLawful so_far
+    → AreNodes so_far nodes →
     n < length nodes → IsOf so_far nodes n
 of_node so_far nodes n w a h =
     let e = a.count in
@@ -248,11 +370,13 @@ of_node so_far nodes n w a h =
 
 -- what the crate uses of a kernel's nodes
 pub record IsOrderly (nodes : List Node) : Type 0 where
-  pub operands : (n i : ℕ) → n < length nodes → i < length (operands_at nodes n) → operand_at nodes n i < length nodes
+  pub operands : (n i : ℕ) → n < length nodes → i < length (operands_at nodes n)
+      → operand_at nodes n i < length nodes
   pub few : (n : ℕ) → n < length nodes → length (operands_at nodes n) ≤ 65
   pub widths : (n : ℕ) → n < length nodes → HasWidth (node_at nodes n).view.t
   pub offsets : (n : ℕ) (ticks : ℤ) → n < length nodes → kind_at nodes n ≡ K.Offset ticks →
-      (0 < length (operands_at nodes n)) × (operand_at nodes n 0 < n) × (unsigned_abs ticks ≤ 1048576)
+      (0 < length (operands_at nodes n)) × (operand_at nodes n 0 < n) × (unsigned_abs ticks ≤
+      1048576)
   pub operations : (n : ℕ) (op : Op) (mode : RoundMode) (amount : ℕ) → n < length nodes →
       kind_at nodes n ≡ K.Operation op mode amount → deciding op < length (operands_at nodes n)
 
@@ -275,7 +399,8 @@ orderly_so_far so_far nodes w some once a =
           omega arith;
       widths = λ n h.
           let o = of_node so_far nodes n w a h in
-          subst (λ t. HasWidth t) (sym o.is.t) (node_width so_far n o.call (kind_at nodes n) w some o.makes o.was o.is.kind);
+          subst (λ t. HasWidth t) (sym o.is.t) (node_width so_far n o.call (kind_at nodes n) w some
+          o.makes o.was o.is.kind);
       offsets = λ n ticks h e.
           let o = of_node so_far nodes n w a h in
           let f = offset_call so_far n o.call (kind_at nodes n) ticks o.was o.is.kind e in
@@ -286,7 +411,8 @@ orderly_so_far so_far nodes w some once a =
           (omega arith, omega arith, f.few);
       operations = λ n op mode amount h e.
           let o = of_node so_far nodes n w a h in
-          let f = operation_call so_far n o.call (kind_at nodes n) op mode amount o.was o.is.kind e in
+          let f = operation_call so_far n o.call (kind_at nodes n) op mode amount o.was o.is.kind e
+          in
           let q = ap length o.is.operands in
           omega arith;
     }

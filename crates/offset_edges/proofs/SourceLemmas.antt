@@ -1,12 +1,40 @@
 -- What nodes are read as, past offset nodes.
-use Rattle.std.proofs.Common.{◌≡◌, ℕ, zero, suc, ◌*◌, ◌≤◌, ◌<◌, false, List, length, refl, ap, sym, ◌∙◌, arith, inl, inr, ◌⊎◌, ⊎_elim}
+use Rattle.std.proofs.Common.{
+  ◌≡◌,
+  ℕ,
+  zero,
+  suc,
+  ◌*◌,
+  ◌≤◌,
+  ◌<◌,
+  false,
+  List,
+  length,
+  refl,
+  ap,
+  sym,
+  ◌∙◌,
+  arith,
+  inl,
+  inr,
+  ◌⊎◌,
+  ⊎_elim,
+}
 use Rattle.std.specs.Prelude.{ℤ, pos, ◌+ℤ◌, unsigned_abs}
 use Rattle.std.proofs.lemmas.Int.{ints}
 use Rattle.stream_graph.specs.declared.node.Kind.{Kind}
 use Rattle.stream_graph.specs.declared.node.Kind.TheVariants as K
 use Rattle.stream_graph.specs.declared.node.Node.{Node}
 use Rattle.offset_edges.specs.declared.source.Source.{Source}
-use Rattle.offset_edges.specs.Edges.{kind_at, operand_at, new_source, past, source_within, source_of, is_offset}
+use Rattle.offset_edges.specs.Edges.{
+  kind_at,
+  operand_at,
+  new_source,
+  past,
+  source_within,
+  source_of,
+  is_offset,
+}
 use Rattle.offset_edges.proofs.NodeLemmas.{IsOrderly}
 
 -- of a kind: an offset, or another one
@@ -23,7 +51,8 @@ kind_cases K.Counter = inr refl
 kind_cases K.Chain = inr refl
 kind_cases (K.Part place) = inr refl
 
-past_other : (kind : Kind) (n : ℕ) (behind : Source) → is_offset kind ≡ false → past kind n behind ≡ new_source n (pos 0)
+past_other : (kind : Kind) (n : ℕ) (behind : Source) → is_offset kind ≡ false
+    → past kind n behind ≡ new_source n (pos 0)
 past_other (K.Offset ticks) n behind e = absurd (cc)
 past_other K.Input n behind e = refl
 past_other K.Output n behind e = refl
@@ -38,22 +67,26 @@ past_other (K.Part place) n behind e = refl
 
 module _ (nodes : List Node) (o : IsOrderly nodes) where
   -- so many steps are enough
-  enough : (a b n : ℕ) → n ≤ a → n ≤ b → n < length nodes → source_within a nodes n ≡ source_within b nodes n
+  enough : (a b n : ℕ) → n ≤ a → n ≤ b → n < length nodes
+      → source_within a nodes n ≡ source_within b nodes n
   enough zero zero n la lb h = refl
   enough zero (suc b) n la lb h = ⊎_elim
       (λ (p : (ticks : ℤ) × (kind_at nodes n ≡ K.Offset ticks)).
       let e = (o.offsets n p.0 h p.1).1 in absurd (omega arith))
-      (λ (f : is_offset (kind_at nodes n) ≡ false). sym (past_other (kind_at nodes n) n (source_within b nodes (operand_at nodes n 0)) f))
+      (λ (f : is_offset (kind_at nodes n) ≡ false). sym (past_other (kind_at nodes n) n
+      (source_within b nodes (operand_at nodes n 0)) f))
       (kind_cases (kind_at nodes n))
   enough (suc a) zero n la lb h = ⊎_elim
       (λ (p : (ticks : ℤ) × (kind_at nodes n ≡ K.Offset ticks)).
       let e = (o.offsets n p.0 h p.1).1 in absurd (omega arith))
-      (λ (f : is_offset (kind_at nodes n) ≡ false). past_other (kind_at nodes n) n (source_within a nodes (operand_at nodes n 0)) f)
+      (λ (f : is_offset (kind_at nodes n) ≡ false). past_other (kind_at nodes n) n (source_within a
+      nodes (operand_at nodes n 0)) f)
       (kind_cases (kind_at nodes n))
   enough (suc a) (suc b) n la lb h = ⊎_elim
       (λ (p : (ticks : ℤ) × (kind_at nodes n ≡ K.Offset ticks)).
       let e = (o.offsets n p.0 h p.1).1 in
-      ap (past (kind_at nodes n) n) (enough a b (operand_at nodes n 0) (omega arith) (omega arith) (omega arith)))
+      ap (past (kind_at nodes n) n) (enough a b (operand_at nodes n 0) (omega arith) (omega arith)
+      (omega arith)))
       (λ (f : is_offset (kind_at nodes n) ≡ false).
       past_other (kind_at nodes n) n (source_within a nodes (operand_at nodes n 0)) f
       ∙ sym (past_other (kind_at nodes n) n (source_within b nodes (operand_at nodes n 0)) f))
@@ -67,12 +100,15 @@ module _ (nodes : List Node) (o : IsOrderly nodes) where
       let l = (o.offsets n ticks h e).1 in
       enough n (suc n) n (omega arith) (omega arith) h
       ∙ ap (λ k. past k n (source_within n nodes (operand_at nodes n 0))) e
-      ∙ ap (past (K.Offset ticks) n) (enough n (operand_at nodes n 0) (operand_at nodes n 0) (omega arith) (omega arith) (omega arith))
+      ∙ ap (past (K.Offset ticks) n) (enough n (operand_at nodes n 0) (operand_at nodes n 0) (omega
+      arith) (omega arith) (omega arith))
 
   -- another node as itself
-  pub source_here : (n : ℕ) → n < length nodes → is_offset (kind_at nodes n) ≡ false → source_of nodes n ≡ new_source n (pos 0)
+  pub source_here : (n : ℕ) → n < length nodes → is_offset (kind_at nodes n) ≡ false
+      → source_of nodes n ≡ new_source n (pos 0)
   source_here n h f =
-      enough n (suc n) n (omega arith) (omega arith) h ∙ past_other (kind_at nodes n) n (source_within n nodes (operand_at nodes n 0)) f
+      enough n (suc n) n (omega arith) (omega arith) h ∙ past_other (kind_at nodes n) n
+      (source_within n nodes (operand_at nodes n 0)) f
 
   pub record IsSource (n : ℕ) : Type 0 where
     pub node : (source_of nodes n).node < length nodes
@@ -97,8 +133,10 @@ module _ (nodes : List Node) (o : IsOrderly nodes) where
   sourced_past n ticks h e r =
       let f = o.offsets n ticks h e in
       let q = source_past n ticks h e in
-      let v : (source_of nodes n).node ≡ (source_of nodes (operand_at nodes n 0)).node = ap (λ s. s.node) q in
-      let k : (source_of nodes n).offset ≡ (ticks +ℤ (source_of nodes (operand_at nodes n 0)).offset) = ap (λ s. s.offset) q in
+      let v : (source_of nodes n).node ≡ (source_of nodes (operand_at nodes n 0)).node = ap (λ s.
+      s.node) q in
+      let k : (source_of nodes n).offset ≡ (ticks +ℤ (source_of nodes (operand_at nodes n
+      0)).offset) = ap (λ s. s.offset) q in
       let below = r.node in
       let size = r.offset in
       let earlier = f.1 in

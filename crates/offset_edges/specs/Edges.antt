@@ -1,5 +1,28 @@
 -- The edges of a kernel: from which node the words of an operand come, and how many ticks ahead.
-use Rattle.std.specs.Prelude.{◌≡◌, ℕ, zero, suc, ◌≤◌, ◌<◌, ◌^◌, Bool, true, false, if◌then◌else◌, ℤ, pos, ◌+ℤ◌, unsigned_abs, List, [], ◌∷◌, ◌++◌, length, slice_index, slice_index_or}
+use Rattle.std.specs.Prelude.{
+  ◌≡◌,
+  ℕ,
+  zero,
+  suc,
+  ◌≤◌,
+  ◌<◌,
+  ◌^◌,
+  Bool,
+  true,
+  false,
+  if◌then◌else◌,
+  ℤ,
+  pos,
+  ◌+ℤ◌,
+  unsigned_abs,
+  List,
+  [],
+  ◌∷◌,
+  ◌++◌,
+  length,
+  slice_index,
+  slice_index_or,
+}
 use Rattle.std.specs.List.{flat_map}
 use Rattle.fix_arith.specs.declared.types.StreamType.TheVariants.{UInt}
 use Rattle.fix_arith.specs.Types.{width_of}
@@ -86,7 +109,8 @@ edge_of nodes reader operand =
 -- the edges over which a node reads its operands; an offset reads nothing itself
 abbrev pub edges_into : List Node → ℕ → List Edge
 edges_into nodes reader =
-    if is_offset (kind_at nodes reader) then [] else flat_map (edge_of nodes reader) (operands_at nodes reader)
+    if is_offset (kind_at nodes reader) then [] else flat_map (edge_of nodes reader) (operands_at
+    nodes reader)
 
 -- those into the nodes below a number, in node order
 abbrev pub edges_below : List Node → ℕ → List Edge

@@ -1,5 +1,18 @@
 -- The latencies of a kernel's nodes.
-use Rattle.std.specs.Prelude.{◌≡◌, ℕ, ◌≤◌, ◌<◌, List, length, slice_index, Option, Some, None, unwrap_or, IsSome}
+use Rattle.std.specs.Prelude.{
+  ◌≡◌,
+  ℕ,
+  ◌≤◌,
+  ◌<◌,
+  List,
+  length,
+  slice_index,
+  Option,
+  Some,
+  None,
+  unwrap_or,
+  IsSome,
+}
 use Rattle.mx_bits.specs.declared.op.Op.{Op}
 use Rattle.mx_bits.specs.declared.op.Op.TheVariants.{Mux}
 use Rattle.fix_arith.specs.declared.types.RoundMode.{RoundMode}
@@ -39,10 +52,11 @@ abbrev pub AllTimed : Table → List Node → Type 0
 AllTimed table nodes = (n : ℕ) → n < length nodes → IsSome (latency_at table nodes n)
 
 -- these are the latencies of so many nodes, in node order
-pub record AreLatencies (table : Table) (nodes : List Node) (count : ℕ) (ticks : List ℕ) : Type 0 where
-  pub counted : length ticks ≡ count
-  pub each : (n : ℕ) → n < count → latency_at table nodes n ≡ Some (slice_index ticks n)
-  pub at_most : (n : ℕ) → slice_index ticks n ≤ 64
+pub record AreLatencies (table : Table) (nodes : List Node) (count : ℕ) (ticks : List ℕ) : Type 0
+  where
+    pub counted : length ticks ≡ count
+    pub each : (n : ℕ) → n < count → latency_at table nodes n ≡ Some (slice_index ticks n)
+    pub at_most : (n : ℕ) → slice_index ticks n ≤ 64
 
 -- the node is an operation for which the table has no row
 pub record HasNone (table : Table) (nodes : List Node) (n : ℕ) (op : Op) (width : ℕ) : Type 0 where
@@ -57,10 +71,11 @@ Lacks table nodes n (E.Cycle walk) = ⊥
 Lacks table nodes n E.NoMemory = Unit {0}
 
 -- no node before this one is such an operation
-pub record IsFirstLacking (table : Table) (nodes : List Node) (n : ℕ) (op : Op) (width : ℕ) : Type 0 where
-  pub node : n < length nodes
-  pub lacks : HasNone table nodes n op width
-  pub earlier : (k : ℕ) → k < n → IsSome (latency_at table nodes k)
+pub record IsFirstLacking (table : Table) (nodes : List Node) (n : ℕ) (op : Op) (width : ℕ) : Type 0
+  where
+    pub node : n < length nodes
+    pub lacks : HasNone table nodes n op width
+    pub earlier : (k : ℕ) → k < n → IsSome (latency_at table nodes k)
 
 -- the error says those of the first such node
 abbrev pub IsMissing : Table → List Node → EdgeError → Type 0

@@ -1,5 +1,28 @@
 -- The problem of a kernel's schedules: which times are legal, and what they cost.
-use Rattle.std.specs.Prelude.{◌≡◌, ℕ, zero, suc, ◌+◌, ◌*◌, ◌==◌, pos, ◌+ℤ◌, ◌-ℤ◌, List, [], ◌∷◌, ◌++◌, length, slice_index_or, ◌<◌, Option, Some, None, find}
+use Rattle.std.specs.Prelude.{
+  ◌≡◌,
+  ℕ,
+  zero,
+  suc,
+  ◌+◌,
+  ◌*◌,
+  ◌/◌,
+  ◌==◌,
+  pos,
+  ◌+ℤ◌,
+  ◌-ℤ◌,
+  List,
+  [],
+  ◌∷◌,
+  ◌++◌,
+  length,
+  slice_index_or,
+  ◌<◌,
+  Option,
+  Some,
+  None,
+  find,
+}
 use Rattle.std.specs.Option.{option_map}
 use Rattle.std.specs.List.{flat_map}
 use Rattle.cycle_find.specs.declared.arcs.Arc.{Arc}
@@ -21,6 +44,10 @@ arcs_of nodes ticks edge =
 
 abbrev pub arcs_over : ℕ → (ℕ → ℕ) → List Edge → List Arc
 arcs_over nodes ticks edges = flat_map (arcs_of nodes ticks) edges
+
+-- the edge that has the arc of a number
+abbrev pub edge_under : ℕ → ℕ
+edge_under arc = arc / 2
 
 -- the node that reads a node over its first edge
 abbrev pub reader_of : List Edge → ℕ → Option ℕ
@@ -48,7 +75,8 @@ terms_below nodes readers (suc u) = terms_below nodes readers u ++ term_of nodes
 
 abbrev pub base_below : (ℕ → ℕ) → List Node → (ℕ → Option ℕ) → ℕ → ℕ
 base_below ticks nodes readers zero = 0
-base_below ticks nodes readers (suc u) = base_below ticks nodes readers u + base_of ticks nodes u (readers u)
+base_below ticks nodes readers (suc u) = base_below ticks nodes readers u + base_of ticks nodes u
+    (readers u)
 
 -- the problem for these latencies and edges. Of n nodes, node u has its time at u, and at n + u the
 -- time up to which its words are kept

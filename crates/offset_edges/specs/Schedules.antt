@@ -1,5 +1,26 @@
 -- The schedules of a kernel: which are legal, and how many bits their FIFOs hold.
-use Rattle.std.specs.Prelude.{◌≡◌, ℕ, zero, suc, ◌<◌, ◌==◌, if◌then◌else◌, ℤ, pos, ◌+ℤ◌, ◌-ℤ◌, ◌*ℤ◌, ◌≤ℤ◌, List, [], ◌∷◌, length, Option, Some, None}
+use Rattle.std.specs.Prelude.{
+  ◌≡◌,
+  ℕ,
+  zero,
+  suc,
+  ◌<◌,
+  ◌==◌,
+  if◌then◌else◌,
+  ℤ,
+  pos,
+  ◌+ℤ◌,
+  ◌-ℤ◌,
+  ◌*ℤ◌,
+  ◌≤ℤ◌,
+  List,
+  [],
+  ◌∷◌,
+  length,
+  Option,
+  Some,
+  None,
+}
 use Rattle.std.specs.Int.{int_max}
 use Rattle.cycle_find.specs.Constraints.{Numbers, Solves}
 use Rattle.schedule_problem.specs.Flow.{cost_of}
@@ -49,10 +70,14 @@ fifo_bits ticks nodes edges s = bits_below ticks nodes edges s (length nodes)
 abbrev pub SolutionsAreSchedules : Table → List Node → Type 0
 SolutionsAreSchedules table nodes = (x : Numbers) → Solves x (problem_of table nodes).arcs.list →
     IsLegal (ticks_of table nodes) (edges_of nodes) x
-    × (fifo_bits (ticks_of table nodes) nodes (edges_of nodes) x ≤ℤ cost_of (problem_of table nodes) x)
+    × (fifo_bits (ticks_of table nodes) nodes (edges_of nodes) x ≤ℤ cost_of (problem_of table nodes)
+    x)
 
 -- and each legal schedule is part of times that solve the problem and cost what its FIFOs hold
 abbrev pub SchedulesAreSolutions : Table → List Node → Type 0
-SchedulesAreSolutions table nodes = (s : Numbers) → IsLegal (ticks_of table nodes) (edges_of nodes) s →
-    (x : Numbers) × Solves x (problem_of table nodes).arcs.list × ((v : ℕ) → v < length nodes → x v ≡ s v)
-    × (cost_of (problem_of table nodes) x ≡ fifo_bits (ticks_of table nodes) nodes (edges_of nodes) s)
+SchedulesAreSolutions table nodes = (s : Numbers) → IsLegal (ticks_of table nodes) (edges_of nodes)
+    s →
+    (x : Numbers) × Solves x (problem_of table nodes).arcs.list × ((v : ℕ) → v < length nodes
+    → x v ≡ s v)
+    × (cost_of (problem_of table nodes) x ≡ fifo_bits (ticks_of table nodes) nodes (edges_of nodes)
+    s)

@@ -1,5 +1,25 @@
 -- Walks over edges, and which kernels are causal.
-use Rattle.std.specs.Prelude.{◌≡◌, ℕ, ◌+◌, ◌<◌, ◌≤◌, ℤ, pos, ◌+ℤ◌, ◌*ℤ◌, ◌<ℤ◌, ◌≤ℤ◌, List, [], ◌∷◌, map, length, slice_index}
+use Rattle.std.specs.Prelude.{
+  ◌≡◌,
+  ℕ,
+  ◌+◌,
+  ◌<◌,
+  ◌≤◌,
+  ℤ,
+  pos,
+  ◌+ℤ◌,
+  ◌-ℤ◌,
+  ◌*ℤ◌,
+  ◌<ℤ◌,
+  ◌≤ℤ◌,
+  List,
+  [],
+  ◌∷◌,
+  map,
+  length,
+  slice_index,
+}
+use Rattle.std.specs.Int.{int_max}
 use Rattle.cycle_find.specs.declared.arcs.Arc.{Arc}
 use Rattle.offset_edges.specs.declared.edge.Edge.{Edge}
 use Rattle.offset_edges.specs.declared.walk.ClosedWalk.{ClosedWalk}
@@ -14,7 +34,8 @@ end_of edges j = (edge_at edges j).to
 -- a walk is a list of edges, by their numbers, each of which starts where the one before ends
 abbrev pub IsWalk : List Edge → ℕ → List ℕ → ℕ → Type 0
 IsWalk edges a [] b = a ≡ b
-IsWalk edges a (j ∷ js) b = (j < length edges) × (start_of edges j ≡ a) × IsWalk edges (end_of edges j) js b
+IsWalk edges a (j ∷ js) b = (j < length edges) × (start_of edges j ≡ a) × IsWalk edges (end_of edges
+    j) js b
 
 abbrev pub IsClosed : List Edge → List ℕ → Type 0
 IsClosed edges js = (v : ℕ) × IsWalk edges v js v
@@ -31,15 +52,28 @@ latencies_of ticks edges (j ∷ js) = ticks (start_of edges j) + latencies_of ti
 
 -- every closed walk looks back at least one tick
 abbrev pub IsCausal : List Edge → Type 0
-IsCausal edges = (v j : ℕ) (js : List ℕ) → IsWalk edges v (j ∷ js) v → offsets_of edges (j ∷ js) <ℤ pos 0
+IsCausal edges = (v j : ℕ) (js : List ℕ) → IsWalk edges v (j ∷ js) v
+    → offsets_of edges (j ∷ js) <ℤ pos 0
+
+-- a closed walk is covered where it looks back at least one tick, and as many as the latencies of its
+-- nodes sum to
+abbrev pub IsCovered : (ℕ → ℕ) → List Edge → List ℕ → Type 0
+IsCovered ticks edges js =
+    int_max (pos 1) (pos (latencies_of ticks edges js)) ≤ℤ (pos 0 -ℤ offsets_of edges js)
+
+-- every closed walk is covered
+abbrev pub AreCovered : (ℕ → ℕ) → List Edge → Type 0
+AreCovered ticks edges = (v j : ℕ) (js : List ℕ) → IsWalk edges v (j ∷ js) v
+    → IsCovered ticks edges (j ∷ js)
 
 -- ---- the walk of a refusal
 
 -- the walk has the nodes at which these edges start, and the sums of their latencies and offsets
-pub record IsSummed (ticks : ℕ → ℕ) (edges : List Edge) (js : List ℕ) (walk : ClosedWalk) : Type 0 where
-  pub nodes : walk.nodes ≡ map (start_of edges) js
-  pub latency : walk.latency ≡ latencies_of ticks edges js
-  pub offset : walk.offset ≡ offsets_of edges js
+pub record IsSummed (ticks : ℕ → ℕ) (edges : List Edge) (js : List ℕ) (walk : ClosedWalk) : Type 0
+  where
+    pub nodes : walk.nodes ≡ map (start_of edges) js
+    pub latency : walk.latency ≡ latencies_of ticks edges js
+    pub offset : walk.offset ≡ offsets_of edges js
 
 -- it is a closed walk over some edges, from its least node on
 pub record IsShown (ticks : ℕ → ℕ) (edges : List Edge) (walk : ClosedWalk) : Type 0 where
@@ -47,7 +81,8 @@ pub record IsShown (ticks : ℕ → ℕ) (edges : List Edge) (walk : ClosedWalk)
   pub some : 0 < length round
   pub closed : IsClosed edges round
   pub summed : IsSummed ticks edges round walk
-  pub least_first : (i : ℕ) → i < length walk.nodes → slice_index walk.nodes 0 ≤ slice_index walk.nodes i
+  pub least_first : (i : ℕ) → i < length walk.nodes → slice_index walk.nodes 0 ≤ slice_index
+      walk.nodes i
 
 -- ---- how it is found
 

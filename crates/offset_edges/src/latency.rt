@@ -9,12 +9,10 @@ use mx_bits::Op;
 use std::alloc::Global;
 use stream_graph::{Kernel, Kind, NodeId};
 
-/// The latency of each node by the table, in node order, or the first operation without one.
-pub(crate) fn latencies(
-    alloc: Global,
-    kernel: &Kernel,
-    table: &Table,
-) -> Result<Vec<u32>, EdgeError>
+/// The latency of each node of a kernel by the table, in ticks and in node order: of an operation
+/// by the width of the operand that decides it, of all others 0. `NoLatency` exactly where the table
+/// has no row for an operation of the kernel, the first in node order.
+pub fn latencies(alloc: Global, kernel: &Kernel, table: &Table) -> Result<Vec<u32>, EdgeError>
     ensures ok { IfOk result (λ ticks.
         AreLatencies table.now kernel.now.nodes (length kernel.now.nodes) ticks.items) }
     ensures err { IfErr result (IsMissing table.now kernel.now.nodes) }

@@ -14,10 +14,13 @@ mod law;
 mod line;
 mod problem;
 mod source;
+mod uncovered;
 mod walk;
 
 pub use edge::{Edge, edge_list};
 pub use error::EdgeError;
 pub use kernel::edges;
+pub use latency::latencies;
 pub use law::{schedules_are_solutions, solutions_are_schedules};
+pub use uncovered::uncovered_walk;
 pub use walk::ClosedWalk;

@@ -1,7 +1,7 @@
 // The walk that a refusal shows.
 ghost use Rattle.std.specs.Prelude.{◌≡◌, ℕ, ◌<◌, ◌≤◌, ◌++◌, take, drop, length, slice_index, IfOk};
 ghost use Rattle.offset_edges.specs.Edges.{edge_at, IsSmall};
-ghost use Rattle.offset_edges.specs.Walks.{IsClosed, start_of, offsets_of, AreNumbers, IsShown, IsSummed};
+ghost use Rattle.offset_edges.specs.Walks.{IsClosed, start_of, offsets_of, latencies_of, AreNumbers, IsShown, IsSummed};
 
 use crate::Edge;
 use mx_base::{List, NoMemory};
@@ -30,6 +30,8 @@ pub(crate) fn walk_over(
     requires ticks { (n : ℕ) → slice_index ticks.now n ≤ 64 }
     ensures shown { IfOk result (λ walk. IsShown (λ n. slice_index ticks.now n) edges.now walk) }
     ensures offset { IfOk result (λ walk. walk.offset ≡ offsets_of edges.now round.now) }
+    ensures latency { IfOk result (λ walk.
+        walk.latency ≡ latencies_of (λ n. slice_index ticks.now n) edges.now round.now) }
 {
     let first = least_start(edges, round);
     let numbers = turned(alloc, round, first)?;

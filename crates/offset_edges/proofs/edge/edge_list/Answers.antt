@@ -6,10 +6,16 @@ use Rattle.offset_edges.proofs.EdgeLemmas.{edges_are, edges_few}
 use Rattle.offset_edges.proofs.edge.edge_list.Goals as goal
 
 -- the loop has come to the last node
-all_read : (c : goal.After-drop-sources-2) → c.loop-number.edges.items ≡ edges_of c.args.kernel.now.nodes
+all_read : (c : goal.After-drop-sources-2) → c.loop-number.edges.items ≡ edges_of
+    c.args.kernel.now.nodes
 all_read c =
     let e : c.loop-number.number ≡ length c.args.kernel.now.nodes =
-    omega (arith, c.loop-number.auto.number-end, c.loop-number-test.false, c.count-number-end.ensures) in
+    omega (
+      arith,
+      c.loop-number.auto.number-end,
+      c.loop-number-test.false,
+      c.count-number-end.ensures,
+    ) in
     c.loop-number.invariant ∙ ap (edges_below c.args.kernel.now.nodes) e
 
 pub returns-clause-each : goal.returns-clause-each

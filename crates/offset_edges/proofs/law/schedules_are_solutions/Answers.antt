@@ -13,7 +13,8 @@ returns c =
     let edges = edges_of nodes in
     λ s legal. (
       with_kept (length nodes) ticks edges s,
-      solution_of (length nodes) ticks edges s (edges_small nodes (orderly nodes c.args.kernel.now.made) c.args.kernel.now.few) legal,
+      solution_of (length nodes) ticks edges s (edges_small nodes (orderly nodes
+          c.args.kernel.now.made) c.args.kernel.now.few) legal,
       λ v h. of_node (length nodes) ticks edges s v h,
       bits_same_all ticks nodes edges s,
     )

@@ -8,4 +8,8 @@ pub returns : goal.returns
 returns c =
     let nodes = c.args.kernel.now.nodes in
     let ticks = ticks_of c.args.table.now nodes in
-    λ x s. (legal_from (length nodes) ticks x (edges_of nodes) s, bits_least_all ticks nodes (edges_of nodes) x s)
+    λ x s. (
+      legal_from (length nodes) ticks x (edges_of nodes) s,
+      bits_least_all ticks nodes
+          (edges_of nodes) x s,
+    )

@@ -5,5 +5,6 @@ use Rattle.offset_edges.proofs.problem.base.Given as goal
 
 abbrev pub invariant-loop-number : goal.invariant-loop-number
 invariant-loop-number l =
-    (l.base ≡ base_below (λ n. slice_index l.ticks n) l.kernel.nodes (λ u. slice_index_or l.readers u None) l.number)
+    (l.base ≡ base_below (λ n. slice_index l.ticks n) l.kernel.nodes (λ u. slice_index_or l.readers
+    u None) l.number)
     × (l.base ≤ 8192 * l.number)

@@ -15,25 +15,34 @@ use Rattle.offset_edges.proofs.source.source_at.Goals as goal
 pub bounds-operands-0 : goal.bounds-operands-0
 bounds-operands-0 c =
     let nodes = c.args.kernel.now.nodes in
-    let v = view_read nodes c.new-id.result c.args.number c.node.result c.new-id.ensures c.node.ensures in
-    let k : kind_at nodes c.args.number ≡ K.Offset c.in-Offset.ticks = sym (ap (λ w. w.kind) v) ∙ c.in-Offset.is in
-    let f = (orderly nodes c.args.kernel.now.made).offsets c.args.number c.in-Offset.ticks c.requires.node k in
-    let q = ap length (operands_read nodes c.new-id.result c.args.number c.operands.result.now c.new-id.ensures c.operands.ensures) in
+    let v = view_read nodes c.new-id.result c.args.number c.node.result c.new-id.ensures
+    c.node.ensures in
+    let k : kind_at nodes c.args.number ≡ K.Offset c.in-Offset.ticks = sym (ap (λ w. w.kind) v)
+    ∙ c.in-Offset.is in
+    let f = (orderly nodes c.args.kernel.now.made).offsets c.args.number c.in-Offset.ticks
+    c.requires.node k in
+    let q = ap length (operands_read nodes c.new-id.result c.args.number c.operands.result.now
+    c.new-id.ensures c.operands.ensures) in
     let some = f.0 in
     omega arith
 
 pub bounds-earlier-index : goal.bounds-earlier-index
 bounds-earlier-index c =
     let nodes = c.args.kernel.now.nodes in
-    let v = view_read nodes c.new-id.result c.args.number c.node.result c.new-id.ensures c.node.ensures in
-    let k : kind_at nodes c.args.number ≡ K.Offset c.in-Offset.ticks = sym (ap (λ w. w.kind) v) ∙ c.in-Offset.is in
-    let f = (orderly nodes c.args.kernel.now.made).offsets c.args.number c.in-Offset.ticks c.requires.node k in
-    let q = operands_read nodes c.new-id.result c.args.number c.operands.result.now c.new-id.ensures c.operands.ensures in
+    let v = view_read nodes c.new-id.result c.args.number c.node.result c.new-id.ensures
+    c.node.ensures in
+    let k : kind_at nodes c.args.number ≡ K.Offset c.in-Offset.ticks = sym (ap (λ w. w.kind) v)
+    ∙ c.in-Offset.is in
+    let f = (orderly nodes c.args.kernel.now.made).offsets c.args.number c.in-Offset.ticks
+    c.requires.node k in
+    let q = operands_read nodes c.new-id.result c.args.number c.operands.result.now c.new-id.ensures
+    c.operands.ensures in
     let some = f.0 in
     let earlier = f.1 in
     let l : 0 < length c.operands.result.now = omega (arith, ap length q) in
     let r : c.index-operands-0.result ≡ operand_at nodes c.args.number 0 =
-    get_or_read c.operands.result.now 0 c.index-operands-0.result l c.index-operands-0.is 0 ∙ ap (λ xs. get_or xs 0 0) q in
+    get_or_read c.operands.result.now 0 c.index-operands-0.result l c.index-operands-0.is 0
+    ∙ ap (λ xs. get_or xs 0 0) q in
     let n = c.index.ensures.number in
     let m = c.requires.earlier.counted in
     omega arith
@@ -45,9 +54,11 @@ pub record Behind (nodes : List Node) (n : ℕ) (ticks : ℤ) (behind : Source) 
   pub few : unsigned_abs ticks ≤ 1048576
   pub size : unsigned_abs behind.offset ≤ 2 ^ 32
 
-behind_it : (nodes : List Node) (made : ∥ AreKernel nodes ∥₁) (few : length nodes ≤ 4096) (earlier : List Source)
+behind_it : (nodes : List Node) (made : ∥ AreKernel nodes ∥₁) (few : length nodes ≤ 4096) (earlier :
+    List Source)
     (n index : ℕ) (ticks : ℤ) (d : Source) → AreSources nodes n earlier → n < length nodes →
-    kind_at nodes n ≡ K.Offset ticks → index ≡ operand_at nodes n 0 → Behind nodes n ticks (get_or earlier index d)
+    kind_at nodes n ≡ K.Offset ticks → index ≡ operand_at nodes n 0
+    → Behind nodes n ticks (get_or earlier index d)
 behind_it nodes made few earlier n index ticks d a h k e =
     let o = orderly nodes made in
     let f = o.offsets n ticks h k in
@@ -55,29 +66,39 @@ behind_it nodes made few earlier n index ticks d a h k e =
     let is : get_or earlier index d ≡ source_of nodes (operand_at nodes n 0) =
     ap (λ i. get_or earlier i d) e ∙ a.each (operand_at nodes n 0) d (omega arith) in
     let s = (source_known nodes o (operand_at nodes n 0) (omega arith)).offset in
-    let z : unsigned_abs (get_or earlier index d).offset ≡ unsigned_abs (source_of nodes (operand_at nodes n 0)).offset =
+    let z : unsigned_abs (get_or earlier index d).offset ≡ unsigned_abs (source_of nodes (operand_at
+    nodes n 0)).offset =
     ap (λ s. unsigned_abs s.offset) is in
     record {
       is = is;
-      past = source_past nodes o n ticks h k ∙ ap (λ s. new_source s.node (ticks +ℤ s.offset)) (sym is);
+      past = source_past nodes o n ticks h k ∙ ap (λ s. new_source s.node (ticks +ℤ s.offset)) (sym
+          is);
       few = f.2;
       size = omega arith;
     }
 
-behind_here : (c : goal.After-struct_told-1) → Behind c.args.kernel.now.nodes c.args.number c.in-Offset.ticks
+behind_here : (c : goal.After-struct_told-1) → Behind c.args.kernel.now.nodes c.args.number
+    c.in-Offset.ticks
     (get_or c.args.earlier.now c.index.result (new_source 0 (pos 0)))
 behind_here c =
     let nodes = c.args.kernel.now.nodes in
-    let v = view_read nodes c.new-id.result c.args.number c.node.result c.new-id.ensures c.node.ensures in
-    let k : kind_at nodes c.args.number ≡ K.Offset c.in-Offset.ticks = sym (ap (λ w. w.kind) v) ∙ c.in-Offset.is in
-    let f = (orderly nodes c.args.kernel.now.made).offsets c.args.number c.in-Offset.ticks c.requires.node k in
-    let q = operands_read nodes c.new-id.result c.args.number c.operands.result.now c.new-id.ensures c.operands.ensures in
+    let v = view_read nodes c.new-id.result c.args.number c.node.result c.new-id.ensures
+    c.node.ensures in
+    let k : kind_at nodes c.args.number ≡ K.Offset c.in-Offset.ticks = sym (ap (λ w. w.kind) v)
+    ∙ c.in-Offset.is in
+    let f = (orderly nodes c.args.kernel.now.made).offsets c.args.number c.in-Offset.ticks
+    c.requires.node k in
+    let q = operands_read nodes c.new-id.result c.args.number c.operands.result.now c.new-id.ensures
+    c.operands.ensures in
     let some = f.0 in
     let l : 0 < length c.operands.result.now = omega (arith, ap length q) in
     let r : c.index-operands-0.result ≡ operand_at nodes c.args.number 0 =
-    get_or_read c.operands.result.now 0 c.index-operands-0.result l c.index-operands-0.is 0 ∙ ap (λ xs. get_or xs 0 0) q in
-    behind_it nodes c.args.kernel.now.made c.args.kernel.now.few c.args.earlier.now c.args.number c.index.result
-    c.in-Offset.ticks (new_source 0 (pos 0)) c.requires.earlier c.requires.node k (c.index.ensures.number ∙ r)
+    get_or_read c.operands.result.now 0 c.index-operands-0.result l c.index-operands-0.is 0
+    ∙ ap (λ xs. get_or xs 0 0) q in
+    behind_it nodes c.args.kernel.now.made c.args.kernel.now.few c.args.earlier.now c.args.number
+    c.index.result
+    c.in-Offset.ticks (new_source 0 (pos 0)) c.requires.earlier c.requires.node k
+    (c.index.ensures.number ∙ r)
 
 pub overflow_add-result : goal.overflow_add-result
 overflow_add-result c =

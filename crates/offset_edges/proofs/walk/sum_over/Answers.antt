@@ -13,14 +13,16 @@ loop-number-preserved c =
     let h = c.loop-number-test.true in
     let size : unsigned_abs (edge_at edges (get_or js i 0)).offset ≤ 2 ^ 32 =
     (c.requires.edges (get_or js i 0) (c.requires.numbers i h)).offset in
-    let most : get_or c.args.ticks.now (edge_at edges (get_or js i 0)).from 0 ≤ 64 = c.requires.ticks (edge_at edges (get_or js i 0)).from in
+    let most : get_or c.args.ticks.now (edge_at edges (get_or js i 0)).from 0 ≤ 64 =
+    c.requires.ticks (edge_at edges (get_or js i 0)).from in
     let from = c.from-latency.ensures in
     let few = c.requires.few in
     let more = offsets_more edges js i h in
     let is = c.loop-number.invariant.2 in
     let latency = c.loop-number.invariant.3 in
     let offset = c.loop-number.invariant.4 in (
-      nodes_more edges js c.push.new.self c.loop-number.nodes i h c.loop-number.invariant.0 c.in_ok-push.ensures.ok,
+      nodes_more edges js c.push.new.self c.loop-number.nodes i h c.loop-number.invariant.0
+          c.in_ok-push.ensures.ok,
       summed c.loop-number.latency c.from-latency.result _ _ _ c.loop-number.invariant.1 from
           (latencies_more (λ n. slice_index c.args.ticks.now n) edges js i h),
       omega (arith, ints, size, more, is, offset, few, h),
