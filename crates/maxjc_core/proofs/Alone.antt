@@ -19,8 +19,10 @@ use Rattle.kernel_eval.specs.Building.{IsAnswer}
 use Rattle.kernel_eval.specs.Built.{IsBuilt}
 use Rattle.kernel_eval.specs.Runs.{IsKernelAt}
 use Rattle.kernel_eval.specs.declared.building.BuildError.TheVariants as B
-use Rattle.maxjc_core.specs.Causes.{IsOfSource}
-use Rattle.maxjc_core.specs.Kernels.{IsAlone, HasKernel, AloneHasKernel, LacksKernel, AloneLacksKernel}
+use Rattle.latency_table.specs.declared.table.Table.{Table}
+use Rattle.latency_table.specs.Tables.{Reads}
+use Rattle.maxjc_core.specs.Causes.{OneKernel}
+use Rattle.maxjc_core.specs.Kernels.{IsAlone, LacksKernel}
 use Rattle.maxjc_core.specs.Lines.{Cause}
 use Rattle.maxjc_core.specs.Refusals.{IfCause, run_cause, graph_cause, cause_told}
 use Rattle.maxjc_core.specs.Stops.{IfRefused}
@@ -28,7 +30,7 @@ use Rattle.maxjc_core.specs.declared.stop.Stop.{Stop}
 use Rattle.maxjc_core.specs.declared.stop.Stop.TheVariants as stops
 use Rattle.maxjc_core.proofs.Refusing.{if_cause_so}
 
-some-same : {a b : Cause} → Some a ≡ Some b → a ≡ b
+pub some-same : {a b : Cause} → Some a ≡ Some b → a ≡ b
 some-same e = cc
 
 abbrev failed : EvalError → Result Plan EvalError
@@ -42,7 +44,8 @@ pub class-alone : (p : Program) (c : Class) (classes : List ClassTree) (kernel :
     → p.classes ≡ c ∷ [] → classes ≡ kernel ∷ [] → ProgramIs p classes → ClassIs p.tree c kernel
 class-alone p c classes kernel one alone is =
     let both : ClassesAre p.tree (c ∷ []) (kernel ∷ []) =
-    subst (λ cs. ClassesAre p.tree cs (kernel ∷ [])) one (subst (ClassesAre p.tree p.classes) alone is) in
+    subst (λ cs. ClassesAre p.tree cs (kernel ∷ [])) one (subst (ClassesAre p.tree p.classes) alone
+    is) in
     both.0
 
 -- a program of one class has one tree
@@ -68,60 +71,53 @@ one-class p classes kernel alone is =
     by (c ∷ []) e h = (c, e, h.0.manager ∙ alone.1)
     by (c ∷ d ∷ cs) e h = absurd h.1
 
+-- no class stands alone in a program without one
 pub none-alone : (p : Program) (classes : List ClassTree)
     → ((c : Class) → p.classes ≡ c ∷ [] → c.manager ≡ false → ⊥) → ProgramIs p classes
-    → AloneHasKernel classes
+    → (kernel : ClassTree) → IsAlone classes kernel → ⊥
 none-alone p classes none is kernel alone =
     let c = one-class p classes kernel alone is in
-    absurd (none c.0 c.1 c.2)
+    none c.0 c.1 c.2
 
--- what is refused of the class is refused of the source
-pub fails-alone : (p : Program) (c : Class) (classes : List ClassTree) (stop : Stop)
-    → p.classes ≡ c ∷ [] → c.manager ≡ false → ProgramIs p classes
-    → ((kernel : ClassTree) → ClassIs p.tree c kernel → IfRefused stop (LacksKernel kernel))
-    → IfRefused stop (AloneLacksKernel classes)
-fails-alone p c classes (stops.Refused refusal) one host is fails =
+-- the class that stands alone among the trees of a program
+pub alone-of : (p : Program) (c : Class) (classes : List ClassTree) → p.classes ≡ c ∷ []
+    → c.manager ≡ false → ProgramIs p classes → (kernel : ClassTree) × IsAlone classes kernel
+alone-of p c classes one host is =
     let tree = tree-of p c classes one is in
     let at = class-alone p c classes tree.0 one tree.1 is in
-    if_cause_so (cause_told refusal) (LacksKernel tree.0) (AloneLacksKernel classes)
-    (λ cause h. (tree.0, (tree.1, sym at.manager ∙ host), h)) (fails tree.0 at)
-fails-alone p c classes stops.ReadFault one host is fails = tt
-fails-alone p c classes stops.NoMemory one host is fails = tt
+    (tree.0, (tree.1, sym at.manager ∙ host))
 
--- so of what answers for the class
-pub built-alone : (p : Program) (c : Class) (classes : List ClassTree)
-    (r : Result (Unit {0}) Stop) → p.classes ≡ c ∷ [] → ProgramIs p classes
-    → ((kernel : ClassTree) → ClassIs p.tree c kernel → IfOk r (λ _. HasKernel kernel))
-    → IfOk r (λ _. AloneHasKernel classes)
-built-alone p c classes (Ok done) one is built =
-    λ kernel alone. built kernel (class-alone p c classes kernel one alone.0 is)
-built-alone p c classes (Err stop) one is built = tt
+-- a source whose class stands alone, and a table
+pub record HasOne (p : Program) (c : Class) (source table : List ℕ) (latencies : Table) : Type 0
+  where
+    pub project : OneKernel source table
+    pub class : ClassIs p.tree c project.kernel
+    pub program : ProgramIs p project.classes
+    pub same : project.latencies ≡ latencies
 
-pub refused-alone : (p : Program) (c : Class) (classes : List ClassTree)
-    (r : Result (Unit {0}) Stop) → p.classes ≡ c ∷ [] → c.manager ≡ false → ProgramIs p classes
-    → ((kernel : ClassTree) → ClassIs p.tree c kernel
-    → IfErr r (λ stop. IfRefused stop (LacksKernel kernel)))
-    → IfErr r (λ stop. IfRefused stop (AloneLacksKernel classes))
-refused-alone p c classes (Ok done) one host is fails = tt
-refused-alone p c classes (Err stop) one host is fails =
-    fails-alone p c classes stop one host is fails
-
--- and it is the cause of the bytes
-pub of-alone : (bytes : List ℕ) (p : Program) (source : IsTheSource bytes p) (stop : Stop)
-    → ((classes : List ClassTree) → ProgramIs p classes → IfRefused stop (AloneLacksKernel classes))
-    → IfRefused stop (IsOfSource bytes)
-of-alone bytes p source (stops.Refused refusal) fails =
-    if_cause_so (cause_told refusal) (AloneLacksKernel source.classes) (IsOfSource bytes)
-    (λ cause h. IsOfSource.lacks_kernel cause (record {
-      classes = source.classes;
-      is = source.source;
-      fails = h;
-    })) (fails source.classes source.program)
-of-alone bytes p source stops.ReadFault fails = tt
-of-alone bytes p source stops.NoMemory fails = tt
+pub has-one : (p : Program) (c : Class) (source table : List ℕ) (latencies : Table)
+    → p.classes ≡ c ∷ [] → c.manager ≡ false → IsTheSource source p → Reads table (Ok latencies)
+    → HasOne p c source table latencies
+has-one p c source table latencies one host is reads =
+    let tree = tree-of p c is.classes one is.program in
+    let at = class-alone p c is.classes tree.0 one tree.1 is.program in
+    record {
+      project = record {
+        classes = is.classes;
+        is = is.source;
+        kernel = tree.0;
+        alone = (tree.1, sym at.manager ∙ host);
+        latencies = latencies;
+        reads = reads;
+      };
+      class = at;
+      program = is.program;
+      same = refl;
+    }
 
 -- an error that isn't want of memory is a cause
-some-run : (error : EvalError) → (error ≡ E.NoMemory → ⊥) → run_cause error ≡ Some (Cause.RunRefused error)
+some-run : (error : EvalError) → (error ≡ E.NoMemory → ⊥)
+    → run_cause error ≡ Some (Cause.RunRefused error)
 some-run E.NoMemory memory = absurd (memory refl)
 some-run (E.UnknownName at) memory = refl
 some-run (E.WrongKind at) memory = refl
@@ -158,7 +154,8 @@ pub own-graph : (name : List ℕ) (error : GraphError) → (error ≡ G.NoMemory
 own-graph name error memory = rw (some-graph name error memory) refl
 
 -- and what isn't wanting memory is told
-not-memory : (error : EvalError) (cause : Cause) → run_cause error ≡ Some cause → error ≡ E.NoMemory → ⊥
+not-memory : (error : EvalError) (cause : Cause) → run_cause error ≡ Some cause
+    → error ≡ E.NoMemory → ⊥
 not-memory error cause is e = let none = rw e at is in absurd (cc)
 
 built-error : (run : Answer) (name : List ℕ) (error : EvalError) → (error ≡ E.NoMemory → ⊥)
@@ -215,7 +212,8 @@ alone-plan kernel = record (no_plan false) {
   kernels = record { name = kernel.name; class = 0; args = [] } ∷ [];
 }
 
-bad-name : (kernel : ClassTree) (error : EvalError) (plain : Bool) → is_port_name kernel.name ≡ plain
+bad-name : (kernel : ClassTree) (error : EvalError) (plain : Bool)
+    → is_port_name kernel.name ≡ plain
     → one_kernel 0 kernel ≡ Err error → LacksKernel kernel (Cause.RunRefused error)
 bad-name kernel error true e h =
     let both = subst (λ (b : Bool). (if b then Ok (alone-plan kernel)
@@ -274,7 +272,8 @@ pub of-graph : (kernel : ClassTree) (name told : List ℕ) (error : GraphError) 
     → IsBuilt (building_run kernel []) name (Err (B.Graph error)) → LacksKernel kernel cause
 of-graph kernel name told error cause named plain is h =
     let memory = no-memory-rule told error cause is in
-    let same : Cause.NoKernel told error ≡ cause = some-same (sym (some-graph told error memory) ∙ is) in
+    let same : Cause.NoKernel told error ≡ cause = some-same (sym (some-graph told error memory)
+    ∙ is) in
     let rule = built-rule (building_run kernel []) name error memory h in
     subst (LacksKernel kernel) same
     (subst (λ n. LacksKernel kernel (Cause.NoKernel n error)) named

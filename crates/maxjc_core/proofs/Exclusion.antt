@@ -1,6 +1,26 @@
 -- A project that is built has no cause of a refusal.
-use Rattle.std.proofs.Common.{◌≡◌, ◌∙◌, ◌<◌, ℕ, List, [], Some, None, true, false, length, arith, refl, sym, subst}
+use Rattle.std.proofs.Common.{
+  ◌≡◌,
+  ◌∙◌,
+  ◌<◌,
+  ℕ,
+  List,
+  [],
+  Some,
+  None,
+  Ok,
+  Err,
+  true,
+  false,
+  length,
+  arith,
+  refl,
+  ap,
+  sym,
+  subst,
+}
 use Rattle.std.specs.Prelude.{IsSome}
+use Rattle.std.proofs.lemmas.Int.{ints, clamps}
 use Rattle.mx_base.specs.Files.{Held, Name, Holds}
 use Rattle.maxj_syntax.specs.Tree.{ClassTree}
 use Rattle.maxj_syntax.specs.Source.{IsSourceOf, HasFirst}
@@ -8,11 +28,43 @@ use Rattle.maxj_syntax.proofs.Sources.{one_source, no_fault}
 use Rattle.expression_source.specs.Source.{Source, IsSource}
 use Rattle.kernel_meaning.specs.Answer.{calls_of}
 use Rattle.kernel_meaning.specs.Constructors.{building_run}
-use Rattle.maxjc_core.specs.Kernels.{IsAlone, HasKernel, LacksKernel}
+use Rattle.latency_table.specs.declared.table.Table.{Table}
+use Rattle.latency_table.specs.Tables.{Reads}
+use Rattle.stream_graph.specs.declared.node.Node.{Node}
+use Rattle.stream_graph.specs.Nodes.{later, AreNodes}
+use Rattle.offset_edges.specs.declared.error.EdgeError.TheVariants as edge_errors
+use Rattle.offset_edges.specs.Edges.{edges_of}
+use Rattle.offset_edges.specs.Latencies.{ticks_of}
+use Rattle.offset_edges.specs.Walks.{IsShown}
+use Rattle.offset_edges.proofs.CoveredLemmas.{shown_back, shown_covered}
+use Rattle.kernel_schedule.specs.declared.error.ScheduleError.{ScheduleError}
+use Rattle.kernel_schedule.specs.declared.error.ScheduleError.TheVariants as schedule_errors
+use Rattle.kernel_schedule.specs.Refused.{IsRefused}
+use Rattle.kernel_schedule.specs.Schedules.{IsSchedulable}
+use Rattle.maxjc_core.proofs.Latencies.{
+  SameLatencies,
+  same_latencies,
+  same_at,
+  same_ticks,
+  timed_has,
+  no_fault_read,
+}
+use Rattle.kernel_schedule.proofs.Unique.{one_list}
+use Rattle.maxjc_core.specs.Kernels.{IsAlone, IsKernel, LacksKernel}
 use Rattle.maxjc_core.proofs.Rules.{not-refused}
 use Rattle.maxjc_core.specs.Command.{Names}
 use Rattle.maxjc_core.specs.Lines.{Cause}
-use Rattle.maxjc_core.specs.Causes.{file_limit, IsWithin, IsPast, Stands, IsBuilt, IsOfSource}
+use Rattle.maxjc_core.specs.Causes.{
+  file_limit,
+  IsWithin,
+  IsPast,
+  OneKernel,
+  IsScheduled,
+  AreImmediate,
+  IsOfFiles,
+  Stands,
+  IsBuilt,
+}
 use Rattle.maxjc_core.specs.Stops.{IsCompiled}
 
 -- a file that is held is told
@@ -20,48 +72,159 @@ pub told : (held : Held) (name : Name) (bytes : List ℕ) → Holds held name by
 told None name bytes h = absurd (cc)
 told (Some m) name bytes h = refl
 
-pub same_bytes : (held : Held) (name : Name) (a b : List ℕ) → Holds held name a → Holds held name b → a ≡ b
+pub same_bytes : (held : Held) (name : Name) (a b : List ℕ) → Holds held name a
+    → Holds held name b → a ≡ b
 same_bytes held name a b h k = cc
 
-not_past : (held : Held) (name : Name) (bytes : List ℕ) → IsPast file_limit held name → IsWithin file_limit held name bytes → ⊥
+not_past : (held : Held) (name : Name) (bytes : List ℕ) → IsPast file_limit held name
+    → IsWithin file_limit held name bytes → ⊥
 not_past held name bytes past within =
     let same = same_bytes held name past.bytes bytes past.holds within.holds in
-    let large : file_limit < length bytes = subst (λ (b : List ℕ). file_limit < length b) same past.past in
+    let large : file_limit < length bytes = subst (λ (b : List ℕ). file_limit < length b) same
+    past.past in
     let small = within.within in
     omega arith
 
+-- ---- one project
+
+-- the same bytes are one source of one kernel, and their tables have the same latencies
+record AreSame {source table other others : List ℕ} (p : OneKernel source table) (q : OneKernel
+    other others) : Type 0 where
+  classes : p.classes ≡ q.classes
+  kernel : p.kernel ≡ q.kernel
+  latencies : SameLatencies p.latencies q.latencies
+
+one-kernel : {classes others : List ClassTree} (a b : ClassTree) → classes ≡ others
+    → IsAlone classes a
+    → IsAlone others b → a ≡ b
+one-kernel a b same p q = let both = sym p.0 ∙ same ∙ q.0 in cc
+
+same-project : {source table other others : List ℕ} (p : OneKernel source table) (q : OneKernel
+    other others)
+    → source ≡ other → table ≡ others → AreSame p q
+same-project {source} {table} {other} {others} p q bytes latencies =
+    let classes : p.classes ≡ q.classes =
+    one_source other p.classes q.classes (subst (λ (b : List ℕ). IsSourceOf b p.classes) bytes p.is)
+    q.is in
+    record {
+      classes = classes;
+      kernel = one-kernel p.kernel q.kernel classes p.alone q.alone;
+      latencies = same_latencies others p.latencies q.latencies
+          (subst (λ (b : List ℕ). Reads b (Ok p.latencies)) latencies p.reads) q.reads;
+    }
+
+one-nodes : (kernel other : ClassTree) (a b : List Node) → kernel ≡ other → IsKernel kernel a
+    → IsKernel other b
+    → a ≡ b
+one-nodes kernel other a b same p q =
+    one_list (later [] (calls_of (building_run other []))) a b
+    (subst (λ k. AreNodes (later [] (calls_of (building_run k []))) a) same p.are) q.are
+
+-- ---- no cause stands of a project that is compiled
+
 -- a class that has a kernel has no cause for which it has none
-has-one : (kernel : ClassTree) (cause : Cause) → HasKernel kernel → LacksKernel kernel cause → ⊥
-has-one kernel _ has (LacksKernel.name plain) =
+has-one : (kernel : ClassTree) (nodes : List Node) (cause : Cause) → IsKernel kernel nodes
+    → LacksKernel kernel cause → ⊥
+has-one kernel nodes _ has (LacksKernel.name plain) =
     let both : true ≡ false = sym has.name ∙ plain in
     absurd (cc)
-has-one kernel _ has (LacksKernel.run error plain memory ends) =
+has-one kernel nodes _ has (LacksKernel.run error plain memory ends) =
     let both = sym has.ends ∙ ends in
     absurd (cc)
-has-one kernel _ has (LacksKernel.rule error plain ends refuses) =
+has-one kernel nodes _ has (LacksKernel.rule error plain ends refuses) =
     not-refused (calls_of (building_run kernel [])) error has.sound refuses
 
-pub excluded : (names : Names) (held : Held) (cause : Cause) → Stands names held cause → IsBuilt names held → ⊥
-excluded names held cause (Stands.source_too_large past) built = not_past held names.source _ past built.files.source_is
-excluded names held cause (Stands.table_too_large after) built = not_past held names.table _ after.then_table built.files.table_is
-excluded names held _ (Stands.of_source files _ (IsOfSource.no_form none)) built =
-    let same = same_bytes held names.source files.source built.files.source files.source_is.holds built.files.source_is.holds in
-    let classes : none.classes ≡ built.classes = one_source built.files.source none.classes built.classes (subst (λ (b : List ℕ). IsSourceOf b none.classes) same none.is) built.is_source in
-    subst (λ (cs : List ClassTree). (s : Source) → IsSource cs s → ⊥) classes none.no_form built.kernel built.is
-excluded names held _ (Stands.of_source files cause (IsOfSource.lacks_kernel _ none)) built =
-    let same = same_bytes held names.source files.source built.files.source files.source_is.holds built.files.source_is.holds in
-    let classes : none.classes ≡ built.classes = one_source built.files.source none.classes built.classes (subst (λ (b : List ℕ). IsSourceOf b none.classes) same none.is) built.is_source in
-    let alone = subst (λ (cs : List ClassTree). IsAlone cs none.fails.0) classes none.fails.1 in
-    has-one none.fails.0 cause (built.has_kernel none.fails.0 alone) none.fails.2
-excluded names held _ (Stands.of_source files _ (IsOfSource.fault fault first)) built =
-    let same = same_bytes held names.source files.source built.files.source files.source_is.holds built.files.source_is.holds in
-    no_fault built.files.source built.classes fault built.is_source (subst (λ (b : List ℕ). HasFirst b fault) same first)
+-- nor has a kernel that has a schedule one for which it has none
+has-none : (a b : Table) (nodes : List Node) (error : ScheduleError) → SameLatencies a b
+    → (error ≡ schedule_errors.Edges edge_errors.NoMemory → ⊥) → IsSchedulable b nodes
+    → IsRefused a nodes error → ⊥
+has-none a b nodes (schedule_errors.Edges (edge_errors.NoLatency op width)) same fault has refused =
+    let n = refused.0 in
+    timed_has a nodes n op width
+    (subst (λ o. IsSome o) (sym (same_at a b same nodes n)) (has.timed n refused.1.node))
+    refused.1.lacks
+has-none a b nodes (schedule_errors.Edges (edge_errors.Cycle walk)) same fault has refused =
+    let ticks = same_ticks a b same nodes in
+    let back = shown_back (ticks_of b nodes) (edges_of nodes) walk has.covered
+    (subst (λ t. IsShown t (edges_of nodes) walk) ticks refused.1.shown) in
+    let ahead = refused.1.ahead in
+    omega (arith, ints, back, ahead)
+has-none a b nodes (schedule_errors.Edges edge_errors.NoMemory) same fault has refused = fault refl
+has-none a b nodes (schedule_errors.Uncovered walk) same fault has refused =
+    let ticks = same_ticks a b same nodes in
+    let shown = subst (λ t. IsShown t (edges_of nodes) walk) ticks refused.uncovered.shown in
+    let back = shown_back (ticks_of b nodes) (edges_of nodes) walk has.covered shown in
+    let waits = shown_covered (ticks_of b nodes) (edges_of nodes) walk has.covered shown in
+    let uncovered = refused.uncovered.uncovered in
+    omega (arith, ints, clamps, back, waits, uncovered)
+
+no-cause : {source table other others : List ℕ} (cause : Cause) → source ≡ other → table ≡ others
+    → IsOfFiles source table cause → (q : OneKernel other others) (s : IsScheduled q) (kernel :
+    Source)
+    → IsSource q.classes kernel → AreImmediate q.latencies s.nodes → ⊥
+no-cause {source} {table} {other} {others} _ bytes latencies (IsOfFiles.fault fault first) q s
+    kernel is immediate =
+    no_fault other q.classes fault q.is (subst (λ (b : List ℕ). HasFirst b fault) bytes first)
+no-cause {source} {table} {other} {others} _ bytes latencies (IsOfFiles.manager has) q s kernel is
+    immediate =
+    let classes : has.classes ≡ q.classes =
+    one_source other has.classes q.classes (subst (λ (b : List ℕ). IsSourceOf b has.classes) bytes
+    has.is) q.is in
+    has.not_alone q.kernel (subst (λ (cs : List ClassTree). IsAlone cs q.kernel) (sym classes)
+    q.alone)
+no-cause {source} {table} {other} {others} _ bytes latencies (IsOfFiles.table_fault error has) q s
+    kernel is immediate =
+    no_fault_read others q.latencies error has.fault q.reads
+    (subst (λ (b : List ℕ). Reads b (Err error)) latencies has.reads)
+no-cause cause bytes latencies (IsOfFiles.lacks_kernel p _ lacks) q s kernel is immediate =
+    let same = same-project p q bytes latencies in
+    has-one q.kernel s.nodes cause s.is (subst (λ k. LacksKernel k cause) same.kernel lacks)
+no-cause _ bytes latencies (IsOfFiles.lacks_schedule p error lacks) q s kernel is immediate =
+    let same = same-project p q bytes latencies in
+    let nodes = one-nodes p.kernel q.kernel lacks.nodes s.nodes same.kernel lacks.is s.is in
+    has-none p.latencies q.latencies s.nodes error same.latencies lacks.fault s.schedulable
+    (subst (λ ns. IsRefused p.latencies ns error) nodes lacks.refused)
+no-cause _ bytes latencies (IsOfFiles.no_form p none) q s kernel is immediate =
+    let same = same-project p q bytes latencies in
+    let nodes = one-nodes p.kernel q.kernel none.scheduled.nodes s.nodes same.kernel
+    none.scheduled.is s.is in
+    let ticks = same_ticks p.latencies q.latencies same.latencies none.scheduled.nodes in
+    none.no_form kernel (subst (λ (cs : List ClassTree). IsSource cs kernel) (sym same.classes) is)
+    (λ n h. ap (λ t. t n) ticks ∙ subst (λ ns. n < length ns
+    → ticks_of q.latencies ns n ≡ 0) (sym nodes) (immediate n) h)
+
+pub excluded : (names : Names) (held : Held) (cause : Cause) → Stands names held cause
+    → IsBuilt names held → ⊥
+excluded names held cause (Stands.source_too_large past) built = not_past held names.source _ past
+    built.files.source_is
+excluded names held cause (Stands.table_too_large after) built = not_past held names.table _
+    after.then_table built.files.table_is
+excluded names held cause (Stands.of_files files _ is) built =
+    no-cause cause
+    (same_bytes held names.source files.source built.files.source files.source_is.holds
+    built.files.source_is.holds)
+    (same_bytes held names.table files.table built.files.table files.table_is.holds
+    built.files.table_is.holds)
+    is built.project built.scheduled built.kernel built.is built.immediate
 
 -- where a cause stands the source is held
-pub told_from_cause : (names : Names) (held : Held) (cause : Cause) → Stands names held cause → IsSome held
-told_from_cause names held cause (Stands.source_too_large past) = told held names.source past.bytes past.holds
-told_from_cause names held cause (Stands.table_too_large after) = told held names.source after.source after.source_is.holds
-told_from_cause names held _ (Stands.of_source files cause is) = told held names.source files.source files.source_is.holds
+pub told_from_cause : (names : Names) (held : Held) (cause : Cause) → Stands names held cause
+    → IsSome held
+told_from_cause names held cause (Stands.source_too_large past) = told held names.source past.bytes
+    past.holds
+told_from_cause names held cause (Stands.table_too_large after) = told held names.source
+    after.source after.source_is.holds
+told_from_cause names held _ (Stands.of_files files cause is) = told held names.source files.source
+    files.source_is.holds
 
-pub built_from_compiled : (names : Names) (held : Held) (text line : List ℕ) → IsCompiled names held text line → IsBuilt names held
-built_from_compiled names held text line c = record { files = c.files; classes = c.compiles.classes; is_source = c.compiles.is_source; has_kernel = c.compiles.has_kernel; kernel = c.compiles.kernel; is = c.compiles.is }
+pub built_from_compiled : (names : Names) (held : Held) (text line : List ℕ)
+    → IsCompiled names held text line → IsBuilt names held
+built_from_compiled names held text line c =
+    record {
+      files = c.files;
+      project = c.compiles.project;
+      scheduled = c.compiles.scheduled;
+      kernel = c.compiles.kernel;
+      is = c.compiles.is;
+      immediate = c.compiles.immediate;
+    }

@@ -11,5 +11,7 @@ pub mod Sources
 pub mod Exclusion
 pub mod OneShape
 pub mod Alone
+pub mod Judging
+pub mod Latencies
 pub mod Answering
 pub mod Writing

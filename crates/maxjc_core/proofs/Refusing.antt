@@ -14,7 +14,7 @@ use Rattle.word_files.specs.declared.error.RunFileError.{RunFileError}
 use Rattle.word_files.specs.declared.error.RunFileError.TheVariants as run_errors
 use Rattle.word_files.specs.declared.run_file.RunFile.{RunFile}
 use Rattle.rtl_ir.specs.declared.interface.Interface.{Interface}
-use Rattle.maxjc_core.specs.Causes.{IsOfSource}
+use Rattle.maxjc_core.specs.Causes.{IsOfFiles}
 use Rattle.maxjc_core.specs.Lines.{Cause}
 use Rattle.maxjc_core.specs.LoadStops.{IsRunFault, IsUnfitFor}
 use Rattle.maxjc_core.specs.Refusals.{IfCause, source_cause, run_file_cause}
@@ -41,14 +41,15 @@ of_cause (Some cause) A a = a
 of_cause None A a = absurd a
 
 -- a source that isn't read, but for want of memory, has its first fault
-pub of_source : (bytes : List ℕ) (e : SourceError) → (e ≡ source_errors.NoMemory → ⊥) → FailsToRead bytes e → IfCause (source_cause e) (IsOfSource bytes)
-of_source bytes (source_errors.StrayByte place) memory h = IsOfSource.fault (Fault.StrayByte place) h.first
-of_source bytes (source_errors.NoToken place) memory h = IsOfSource.fault (Fault.NoToken place) h.first
-of_source bytes (source_errors.Misplaced place) memory h = IsOfSource.fault (Fault.Misplaced place) h.first
-of_source bytes (source_errors.Outside place) memory h = IsOfSource.fault (Fault.Outside place) h.first
-of_source bytes (source_errors.Excess place) memory h = IsOfSource.fault (Fault.Excess place) h.first
-of_source bytes source_errors.NoProject memory h = IsOfSource.fault Fault.NoProject h.first
-of_source bytes source_errors.NoMemory memory h = memory refl
+pub of_source : (bytes table : List ℕ) (e : SourceError) → (e ≡ source_errors.NoMemory → ⊥)
+    → FailsToRead bytes e → IfCause (source_cause e) (IsOfFiles bytes table)
+of_source bytes table (source_errors.StrayByte place) memory h = IsOfFiles.fault (Fault.StrayByte place) h.first
+of_source bytes table (source_errors.NoToken place) memory h = IsOfFiles.fault (Fault.NoToken place) h.first
+of_source bytes table (source_errors.Misplaced place) memory h = IsOfFiles.fault (Fault.Misplaced place) h.first
+of_source bytes table (source_errors.Outside place) memory h = IsOfFiles.fault (Fault.Outside place) h.first
+of_source bytes table (source_errors.Excess place) memory h = IsOfFiles.fault (Fault.Excess place) h.first
+of_source bytes table source_errors.NoProject memory h = IsOfFiles.fault Fault.NoProject h.first
+of_source bytes table source_errors.NoMemory memory h = memory refl
 
 -- so has a text
 abbrev pub IsTextFault : List ℕ → Cause → Type 0

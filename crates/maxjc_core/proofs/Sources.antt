@@ -7,7 +7,6 @@ use Rattle.grammar.specs.Bytes.{is_letter, is_digit}
 use Rattle.rtl_ir.specs.Ports as ports
 use Rattle.rtl_ir.specs.Ports.{Shape}
 use Rattle.maxj_syntax.specs.Tree.{ClassTree}
-use Rattle.maxj_syntax.specs.Source.{IsSourceOf}
 use Rattle.maxj_tokens.specs.Tokens.{is_name_start, is_name_byte, is_word}
 use Rattle.expression_source.specs.Names.{is_plain_name}
 use Rattle.expression_source.specs.Source.{Source, output_of}
@@ -15,7 +14,7 @@ use Rattle.expression_source.specs.Steps.{result_of}
 use Rattle.expression_source.specs.Projects.{Says, IsProject}
 use Rattle.expression_source.specs.declared.project.Project.{Project}
 use Rattle.expression_module.specs.Designs.{shape_of, IsSound, IsStraightForm}
-use Rattle.maxjc_core.specs.Kernels.{AloneHasKernel}
+use Rattle.maxjc_core.specs.Causes.{OneKernel, IsScheduled, AreImmediate}
 use Rattle.maxjc_core.specs.Compiling.{kernel_shape, operators_in, Compiles}
 use Rattle.maxjc_core.specs.Emitting.{Emits}
 use Rattle.maxjc_core.specs.declared.compile.Compiled.{Compiled}
@@ -63,17 +62,20 @@ sound classes p is =
 same_shape : (s : Source) (p : Project) → Says s p → shape_of p ≡ kernel_shape s
 same_shape s p says = rw (says.name, says.input, says.output, says.width) refl
 
-pub compiles : (bytes : List ℕ) (classes : List ClassTree) (p : Project) (c : Compiled) → IsSourceOf bytes classes → AloneHasKernel classes → IsProject classes p → Emits p c → Compiles bytes c.text.items c.summary.items
-compiles bytes classes p c is_source has is emits =
+-- a kernel of the form that is compiled, and no node of which has a latency
+pub compiles : (source table : List ℕ) (one : OneKernel source table) (scheduled : IsScheduled one)
+    → AreImmediate one.latencies scheduled.nodes → (p : Project) (c : Compiled)
+    → IsProject one.classes p → Emits p c → Compiles source table c.text.items c.summary.items
+compiles source table one scheduled immediate p c is emits =
     let s = is.source in
     let says = is.says in
     let f : result_of p.width p.steps p.result ≡ output_of s = fun_ext says.value in
     record {
-      classes = classes;
-      is_source = is_source;
-      has_kernel = has;
+      project = one;
+      scheduled = scheduled;
       kernel = s;
       is = is.is;
+      immediate = immediate;
       design = emits.design;
       text_of = emits.text_of;
       reads = emits.reads;

@@ -95,9 +95,9 @@ only_top d m e = rw e refl
 
 -- a text that was written by `compile` has the streams of its kernel, also as it is read
 streams_read :
-    (source line : List ℕ) {names : RunNames} {before : Held} (l : IsLoaded names before) (d : Design) → IsOnlyDesign l.files.text d → (c : Compiles source l.files.text line)
+    (source table line : List ℕ) {names : RunNames} {before : Held} (l : IsLoaded names before) (d : Design) → IsOnlyDesign l.files.text d → (c : Compiles source table l.files.text line)
     → StreamsAs l.fit.design l.fit.is.top (outer_of l.fit.is.shape l.fit.is.top) (output_of c.kernel) × (l.fit.is.shape ≡ kernel_shape c.kernel)
-streams_read source line l d only c =
+streams_read source table line l d only c =
     let straight = c.straight in
     let same : c.design ≡ l.fit.design = only c.design c.reads ∙ sym (only l.fit.design l.fit.is.reads) in
     let top : top_of c.design ≡ Some straight.top = only_top c.design straight.top straight.only in
@@ -105,7 +105,7 @@ streams_read source line l d only c =
     let tops : straight.top ≡ l.fit.is.top = cc in
     let shapes : kernel_shape c.kernel ≡ l.fit.is.shape =
     one_alone l.fit.is.top (kernel_shape c.kernel) l.fit.is.shape
-    (record { is = kernel_top c.classes c.kernel c.is; has = subst (λ (m : Module). HasShape m (kernel_shape c.kernel)) tops straight.has_shape }) l.fit.is.is_run in (
+    (record { is = kernel_top c.project.classes c.kernel c.is; has = subst (λ (m : Module). HasShape m (kernel_shape c.kernel)) tops straight.has_shape }) l.fit.is.is_run in (
       subst (λ (s : Shape). StreamsAs l.fit.design l.fit.is.top (outer_of s l.fit.is.top) (output_of c.kernel)) shapes
           (subst (λ (m : Module). StreamsAs l.fit.design m (outer_of (kernel_shape c.kernel) m) (output_of c.kernel)) tops
           (subst (λ (d : Design). StreamsAs d straight.top (outer_of (kernel_shape c.kernel) straight.top) (output_of c.kernel)) same straight.streams)),
@@ -113,11 +113,11 @@ streams_read source line l d only c =
     )
 
 pub words_written :
-    (stalls : Answers) (source line : List ℕ) {names : RunNames} {before : Held} (l : IsLoaded names before) (d : Design) → IsOnlyDesign l.files.text d → (c : Compiles source l.files.text line) (now : Held) (end : End)
+    (stalls : Answers) (source table line : List ℕ) {names : RunNames} {before : Held} (l : IsLoaded names before) (d : Design) → IsOnlyDesign l.files.text d → (c : Compiles source table l.files.text line) (now : Held) (end : End)
     → Finishes stalls (setup l) l.fit.plan.outputs now end
     → WritesWords c.kernel l now
-words_written stalls source line {names} {before} l d only c now end finishes =
-    let (streams, shapes) = streams_read source line l d only c in
+words_written stalls source table line {names} {before} l d only c now end finishes =
+    let (streams, shapes) = streams_read source table line l d only c in
     let p = l.fit.plan in
     let inputs = single (λ (i : Name × ℕ). i.1) p.inputs _ (l.fit.planned.input_widths ∙ fused stream_shape (λ (i : Name × ℕ). i.1) l.fit.ports.inputs ∙ ap (map (λ (i : Name × ℕ). i.1)) (ap (λ (s : Shape). s.inputs) (l.fit.are ∙ shapes))) in
     let outputs = single (λ (i : Name × ℕ). i.1) p.outputs _ (l.fit.planned.output_widths ∙ fused stream_shape (λ (i : Name × ℕ). i.1) l.fit.ports.outputs ∙ ap (map (λ (i : Name × ℕ). i.1)) (ap (λ (s : Shape). s.outputs) (l.fit.are ∙ shapes))) in
@@ -139,9 +139,9 @@ words_written stalls source line {names} {before} l d only c now end finishes =
 
 -- what the run that was made wrote
 pub words_so : {names : RunNames} {stalls : Answers} {held now : Held} {d : Design} {p : Plan} (o : Outcome) → IsMade names held d p → IsSimulated stalls d p held now (Ok o) → WritesAllWords names held now
-words_so {names} {stalls} {held} {now} {d} {p} o made sim l source line c =
+words_so {names} {stalls} {held} {now} {d} {p} o made sim l source table line c =
     let is = told_loaded l in
     let made_as = made.loaded is in
     let only = subst (λ (t : List ℕ). IsOnlyDesign t d) (same_file held names.text made_as.files.text l.files.text made_as.files.text_is l.files.text_is) made_as.is.only in
     let finishes = of_loaded l made (λ s outputs. Finishes stalls s outputs now (end_of o)) (sim.tells made.can.is.top made.can.is.shape made.can.is.is_top made.can.is.is_run.has is) in
-    words_written stalls source line l d only c now (end_of o) finishes
+    words_written stalls source table line l d only c now (end_of o) finishes

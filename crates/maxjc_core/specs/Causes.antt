@@ -1,12 +1,23 @@
 -- Why `compile` refuses a project, by what its files hold.
-use Rattle.std.specs.Prelude.{ℕ, ◌⊎◌, ◌≤◌, ◌<◌, List, length}
+use Rattle.std.specs.Prelude.{ℕ, ◌≡◌, ◌⊎◌, ◌≤◌, ◌<◌, List, length, Ok, Err}
 use Rattle.mx_base.specs.Files.{Held, Holds, Lacks}
 use Rattle.maxj_syntax.specs.Source.{IsSourceOf, Fault, HasFirst}
 use Rattle.maxj_syntax.specs.Tree.{ClassTree}
 use Rattle.expression_source.specs.Source.{Source, IsSource}
+use Rattle.latency_table.specs.declared.error.TableError.{TableError}
+use Rattle.latency_table.specs.declared.error.TableError.TheVariants as table_errors
+use Rattle.latency_table.specs.declared.table.Table.{Table}
+use Rattle.latency_table.specs.Tables.{Reads}
+use Rattle.stream_graph.specs.declared.node.Node.{Node}
+use Rattle.offset_edges.specs.declared.error.EdgeError.TheVariants as edge_errors
+use Rattle.offset_edges.specs.Latencies.{ticks_of}
+use Rattle.kernel_schedule.specs.declared.error.ScheduleError.{ScheduleError}
+use Rattle.kernel_schedule.specs.declared.error.ScheduleError.TheVariants as schedule_errors
+use Rattle.kernel_schedule.specs.Refused.{IsRefused}
+use Rattle.kernel_schedule.specs.Schedules.{IsSchedulable}
 use Rattle.maxjc_core.specs.Command.{Name, Names}
-use Rattle.maxjc_core.specs.Kernels.{AloneHasKernel, AloneLacksKernel}
-use Rattle.maxjc_core.specs.Lines.{Cause, TooLarge, SourceFault, NotBuilt}
+use Rattle.maxjc_core.specs.Kernels.{IsAlone, IsKernel, LacksKernel}
+use Rattle.maxjc_core.specs.Lines.{Cause, TooLarge, SourceFault, TableFault, NoSchedule, NotBuilt}
 
 -- the most bytes of a file that is read whole: 2 ^ 24
 abbrev pub file_limit : ℕ
@@ -23,25 +34,71 @@ pub record IsPast (limit : ℕ) (held : Held) (name : Name) : Type 0 where
   pub holds : Holds held name bytes
   pub past : limit < length bytes
 
--- the bytes are a source, whose class stands alone and has no kernel for this cause
-pub record IsWithoutKernel (bytes : List ℕ) (cause : Cause) : Type 0 where
+-- The bytes of a source that is the class of one kernel, and of a latency table.
+pub record OneKernel (source table : List ℕ) : Type 0 where
   pub classes : List ClassTree
-  pub is : IsSourceOf bytes classes
-  pub fails : AloneLacksKernel classes cause
+  pub is : IsSourceOf source classes
+  pub kernel : ClassTree
+  pub alone : IsAlone classes kernel
+  pub latencies : Table
+  pub reads : Reads table (Ok latencies)
 
--- the bytes are a source, whose class has a kernel where it stands alone, and which is of no form that is compiled
-pub record IsOfNoForm (bytes : List ℕ) : Type 0 where
+-- the bytes are a source with a manager: its classes aren't that of one kernel alone
+pub record HasManager (source : List ℕ) : Type 0 where
   pub classes : List ClassTree
-  pub is : IsSourceOf bytes classes
-  pub has_kernel : AloneHasKernel classes
-  pub no_form : (s : Source) → IsSource classes s → ⊥
+  pub is : IsSourceOf source classes
+  pub not_alone : (kernel : ClassTree) → IsAlone classes kernel → ⊥
 
--- the cause for which the bytes of a source are refused: their first fault, or else why the class that stands alone has
--- no kernel, or else that they are of no form that is compiled
-pub data IsOfSource (bytes : List ℕ) : Cause → Type 0 where
-  fault : (fault : Fault) → HasFirst bytes fault → IsOfSource bytes (SourceFault fault)
-  lacks_kernel : (cause : Cause) → IsWithoutKernel bytes cause → IsOfSource bytes cause
-  no_form : IsOfNoForm bytes → IsOfSource bytes NotBuilt
+-- the bytes are a source without one, and those of the table have this fault
+pub record HasTableFault (source table : List ℕ) (error : TableError) : Type 0 where
+  pub classes : List ClassTree
+  pub is : IsSourceOf source classes
+  pub kernel : ClassTree
+  pub alone : IsAlone classes kernel
+  pub fault : error ≡ table_errors.NoMemory → ⊥
+  pub reads : Reads table (Err error)
+
+-- the kernel of a project, and why it has no schedule
+pub record LacksSchedule
+    {source table : List ℕ} (p : OneKernel source table) (error : ScheduleError) : Type 0 where
+  pub nodes : List Node
+  pub is : IsKernel p.kernel nodes
+  pub fault : error ≡ schedule_errors.Edges edge_errors.NoMemory → ⊥
+  pub refused : IsRefused p.latencies nodes error
+
+-- the kernel of a project has a legal schedule
+pub record IsScheduled {source table : List ℕ} (p : OneKernel source table) : Type 0 where
+  pub nodes : List Node
+  pub is : IsKernel p.kernel nodes
+  pub schedulable : IsSchedulable p.latencies nodes
+
+-- no node of a kernel has a latency other than 0
+abbrev pub AreImmediate : Table → List Node → Type 0
+AreImmediate table nodes = (n : ℕ) → n < length nodes → ticks_of table nodes n ≡ 0
+
+-- the kernel has a schedule, and the source is of no form that is compiled
+pub record IsOfNoForm {source table : List ℕ} (p : OneKernel source table) : Type 0 where
+  pub scheduled : IsScheduled p
+  pub no_form : (s : Source) → IsSource p.classes s → AreImmediate p.latencies scheduled.nodes → ⊥
+
+-- The cause for which the bytes of a source and of a table are refused, the first that stands: a fault of the source, a
+-- manager, a fault of the table, why the class has no kernel, why the kernel has no schedule, or no form that is compiled.
+pub data IsOfFiles (source table : List ℕ) : Cause → Type 0 where
+  fault : (fault : Fault) → HasFirst source fault → IsOfFiles source table (SourceFault fault)
+  manager : HasManager source → IsOfFiles source table NotBuilt
+  table_fault :
+      (error : TableError)
+      → HasTableFault source table error
+      → IsOfFiles source table (TableFault error)
+  lacks_kernel :
+      (p : OneKernel source table) (cause : Cause)
+      → LacksKernel p.kernel cause
+      → IsOfFiles source table cause
+  lacks_schedule :
+      (p : OneKernel source table) (error : ScheduleError)
+      → LacksSchedule p error
+      → IsOfFiles source table (NoSchedule p.kernel.name error)
+  no_form : (p : OneKernel source table) → IsOfNoForm p → IsOfFiles source table NotBuilt
 
 -- the table is read after a source within the limit, and the source is looked at after both
 pub record IsReadable (names : Names) (held : Held) : Type 0 where
@@ -59,19 +116,24 @@ pub record AfterSource (names : Names) (held : Held) (P : Type 0) : Type 0 where
 -- the cause stands, and none before it
 pub data Stands (names : Names) (held : Held) : Cause → Type 0 where
   source_too_large : IsPast file_limit held names.source → Stands names held (TooLarge names.source)
-  table_too_large : AfterSource names held (IsPast file_limit held names.table) → Stands names held (TooLarge names.table)
-  of_source : (files : IsReadable names held) (cause : Cause) → IsOfSource files.source cause → Stands names held cause
+  table_too_large :
+      AfterSource names held (IsPast file_limit held names.table)
+      → Stands names held (TooLarge names.table)
+  of_files :
+      (files : IsReadable names held) (cause : Cause)
+      → IsOfFiles files.source files.table cause
+      → Stands names held cause
 
 -- a file that is to be read isn't held
 abbrev pub IsMissing : Names → Held → Type 0
 IsMissing names held = Lacks held names.source ⊎ AfterSource names held (Lacks held names.table)
 
--- a project that is compiled: its files are held and within the limit, its class has a kernel where it stands alone, and the
--- source is of the form that is compiled
+-- a project that is compiled: its files are held and within the limit, its kernel has a schedule, the source is of the
+-- form that is compiled, and no node has a latency
 pub record IsBuilt (names : Names) (held : Held) : Type 0 where
   pub files : IsReadable names held
-  pub classes : List ClassTree
-  pub is_source : IsSourceOf files.source classes
-  pub has_kernel : AloneHasKernel classes
+  pub project : OneKernel files.source files.table
+  pub scheduled : IsScheduled project
   pub kernel : Source
-  pub is : IsSource classes kernel
+  pub is : IsSource project.classes kernel
+  pub immediate : AreImmediate project.latencies scheduled.nodes

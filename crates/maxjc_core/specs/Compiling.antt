@@ -5,11 +5,9 @@ use Rattle.rtl_ir.specs.declared.design.Design.{Design}
 use Rattle.rtl_ir.specs.Ports.{Shape}
 use Rattle.rtl_text.specs.Text.{TextOf}
 use Rattle.rtl_reading.specs.Reads.{ReadsAs}
-use Rattle.maxj_syntax.specs.Source.{IsSourceOf}
-use Rattle.maxj_syntax.specs.Tree.{ClassTree}
 use Rattle.expression_source.specs.Source.{Source, IsSource, Local, operators_of, output_of}
 use Rattle.expression_module.specs.Designs.{IsStraightForm}
-use Rattle.maxjc_core.specs.Kernels.{AloneHasKernel}
+use Rattle.maxjc_core.specs.Causes.{OneKernel, IsScheduled, AreImmediate}
 
 -- the ports that the text of a kernel has
 abbrev pub kernel_shape : Source → Shape
@@ -28,14 +26,15 @@ operators_in s = sum_by (λ (l : Local). operators_of l.value) s.locals + operat
 abbrev pub summary_of : Source → List ℕ
 summary_of s = codes "kernel " ++ s.name ++ codes " fifo 0\n"
 
--- The bytes of a source, the text made of them, and the line said: the source's class has a kernel, the text is a text of a design of the straight form of
--- that kernel, reading it gives that design back, and every run of this design agrees with a prefix of the kernel's words.
-pub record Compiles (source text line : List ℕ) : Type 0 where
-  pub classes : List ClassTree
-  pub is_source : IsSourceOf source classes
-  pub has_kernel : AloneHasKernel classes
+-- The bytes of a source and of a latency table, the text made of them, and the line said: the kernel of the source has a
+-- schedule, the text is a text of a design of the straight form of that kernel, reading it gives that design back, and every
+-- run of this design agrees with a prefix of the kernel's words.
+pub record Compiles (source table text line : List ℕ) : Type 0 where
+  pub project : OneKernel source table
+  pub scheduled : IsScheduled project
   pub kernel : Source
-  pub is : IsSource classes kernel
+  pub is : IsSource project.classes kernel
+  pub immediate : AreImmediate project.latencies scheduled.nodes
   pub design : Design
   pub text_of : TextOf text design
   pub reads : ReadsAs text design

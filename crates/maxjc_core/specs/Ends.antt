@@ -62,7 +62,7 @@ pub record IsDone (names : Names) (before now : Held) (said_before said_now : Op
   pub files : IsReadable names before
   pub text : List ℕ
   pub line : List ℕ
-  pub compiles : Compiles files.source text line
+  pub compiles : Compiles files.source files.table text line
   pub written : Holds now names.output text
   pub said : said_now ≡ said_more said_before line
 

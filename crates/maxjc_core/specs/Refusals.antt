@@ -11,7 +11,26 @@ use Rattle.kernel_meaning.specs.declared.error.EvalError.{EvalError}
 use Rattle.kernel_meaning.specs.declared.error.EvalError.TheVariants as eval_errors
 use Rattle.stream_graph.specs.declared.error.GraphError.{GraphError}
 use Rattle.stream_graph.specs.declared.error.GraphError.TheVariants as graph_errors
-use Rattle.maxjc_core.specs.Lines.{Cause, TooLarge, SourceFault, RunRefused, NoKernel, NotBuilt, TooManyCells, NotJson, RunShape, BadLine, WordRange}
+use Rattle.latency_table.specs.declared.error.TableError.{TableError}
+use Rattle.latency_table.specs.declared.error.TableError.TheVariants as table_errors
+use Rattle.offset_edges.specs.declared.error.EdgeError.TheVariants as edge_errors
+use Rattle.kernel_schedule.specs.declared.error.ScheduleError.{ScheduleError}
+use Rattle.kernel_schedule.specs.declared.error.ScheduleError.TheVariants as schedule_errors
+use Rattle.maxjc_core.specs.Lines.{
+  Cause,
+  TooLarge,
+  SourceFault,
+  RunRefused,
+  NoKernel,
+  TableFault,
+  NoSchedule,
+  NotBuilt,
+  TooManyCells,
+  NotJson,
+  RunShape,
+  BadLine,
+  WordRange,
+}
 use Rattle.maxjc_core.specs.RunCauses.{text_cause}
 use Rattle.maxjc_core.specs.declared.refusal.Refusal.{Refusal}
 use Rattle.maxjc_core.specs.declared.refusal.Refusal.TheVariants as refusals
@@ -46,11 +65,21 @@ abbrev pub graph_cause : List ℕ → GraphError → Option Cause
 graph_cause name graph_errors.NoMemory = None
 graph_cause name error = Some (NoKernel name error)
 
+abbrev pub table_cause : TableError → Option Cause
+table_cause table_errors.NoMemory = None
+table_cause error = Some (TableFault error)
+
+abbrev pub schedule_cause : List ℕ → ScheduleError → Option Cause
+schedule_cause name (schedule_errors.Edges edge_errors.NoMemory) = None
+schedule_cause name error = Some (NoSchedule name error)
+
 abbrev pub cause_told : Refusal → Option Cause
 cause_told (refusals.TooLarge name) = Some (TooLarge name.now)
 cause_told (refusals.Source error) = source_cause error
 cause_told (refusals.Building error) = run_cause error
 cause_told (refusals.Graph name error) = graph_cause name error
+cause_told (refusals.Table error) = table_cause error
+cause_told (refusals.Schedule name error) = schedule_cause name error
 cause_told refusals.NotBuilt = Some NotBuilt
 cause_told (refusals.Verilog error) = text_cause error
 cause_told (refusals.RunFile error) = run_file_cause error

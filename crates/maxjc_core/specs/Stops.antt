@@ -16,10 +16,10 @@ IfRefused (stops.Refused refusal) P = IfCause (cause_told refusal) P
 IfRefused stops.ReadFault P = Unit {0}
 IfRefused stops.NoMemory P = Unit {0}
 
--- the files that are read, and what is made of the source
+-- the files that are read, and what is made of them
 pub record IsCompiled (names : Names) (held : Held) (text line : List ℕ) : Type 0 where
   pub files : IsReadable names held
-  pub compiles : Compiles files.source text line
+  pub compiles : Compiles files.source files.table text line
 
 -- of what the files hold, where they are told: what is made of them, or why they are refused
 abbrev pub Answers : Names → Held → Result Compiled Stop → Type 0

@@ -23,6 +23,6 @@ pub record WritesWords (kernel : Source) {names : RunNames} {before : Held} (l :
   pub streams : Streams (output_of kernel) (words_of file) taken left
   pub written : Holds now output.0 (lines_of_words output.1 left)
 
--- so it is of every source that was compiled to the text that was run
+-- so it is of every source and table that were compiled to the text that was run
 abbrev pub WritesAllWords : RunNames → Held → Held → Type 0
-WritesAllWords names before now = (l : IsLoaded names before) (source line : List ℕ) (c : Compiles source l.files.text line) → WritesWords c.kernel l now
+WritesAllWords names before now = (l : IsLoaded names before) (source table line : List ℕ) (c : Compiles source table l.files.text line) → WritesWords c.kernel l now

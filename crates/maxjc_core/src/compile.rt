@@ -1,25 +1,29 @@
 // Reads a project and compiles it. No file is changed here.
-ghost use Rattle.std.specs.Prelude.{◌≡◌, ◌≤◌, ◌<◌, ◌^◌, ◌⊎◌, ◌++◌, ◌∷◌, List, ℕ, Err, IfOk, IfErr, IfSome, IfNone, length, codes, OnOk};
+ghost use Rattle.std.specs.Prelude.{◌≡◌, ◌<◌, ◌^◌, ◌⊎◌, ◌++◌, ◌∷◌, [], false, List, ℕ, Ok, Err, IfOk, IfErr, length, codes};
 ghost use Rattle.mx_base.specs.Counts.{Rose};
-ghost use Rattle.mx_base.specs.Files.{Holds, Lacks};
-ghost use Rattle.maxjc_core.specs.Causes.{file_limit, IsMissing, IsOfSource};
-ghost use Rattle.maxjc_core.specs.Lines.{TooLarge};
+ghost use Rattle.mx_base.specs.Files.{Lacks};
+ghost use Rattle.maxjc_core.specs.Causes.{IsMissing, IsOfFiles};
 ghost use Rattle.maxjc_core.specs.Compiling.{Compiles};
 ghost use Rattle.maxjc_core.specs.Stops.{IfRefused, Answers};
 ghost use Rattle.maxjc_core.specs.Named.{names_told};
 ghost use Rattle.maxjc_core.specs.Emitting.{Emits};
 ghost use Rattle.expression_module.specs.Designs.{IsSound};
+ghost use Rattle.latency_table.specs.Tables.{Reads};
 ghost use Rattle.maxj_syntax.specs.Outcomes.{FailsToRead, IsTheSource};
+ghost use Rattle.maxj_syntax.specs.Ranges.{AreInRange};
 ghost use Rattle.maxj_syntax.specs.Tree.{ClassTree, ProgramIs};
 
 use crate::command::Compile;
 use crate::files::{FILE_LIMIT, read_file};
-use crate::kernels::build_alone;
+use crate::kernels::{build_class, class_alone, name_of};
 use crate::refusal::Refusal;
+use crate::schedules::{are_immediate, schedule_stop, table_stop};
 use crate::stop::Stop;
 use expression_module::kernel_design;
 use expression_source::{Project, read_kernel};
-use maxj_syntax::{Program, SourceError, parse};
+use kernel_schedule::best_schedule;
+use latency_table::Table;
+use maxj_syntax::{Class, Program, SourceError, parse};
 use mx_base::{Files, NoMemory, Text};
 use std::alloc::Global;
 use verilog_print::print;
@@ -55,7 +59,7 @@ fn emit(alloc: Global, project: &Project) -> Result<Compiled, NoMemory>
 
 // The refusal of a source by its first fault.
 fn refused<'a>(error: SourceError) -> Stop<'a>
-    ensures cause { (bytes : List ℕ) → FailsToRead bytes error → IfRefused result (IsOfSource bytes) }
+    ensures cause { (source table : List ℕ) → FailsToRead source error → IfRefused result (IsOfFiles source table) }
     ensures no_read { result ≡ Stop.ReadFault → ⊥ }
 {
     match error {
@@ -64,55 +68,73 @@ fn refused<'a>(error: SourceError) -> Stop<'a>
     }
 }
 
-// What is made of a program, or why it isn't compiled.
-fn compile_program<'a>(alloc: Global, program: &Program<'_>) -> Result<Compiled, Stop<'a>>
-    requires { (classes : List ClassTree) × ProgramIs program.now classes }
-    ensures made { (bytes : List ℕ) → IsTheSource bytes program.now
-        → IfOk result (λ c. Compiles bytes c.text.items c.summary.items) }
-    ensures refused { (bytes : List ℕ) → IsTheSource bytes program.now
-        → IfErr result (λ stop. IfRefused stop (IsOfSource bytes)) }
+// What is made of a program whose class stands alone, by a latency table, or why it isn't compiled.
+fn compile_class<'a>(
+    alloc: Global,
+    program: &Program<'_>,
+    class: &Class,
+    latencies: &Table,
+) -> Result<Compiled, Stop<'a>>
+    requires read { (classes : List ClassTree) × ProgramIs program.now classes }
+    requires numbers { AreInRange program.now.tree }
+    requires one { program.now.classes ≡ class.now ∷ [] }
+    requires host { class.now.manager ≡ false }
+    ensures made { (source table : List ℕ) → IsTheSource source program.now → Reads table (Ok latencies.now)
+        → IfOk result (λ c. Compiles source table c.text.items c.summary.items) }
+    ensures refused { (source table : List ℕ) → IsTheSource source program.now → Reads table (Ok latencies.now)
+        → IfErr result (λ stop. IfRefused stop (IsOfFiles source table)) }
     ensures no_read { result ≡ Err Stop.ReadFault → ⊥ }
 {
-    if let Err(stop) = build_alone(alloc, program) {
-        return Err(stop);
+    let kernel = match build_class(alloc, program, class) {
+        Ok(kernel) => kernel,
+        Err(stop) => return Err(stop),
+    };
+    let schedule = match best_schedule(alloc, &kernel, latencies) {
+        Ok(schedule) => schedule,
+        Err(error) => return Err(schedule_stop(name_of(alloc, class)?, error)),
+    };
+    let Some(project) = read_kernel(alloc, program)? else {
+        return Err(Stop::Refused(Refusal::NotBuilt));
+    };
+    if !are_immediate(schedule.latencies.as_slice()) {
+        return Err(Stop::Refused(Refusal::NotBuilt));
     }
-    match read_kernel(alloc, program)? {
-        Some(project) => Ok(emit(alloc, &project)?),
-        None => Err(Stop::Refused(Refusal::NotBuilt)),
+    Ok(emit(alloc, &project)?)
+}
+
+// What is made of a program and the bytes of a latency table, or why it isn't compiled.
+fn compile_program<'a>(
+    alloc: Global,
+    program: &Program<'_>,
+    table: &[u8],
+) -> Result<Compiled, Stop<'a>>
+    requires read { (classes : List ClassTree) × ProgramIs program.now classes }
+    requires numbers { AreInRange program.now.tree }
+    ensures made { (source : List ℕ) → IsTheSource source program.now
+        → IfOk result (λ c. Compiles source table.now c.text.items c.summary.items) }
+    ensures refused { (source : List ℕ) → IsTheSource source program.now
+        → IfErr result (λ stop. IfRefused stop (IsOfFiles source table.now)) }
+    ensures no_read { result ≡ Err Stop.ReadFault → ⊥ }
+{
+    let Some(class) = class_alone(program) else {
+        return Err(Stop::Refused(Refusal::NotBuilt));
+    };
+    match Table::read(alloc, table) {
+        Ok(latencies) => compile_class(alloc, program, class, &latencies),
+        Err(error) => Err(table_stop(error)),
     }
 }
 
-// What is made of the bytes of a source, or why they are refused.
-fn build<'a>(alloc: Global, source: &[u8]) -> Result<Compiled, Stop<'a>>
+// What is made of the bytes of a source and of a latency table, or why they are refused.
+fn build<'a>(alloc: Global, source: &[u8], table: &[u8]) -> Result<Compiled, Stop<'a>>
     requires { length source.now < 2 ^ 32 }
-    ensures made { IfOk result (λ c. Compiles source.now c.text.items c.summary.items) }
-    ensures refused { IfErr result (λ stop. IfRefused stop (IsOfSource source.now)) }
+    ensures made { IfOk result (λ c. Compiles source.now table.now c.text.items c.summary.items) }
+    ensures refused { IfErr result (λ stop. IfRefused stop (IsOfFiles source.now table.now)) }
     ensures no_read { result ≡ Err Stop.ReadFault → ⊥ }
 {
     match parse(alloc, source) {
-        Ok(program) => compile_program(alloc, &program),
+        Ok(program) => compile_program(alloc, &program, table),
         Err(error) => Err(refused(error)),
-    }
-}
-
-// Reads the table, whose bytes have no effect yet.
-fn skip_table<'a, F: Files>(alloc: Global, files: &mut F, name: &'a Text) -> Result<(), Stop<'a>>
-    ensures same { F.held files.new ≡ F.held files.old }
-    ensures quiet { (result ≡ Err Stop.ReadFault → ⊥) → F.read_faults files.new ≡ F.read_faults files.old }
-    ensures write_quiet { F.write_faults files.new ≡ F.write_faults files.old }
-    ensures fault { result ≡ Err Stop.ReadFault
-        → Rose (F.read_faults files.old) (F.read_faults files.new)
-        ⊎ Lacks (F.held files.old) name.entry.now }
-    ensures lacking { Lacks (F.held files.old) name.entry.now → result ≡ Err Stop.ReadFault }
-    ensures lacking_quiet { Lacks (F.held files.old) name.entry.now → F.read_faults files.new ≡ F.read_faults files.old }
-    ensures refused { IfErr result (λ stop. IfRefused stop (λ cause. cause ≡ TooLarge name.entry.now)) }
-    ensures too_large { (file : List ℕ) → Holds (F.held files.old) name.entry.now file
-        → IfErr result (λ stop. IfRefused stop (λ _. file_limit < length file)) }
-    ensures fits { (file : List ℕ) → Holds (F.held files.old) name.entry.now file → OnOk result (length file ≤ file_limit) }
-{
-    match read_file(alloc, files, name, FILE_LIMIT) {
-        Ok(_table) => Ok(()),
-        Err(stop) => Err(stop),
     }
 }
 
@@ -136,8 +158,8 @@ pub fn compile<'a, F: Files>(
     ensures answers { Answers (names_told names.entry) (F.held files.old) result }
 {
     match read_file(alloc, files, names.source, FILE_LIMIT) {
-        Ok(source) => match skip_table(alloc, files, names.table) {
-            Ok(()) => build(alloc, source.as_slice()),
+        Ok(source) => match read_file(alloc, files, names.table, FILE_LIMIT) {
+            Ok(table) => build(alloc, source.as_slice(), table.as_slice()),
             Err(stop) => Err(stop),
         },
         Err(stop) => Err(stop),

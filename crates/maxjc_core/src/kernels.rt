@@ -1,38 +1,23 @@
 // The kernel of a source that has no manager.
 ghost use Rattle.std.specs.Prelude.{◌≡◌, ◌∷◌, [], List, Some, Err, false, IfOk, IfErr, IfSome, IfNone};
 ghost use Rattle.maxj_syntax.specs.declared.tree.Class.{Class as OneClass};
+ghost use Rattle.maxj_syntax.specs.Ranges.{AreInRange};
 ghost use Rattle.maxj_syntax.specs.Tree.{ClassTree, ClassIs, ProgramIs};
-ghost use Rattle.maxjc_core.specs.Kernels.{AloneHasKernel, HasKernel, AloneLacksKernel, LacksKernel};
+ghost use Rattle.maxjc_core.specs.Kernels.{IsKernel, LacksKernel};
 ghost use Rattle.maxjc_core.specs.Refusals.{run_cause, graph_cause};
 ghost use Rattle.maxjc_core.specs.Stops.{IfRefused};
 
 use crate::refusal::Refusal;
 use crate::stop::Stop;
-use kernel_eval::{BuildError, build_kernel, eval_manager, literals_fit};
+use kernel_eval::{BuildError, build_kernel, eval_manager};
 use kernel_meaning::EvalError;
 use maxj_syntax::{Class, Program};
 use mx_base::{NoMemory, Text};
 use std::alloc::Global;
-use stream_graph::GraphError;
+use stream_graph::{GraphError, Kernel};
 
-/// Tests that the class that stands alone in a source has a kernel: its constructor runs, and what
-/// it makes is tested. Nothing is tested of a source with a manager.
-pub fn build_alone<'a>(alloc: Global, program: &Program<'_>) -> Result<(), Stop<'a>>
-    requires { (classes : List ClassTree) × ProgramIs program.now classes }
-    ensures built { (classes : List ClassTree) → ProgramIs program.now classes
-        → IfOk result (λ _. AloneHasKernel classes) }
-    ensures fails { (classes : List ClassTree) → ProgramIs program.now classes
-        → IfErr result (λ stop. IfRefused stop (AloneLacksKernel classes)) }
-    ensures no_read { result ≡ Err Stop.ReadFault → ⊥ }
-{
-    match alone(program) {
-        Some(class) => build_class(alloc, program, class),
-        None => Ok(()),
-    }
-}
-
-// The class that stands alone in a program, where it is a kernel's.
-fn alone<'a>(program: &'a Program<'_>) -> Option<&'a Class>
+/// The class that stands alone in a program, where it is a kernel's.
+pub fn class_alone<'a>(program: &'a Program<'_>) -> Option<&'a Class>
     ensures some { IfSome result (λ c. (program.now.classes ≡ c.now ∷ []) × (c.now.manager ≡ false)) }
     ensures none { IfNone result ((c : OneClass) → program.now.classes ≡ c ∷ [] → c.manager ≡ false → ⊥) }
 {
@@ -42,34 +27,36 @@ fn alone<'a>(program: &'a Program<'_>) -> Option<&'a Class>
     }
 }
 
-// Tests that the class of a program, the only one, has a kernel.
-fn build_class<'a>(alloc: Global, program: &Program<'_>, class: &Class) -> Result<(), Stop<'a>>
+/// The kernel of the class of a program, the only one: its constructor runs, and what it makes is
+/// tested.
+pub fn build_class<'a>(
+    alloc: Global,
+    program: &Program<'_>,
+    class: &Class,
+) -> Result<Kernel, Stop<'a>>
     requires read { (classes : List ClassTree) × ProgramIs program.now classes }
+    requires numbers { AreInRange program.now.tree }
     requires one { program.now.classes ≡ class.now ∷ [] }
     requires host { class.now.manager ≡ false }
     ensures built { (kernel : ClassTree) → ClassIs program.now.tree class.now kernel
-        → IfOk result (λ _. HasKernel kernel) }
+        → IfOk result (λ made. IsKernel kernel made.nodes) }
     ensures fails { (kernel : ClassTree) → ClassIs program.now.tree class.now kernel
         → IfErr result (λ stop. IfRefused stop (LacksKernel kernel)) }
     ensures no_read { result ≡ Err Stop.ReadFault → ⊥ }
 {
-    // The numbers of a source are in range, so this answer never comes.
-    if !literals_fit(alloc, &program.tree)? {
-        return Err(Stop::NoMemory);
-    }
     if let Err(error) = eval_manager(alloc, program) {
         return Err(run_stop(error));
     }
     let name = name_of(alloc, class)?;
     match build_kernel(alloc, program, 0, &[], name) {
-        Ok(_kernel) => Ok(()),
+        Ok(kernel) => Ok(kernel),
         Err(BuildError::Eval(error)) => Err(run_stop(error)),
         Err(BuildError::Graph(error)) => Err(graph_stop(name_of(alloc, class)?, error)),
     }
 }
 
-// The name of a class.
-fn name_of(alloc: Global, class: &Class) -> Result<Text, NoMemory>
+/// The name of a class.
+pub fn name_of(alloc: Global, class: &Class) -> Result<Text, NoMemory>
     ensures { IfOk result (λ name. name ≡ class.now.name) }
 {
     Ok(Text::from_vec(class.name.as_bytes().to_vec(alloc)?))

@@ -9,6 +9,7 @@ mod kernels;
 mod load;
 mod refusal;
 mod saying;
+mod schedules;
 mod simulate_command;
 mod status;
 mod stop;

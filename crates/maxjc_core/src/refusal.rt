@@ -5,6 +5,8 @@ ghost use Rattle.maxjc_core.specs.Refusals.{cause_told, IfCause};
 
 use kernel_eval::line_of;
 use kernel_meaning::EvalError;
+use kernel_schedule::ScheduleError;
+use latency_table::TableError;
 use maxj_syntax::SourceError;
 use mx_base::{NoMemory, Text};
 use refusal_line::{Value, refusal_line};
@@ -26,6 +28,10 @@ pub enum Refusal<'a> {
     Building(EvalError),
     /// G1 to G4 and G6: the rule that what this kernel's run makes breaks.
     Graph(Text, GraphError),
+    /// T1 to T3: the first fault of the latency table.
+    Table(TableError),
+    /// L1, C1 and C2: why this kernel has no schedule.
+    Schedule(Text, ScheduleError),
     /// N0: the source is of no form that is compiled.
     NotBuilt,
     /// V1 to V4: why the text isn't that of a design that can be run.
@@ -47,6 +53,8 @@ impl<'a> Refusal<'a> {
             Refusal::Source(error) => error.line(alloc),
             Refusal::Building(error) => line_of(alloc, *error),
             Refusal::Graph(kernel, error) => error.line(alloc, kernel),
+            Refusal::Table(error) => error.line(alloc),
+            Refusal::Schedule(kernel, error) => error.line(alloc, kernel),
             Refusal::NotBuilt => refusal_line(alloc, "N0", &[]),
             Refusal::Verilog(error) => error.line(alloc),
             Refusal::RunFile(error) => error.line(alloc),

@@ -6,6 +6,8 @@ mod building_tests;
 #[cfg(test)]
 mod design_tests;
 #[cfg(test)]
+mod schedule_tests;
+#[cfg(test)]
 mod simulate_tests;
 #[cfg(test)]
 mod storage_tests;

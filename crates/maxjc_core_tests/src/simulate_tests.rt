@@ -1,4 +1,5 @@
 // Texts that are simulated: what is said, and the words that leave.
+use crate::tests::IMMEDIATE;
 use maxjc_core::{Status, maxjc};
 use mx_base::{MemFiles, MemSay, Text, read_whole};
 use stall_source::{Pattern, program_stalls};
@@ -291,7 +292,7 @@ fn expect_words(
 ) -> Result<(), Fail> {
     let mut files = MemFiles::new(alloc, Vec::new(alloc))?;
     files.put(&text(alloc, b"source")?, source)?;
-    files.put(&text(alloc, b"table")?, b"{}")?;
+    files.put(&text(alloc, b"table")?, IMMEDIATE)?;
     files.put(&text(alloc, b"run")?, STALLED)?;
     files.put(&text(alloc, b"x.txt")?, x)?;
     let mut say = MemSay::new(alloc, Vec::new(alloc))?;

@@ -5,7 +5,7 @@ use std::alloc::Global;
 use std::process::Abort;
 use std::test::Fail;
 
-const DOUBLE: &[u8] = b"class Double extends Kernel {
+pub(crate) const DOUBLE: &[u8] = b"class Double extends Kernel {
   Double(KernelParameters p) {
     super(p);
     DFEVar x = io.input(\"x\", dfeUInt(8));
@@ -50,6 +50,12 @@ const TWO_CLASSES: &[u8] = b"class A extends Kernel { A(KernelParameters p) { su
 class B extends Kernel { B(KernelParameters p) { super(p); } }
 ";
 
+// A latency table by which no operation takes a tick.
+pub(crate) const IMMEDIATE: &[u8] =
+    b"{\"add\":[[1,0]],\"sub\":[[1,0]],\"mul\":[[1,0]],\"div\":[[1,0]],
+\"neg\":[[1,0]],\"and\":[[1,0]],\"or\":[[1,0]],\"xor\":[[1,0]],\"not\":[[1,0]],\"eq\":[[1,0]],
+\"ne\":[[1,0]],\"lt\":[[1,0]],\"le\":[[1,0]],\"gt\":[[1,0]],\"ge\":[[1,0]],\"mux\":[[1,0]],\"round\":[[1,0]]}";
+
 const USAGE: &[u8] =
     b"usage: compile SRC TABLE OUT REPORT | simulate TEXT RUN | expect SRC TABLE REPORT RUN | check SRC TABLE REPORT | generate N\n";
 
@@ -65,11 +71,11 @@ fn words(alloc: Global, line: &[&[u8]]) -> Result<Vec<Text>, Fail> {
     Ok(words)
 }
 
-// Files in memory that hold this source and an empty table, and fail at these calls.
+// Files in memory that hold this source and a table without latencies, and fail at these calls.
 fn project(alloc: Global, source: &[u8], fails: &[u64]) -> Result<MemFiles, Fail> {
     let mut files = MemFiles::new(alloc, fails.to_vec(alloc)?)?;
     files.put(&text(alloc, b"source")?, source)?;
-    files.put(&text(alloc, b"table")?, b"{}")?;
+    files.put(&text(alloc, b"table")?, IMMEDIATE)?;
     files.put(&text(alloc, b"other")?, b"as before")?;
     Ok(files)
 }
@@ -95,7 +101,20 @@ pub(crate) fn expect_end(
     status: Status,
     said: &[u8],
 ) -> Result<(), Fail> {
+    expect_end_with(rt, alloc, source, IMMEDIATE, status, said)
+}
+
+// What a source and a latency table lead to.
+pub(crate) fn expect_end_with(
+    rt: &impl Abort,
+    alloc: Global,
+    source: &[u8],
+    table: &[u8],
+    status: Status,
+    said: &[u8],
+) -> Result<(), Fail> {
     let mut files = project(alloc, source, &[])?;
+    files.put(&text(alloc, b"table")?, table)?;
     let mut say = MemSay::new(alloc, Vec::new(alloc))?;
     let ended = run(alloc, &compile_words(alloc)?, &mut files, &mut say);
     assert_eq!(rt; ended, status, "{:?}", text(alloc, source)?);

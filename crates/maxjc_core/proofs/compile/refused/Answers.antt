@@ -2,4 +2,4 @@ use Rattle.maxjc_core.proofs.Refusing.{of_source}
 use Rattle.maxjc_core.proofs.compile.refused.Goals as goal
 
 pub returns-in_default-clause-cause : goal.returns-in_default-clause-cause
-returns-in_default-clause-cause c = λ bytes h. of_source bytes c.args.error c.in_default.not-NoMemory h
+returns-in_default-clause-cause c = λ bytes table h. of_source bytes table c.args.error c.in_default.not-NoMemory h

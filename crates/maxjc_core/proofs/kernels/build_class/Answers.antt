@@ -24,6 +24,7 @@ returns-in-Ok-clause-built c kernel is =
       name = plain-name kernel c.in_default.field-0 host (c.in_default.ensures (kernel ∷ []) own);
       ends = made.ends;
       sound = made.sound;
+      are = made.nodes;
     }
 
 pub returns-in-Err-Eval-clause-fails : goal.returns-in-Err-Eval-clause-fails

@@ -1,0 +1,69 @@
+// Latency tables, and kernels that have no schedule by them.
+use crate::tests::{DOUBLE, IMMEDIATE, expect_end_with};
+use maxjc_core::Status;
+use std::test::Fail;
+
+const ACC: &[u8] = b"class Acc extends Kernel {
+  Acc(KernelParameters p) {
+    super(p);
+    DFEVar x = io.input(\"x\", dfeUInt(32));
+    DFEVar i = control.count.simpleCounter(32);
+    DFEVar old = dfeUInt(32).newInstance(this);
+    DFEVar sum = x + (i === 0 ? 0 : old);
+    old <== stream.offset(sum, -1);
+    io.output(\"y\", sum, dfeUInt(32));
+  }
+}
+";
+
+const ITSELF: &[u8] = b"class Self extends Kernel {
+  Self(KernelParameters p) {
+    super(p);
+    DFEVar v = dfeUInt(8).newInstance(this);
+    v <== v;
+    io.output(\"y\", v, dfeUInt(8));
+  }
+}
+";
+
+const MANAGER: &[u8] = b"class K extends Kernel { K(KernelParameters p) { super(p); } }
+class M extends CustomManager { M(EngineParameters e) { super(e); } }
+";
+
+// Tables by which a sum takes two ticks, and one.
+const TWO: &[u8] = b"{\"add\":[[1,2]],\"eq\":[[1,0]],\"mux\":[[1,0]]}";
+
+const ONE: &[u8] = b"{\"add\":[[1,1]],\"eq\":[[1,0]],\"mux\":[[1,0]]}";
+
+// Sources and tables, each with the line that they are refused with. A fault of the source stands
+// before one of the table, as does a manager; one of the table stands before those of the kernel.
+const REFUSED: [(&[u8], &[u8], &[u8]); 16] = [
+    (DOUBLE, b"[", b"refused T1\n"),
+    (DOUBLE, b"", b"refused T1\n"),
+    (DOUBLE, b"[]", b"refused T2 -\n"),
+    (DOUBLE, b"{\"foo\":[]}", b"refused T2 foo\n"),
+    (DOUBLE, b"{\"shl\":[[1,0]]}", b"refused T2 shl\n"),
+    (DOUBLE, b"{\"add\":[[1,0],[1,0]]}", b"refused T3 add\n"),
+    (DOUBLE, b"{\"add\":[[1,70]]}", b"refused T3 add\n"),
+    (DOUBLE, b"{}", b"refused L1 Double add 8\n"),
+    (DOUBLE, b"{\"add\":[[9,0]]}", b"refused L1 Double add 8\n"),
+    (DOUBLE, ONE, b"refused N0\n"),
+    (b"class", b"[", b"refused S3 5\n"),
+    (MANAGER, b"[", b"refused N0\n"),
+    (ITSELF, b"[", b"refused T1\n"),
+    (
+        ITSELF,
+        IMMEDIATE,
+        b"refused C1 Self latency 0 back 0 nodes 0\n",
+    ),
+    (ACC, TWO, b"refused C2 Acc latency 2 back 1 nodes 2 6 7\n"),
+    (ACC, ONE, b"refused N0\n"),
+];
+
+#[test]
+fn tables_and_kernels_without_schedules_are_refused(rt: HostRuntime) -> Result<(), Fail> {
+    for (source, table, said) in REFUSED {
+        expect_end_with(&rt, rt.alloc(), source, table, Status::Refused, said)?;
+    }
+    Ok(())
+}
