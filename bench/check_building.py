@@ -135,8 +135,10 @@ def wrong_program(all_worked):
     with tempfile.TemporaryDirectory() as folder:
         for worked in all_worked:
             said = program_line(pathlib.Path(folder), worked.source)
-            if not wanted_of(worked.source, worked.line).accepts(said):
-                yield f"{worked.name}: the program says {said}, and not {worked.line}"
+            built = building_run.build(worked.source)
+            code, right = wanted_of(worked.source, built).judged(said)
+            if not right:
+                yield f"{worked.name}: the program says {said}, and not {worked.line or code}"
 
 
 def as_json(worked):

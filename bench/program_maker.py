@@ -334,7 +334,12 @@ class Maker:
         text = f"DFEVar {name} = {self.word}.newInstance(this);"
         if random.random() < 0.3:
             text += f" {self.declare('word')}"
-        return text + (f" {name} <== {self.expr('word')};" if random.random() < 0.97 else "")
+        value = self.expr("word")
+        if random.random() < 0.5:
+            value = f"{name} {random.choice('+-&|^')} ({value})"
+        if random.random() < 0.6:
+            value = f"stream.offset({value}, -{random.randrange(1, 5)})"
+        return text + (f" {name} <== {value};" if random.random() < 0.97 else "")
 
     def port(self):
         counters = [variable.name for variable in self.variables if variable.name.startswith("i")]

@@ -4,10 +4,13 @@
 The sources are files of the grammar: kernels with loops, arrays, methods, strings, rounding modes and
 streams, some of them broken, some at a limit of the language, and some with a manager. Where the
 evaluator (bench/building_run.py, written from that page alone) says a refusal by a code E or G, the program
-is to say that line. Where the run ends well, it is to say `N0`, or to compile the source.
+is to say that line. Where the run ends well, bench/schedule_rules.py says whether L1, C1 or C2 stands by a random
+latency table; where none does, the program is to say `N0`, or to compile the source.
 
     bench/random_programs.py [COUNT [SEED]]
 """
+import json
+import random
 import subprocess
 import sys
 from collections import Counter
@@ -15,6 +18,7 @@ from dataclasses import dataclass
 
 import building_run
 import program_maker
+import schedule_rules
 import trials
 from trials import PROGRAM, TOP
 
@@ -22,29 +26,48 @@ from trials import PROGRAM, TOP
 RUNS_MANAGERS = False
 
 
+ZERO = json.loads((TOP / "examples/tables/zero.json").read_text())
+
+
 @dataclass
 class Wanted:
-    """What the program is to say: a line, or where there is none that nothing is refused but what isn't built."""
+    """What the program is to say: a line, or where there is none what bench/schedule_rules.py says of the kernel."""
 
     line: str
+    kernel: tuple = None
+    table: dict = None
 
-    def accepts(self, said):
+    def judged(self, said):
+        """The code that stands, and whether the program says it rightly."""
         if self.line is None:
-            return said == "refused N0" or said.startswith("kernel ")
-        return said == self.line
+            return schedule_rules.judged(*self.kernel, self.table, said)
+        return self.line.split()[1], said == self.line
 
 
-def wanted_of(source, line):
-    """What the program is to say of a source of which the evaluator says this line."""
+def wanted_of(source, built, table=None):
+    """What the program is to say of a source, by what the evaluator built of it, and a latency table."""
     if "extends CustomManager" in source and not RUNS_MANAGERS:
         return Wanted("refused N0")
-    return Wanted(line)
+    return Wanted(built.line, built.line is None and built.kernels[0], table or ZERO)
 
 
-def program_line(folder, source):
-    """What the program says of a source."""
+def any_table():
+    """All latencies 0, or some of up to 3 ticks, by width, and at times without an operation."""
+    if random.random() < 0.4:
+        return ZERO
+    table = {}
+    for op in ZERO:
+        if random.random() < 0.97:
+            froms = sorted({1, *random.sample(range(2, 129), random.randrange(3))})
+            table[op] = [[least, random.choice([0, 0, 1, 1, 2, 3])] for least in froms]
+    return table
+
+
+def program_line(folder, source, table=None):
+    """What the program says of a source and a table."""
     (folder / "source.maxj").write_text(source)
-    words = [PROGRAM, "compile", "source.maxj", str(TOP / "examples/tables/zero.json"), "out.v", "out.report"]
+    (folder / "table.json").write_text(json.dumps(table or ZERO))
+    words = [PROGRAM, "compile", "source.maxj", "table.json", "out.v", "out.report"]
     return subprocess.run(words, cwd=folder, capture_output=True, text=True).stdout.strip()
 
 
@@ -53,9 +76,8 @@ def steps_of(source):
     return None if built.line else built.steps
 
 
-def code_of(wanted):
-    """The code that is wanted, for counting, with what it is sorted by."""
-    code = wanted.line.split()[1] if wanted.line else "none"
+def place_of(code):
+    """What a code is sorted by."""
     return (code[0], int(code[1:]) if code[1:].isdigit() else 0, code)
 
 
@@ -63,17 +85,18 @@ def main():
     codes = Counter()
 
     def trial(folder):
-        source = program_maker.any_program(steps_of)
-        wanted = wanted_of(source, building_run.build(source).line)
-        codes[code_of(wanted)] += 1
-        said = program_line(folder, source)
-        if wanted.accepts(said):
+        source, table = program_maker.any_program(steps_of), any_table()
+        wanted = wanted_of(source, building_run.build(source), table)
+        said = program_line(folder, source, table)
+        code, right = wanted.judged(said)
+        codes[code] += 1
+        if right:
             return None
-        return f"{said or 'nothing'}, and not {wanted.line or 'a run that ends well'}:\n{source}"
+        return f"{said or 'nothing'}, and not {wanted.line or code} by {json.dumps(table)}:\n{source}"
 
     count = trials.run(1000, trial)
     if count:
-        told = ", ".join(f"{code[2]} {codes[code]}" for code in sorted(codes))
+        told = ", ".join(f"{code} {codes[code]}" for code in sorted(codes, key=place_of))
         print(f"{count} random constructors: the program says what the page says ({told})")
     return 1 if count is None else 0
 
