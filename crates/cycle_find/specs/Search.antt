@@ -1,5 +1,5 @@
 -- What the search for a solution keeps.
-use Rattle.std.specs.Prelude.{◌≡◌, ◌≢◌, ℕ, ◌+◌, ◌<◌, ◌≤◌, pos, ◌+ℤ◌, ◌≤ℤ◌, ◌<ℤ◌, List, [], ◌∷◌, length, slice_index}
+use Rattle.std.specs.Prelude.{◌≡◌, ◌≢◌, ℕ, ◌+◌, ◌-◌, ◌<◌, ◌≤◌, Bool, if◌then◌else◌, pos, ◌+ℤ◌, ◌≤ℤ◌, ◌<ℤ◌, List, [], ◌∷◌, length, slice_index}
 use Rattle.std.specs.List.{sum}
 use Rattle.cycle_find.specs.declared.arcs.Arc.{Arc}
 use Rattle.cycle_find.specs.declared.least.SolveError.{SolveError}
@@ -15,6 +15,11 @@ pub record IsFirstBroken (x : Numbers) (arcs : List Arc) (j : ℕ) : Type 0 wher
 abbrev pub Refutes : List Arc → SolveError → Type 0
 Refutes arcs (Cycle c) = IsPositiveCycle arcs c.arcs × ((x : Numbers) → Solves x arcs → ⊥)
 Refutes arcs NoMemory = Unit {0}
+
+-- the number of the arc at which a sweep over so many arcs is after so many steps: from the first arc
+-- on, or back from the last
+abbrev pub place_at : ℕ → Bool → ℕ → ℕ
+place_at count back step = if back then count - 1 - step else step
 
 -- numbers so far, not below 0
 abbrev pub so_far : List ℕ → Numbers

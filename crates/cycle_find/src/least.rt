@@ -37,7 +37,8 @@ impl From<AllocError> for SolveError {
     }
 }
 
-/// The least numbers, none below 0, that meet all arcs: one per node, and each at most the number of
+/// The least numbers, none below 0, that meet all arcs, by sweeps over the arcs that go forwards and
+/// backwards in turn: one per node, and each at most the number of
 /// nodes times the greatest size of a need. `Cycle` comes exactly where no numbers meet all arcs.
 pub fn solve(alloc: Global, arcs: &Arcs) -> Result<Vec<i64>, SolveError>
     requires { IsSolvable arcs.now }
@@ -55,10 +56,12 @@ pub fn solve(alloc: Global, arcs: &Arcs) -> Result<Vec<i64>, SolveError>
     let mut arcs_of = vec![in alloc; 0u32; nodes]?;
     let x = numbers.as_mut_slice();
     let via = arcs_of.as_mut_slice();
-    while let Some(node) = sweep(list, x, via, size, limit) {
+    let mut back = false;
+    while let Some(node) = sweep(list, x, via, size, limit, back) {
         if let Some(cycle) = walk_back(alloc, list, x, via, node)? {
             return Err(SolveError::Cycle(cycle));
         }
+        back = !back;
     }
     Ok(signed(alloc, x)?)
 }

@@ -2,7 +2,7 @@
 ghost use Rattle.std.specs.Prelude.{◌≡◌, ℕ, ◌<◌, ◌≤◌, ◌+◌, ◌*◌, ◌^◌, length, reverse, drop, slice_index, IfOk, IfNone, IfSome, IsTrue, IsFalse};
 ghost use Rattle.std.specs.List.{sum};
 ghost use Rattle.cycle_find.specs.Constraints.{arc_at, end_of, start_of, Meets, Solves, EndsInRange, NeedsWithin, IsPositiveCycle};
-ghost use Rattle.cycle_find.specs.Search.{IsRaised, Rises, IsWithinBut, so_far};
+ghost use Rattle.cycle_find.specs.Search.{IsRaised, Rises, IsWithinBut, so_far, place_at};
 
 use crate::arcs::{Arc, Cycle};
 use mx_base::{List, NoMemory};
@@ -39,8 +39,24 @@ pub fn raise(list: &[Arc], j: usize, x: &mut [u64], via: &mut [u32], size: u64) 
     true
 }
 
-/// Goes once over the arcs. It answers the node that it raised last, and stops at one above the limit.
-pub fn sweep(list: &[Arc], x: &mut [u64], via: &mut [u32], size: u64, limit: u64) -> Option<usize>
+// The number of the arc at which a sweep over so many arcs is after so many steps.
+fn place_at(count: usize, step: usize, back: bool) -> usize
+    requires { step < count }
+    ensures { result ≡ place_at count back step }
+{
+    if back { count - 1 - step } else { step }
+}
+
+/// Goes once over the arcs, from the first on, or back from the last. It answers the node that it
+/// raised last, and stops at one above the limit.
+pub fn sweep(
+    list: &[Arc],
+    x: &mut [u64],
+    via: &mut [u32],
+    size: u64,
+    limit: u64,
+    back: bool,
+) -> Option<usize>
     requires few { length list.now < 2 ^ 32 }
     requires ends { EndsInRange (length x.old) list.now }
     requires size { NeedsWithin size list.now }
@@ -55,7 +71,8 @@ pub fn sweep(list: &[Arc], x: &mut [u64], via: &mut [u32], size: u64, limit: u64
     ensures within { IfSome result (IsWithinBut x.new limit size) }
 {
     let mut last = None;
-    for j in 0..list.len() {
+    for step in 0..list.len() {
+        let j = place_at(list.len(), step, back);
         if raise(list, j, x, via, size) {
             let node = arc_number(list, j).to as usize;
             last = Some(node);
