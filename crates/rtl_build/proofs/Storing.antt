@@ -15,7 +15,7 @@ use Rattle.rtl_ir.specs.Typed.{mem_width, word_width}
 use Rattle.rtl_ir.specs.Grow.{Grows}
 use Rattle.rtl_ir.proofs.Grow.{holds_before}
 use Rattle.rtl_build.specs.declared.signal.Signal.{Signal}
-use Rattle.rtl_build.specs.Wires.{is_output, IsOpen}
+use Rattle.rtl_build.specs.Wires.{is_output, IsOpen, wire_name}
 use Rattle.rtl_build.specs.Storage.{AddsRegister, AddsUpdate, AddsMemory, HasMemory, ReadsCell, AddsInstance, Keeps, with_register, with_update, with_memory}
 use Rattle.rtl_build.proofs.Growing.{larger, signal, wire, gets, get_last, last_assigned, open_net, open_assign, no_output, signal_kept, range_in_more}
 
@@ -125,9 +125,9 @@ open_cell m nets assigns name w n k a is_open memory address at nets_are assigns
 
 pub reads_cell :
     (m : Module) (nets : List Net) (assigns : List Assign) (name : List ℕ) (w n k : ℕ) (address : Signal)
-    → IsOpen m → HasMemory m k → w ≡ word_width m k → n ≡ length m.nets → nets ≡ m.nets ++ wire name w ∷ [] → assigns ≡ m.assigns ++ gets n (Cell k address.net) ∷ []
+    → IsOpen m → HasMemory m k → w ≡ word_width m k → n ≡ length m.nets → name ≡ wire_name n → nets ≡ m.nets ++ wire name w ∷ [] → assigns ≡ m.assigns ++ gets n (Cell k address.net) ∷ []
     → ReadsCell m (larger m nets assigns) k address (signal n w)
-reads_cell m nets assigns name w n k address is_open has wide at nets_are assigns_are =
+reads_cell m nets assigns name w n k address is_open has wide at named nets_are assigns_are =
     let new = larger m nets assigns in
     let x = wire name w in
     let e = Cell k address.net in
@@ -147,6 +147,10 @@ reads_cell m nets assigns name w n k address is_open has wide at nets_are assign
     } in
     let Q : Contents → Family → List Assign → Type 0 = λ c v l. Assigned new c v l in
     record {
+      is =
+          ap (λ l. larger m l assigns) (nets_are ∙ ap (λ t. m.nets ++ wire t w ∷ []) (named ∙ ap wire_name at) ∙ ap (λ x. m.nets ++ wire (wire_name (length m.nets)) x ∷ []) wide)
+          ∙ ap (larger m (m.nets ++ wire (wire_name (length m.nets)) (word_width m k) ∷ [])) (assigns_are ∙ ap (λ j. m.assigns ++ gets j e ∷ []) at);
+      net = at;
       signal = record { net = omega arith; inner = subst (λ j. is_output m.ports j ≡ false) (sym at) (no_output (length m.nets) m.ports is_open.ports); width = ap net_width last; some = omega (arith, has.some); at_most = omega (arith, has.at_most) };
       width = wide;
       value = λ c v h. last_assigned new c v m.assigns (gets n e) (subst (Q c v) assigns_are h.assigned);

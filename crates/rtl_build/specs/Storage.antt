@@ -1,12 +1,14 @@
 -- Modules that grow by registers, memories and their updates.
-use Rattle.std.specs.Prelude.{◌≡◌, ℕ, ◌<◌, ◌≤◌, List, [], ◌∷◌, ◌++◌, length, true, nat_lt, if◌then◌else◌}
+use Rattle.std.specs.Prelude.{◌≡◌, ℕ, ◌<◌, ◌≤◌, List, [], ◌∷◌, ◌++◌, length, true, false, nat_lt, if◌then◌else◌}
 use Rattle.rtl_ir.specs.declared.design.Module.{Module}
 use Rattle.rtl_ir.specs.declared.design.Update.{Update}
 use Rattle.rtl_ir.specs.declared.design.Instance.{Instance}
+use Rattle.rtl_ir.specs.declared.design.Expr.TheVariants as exprs
 use Rattle.rtl_ir.specs.Value.{Family, Contents, width_of, is_reg, depth_of}
 use Rattle.rtl_ir.specs.Typed.{word_width}
 use Rattle.rtl_ir.specs.Grow.{Grows, Holds}
 use Rattle.rtl_build.specs.declared.signal.Signal.{Signal}
+use Rattle.rtl_build.specs.Wires.{wire_name}
 use Rattle.rtl_build.specs.Signals.{HasSignal}
 
 -- the signal is a register of the module, with its width
@@ -63,8 +65,17 @@ pub record HasMemory (m : Module) (k : ℕ) : Type 0 where
   pub some : 1 ≤ word_width m k
   pub at_most : word_width m k ≤ 128
 
+-- the module with one wire more, of the word of memory k at the address that net a has
+abbrev pub with_cell : Module → ℕ → ℕ → Module
+with_cell m k a = record m {
+  nets = m.nets ++ record { name = wire_name (length m.nets); width = word_width m k; reg = false } ∷ [];
+  assigns = m.assigns ++ record { target = length m.nets; expr = exprs.Cell k a } ∷ [];
+}
+
 -- A wire was added, which has the word of a memory at the address that a signal has, and 0 past the depth.
 pub record ReadsCell (old new : Module) (k : ℕ) (address s : Signal) : Type 0 where
+  pub is : new ≡ with_cell old k address.net
+  pub net : s.net ≡ length old.nets
   pub signal : HasSignal new s
   pub width : s.width ≡ word_width old k
   pub value : (c : Contents) (v : Family) → Holds new c v → v s.net ≡ (if nat_lt (v address.net) (depth_of old k) then c.cells k (v address.net) else 0)

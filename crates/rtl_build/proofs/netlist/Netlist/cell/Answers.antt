@@ -28,4 +28,4 @@ returns c =
     let is = c.in_ok-push-2.ensures.ok ∙ ap (λ a. m.assigns ++ gets c.in_ok-net.net (Cell c.args.memory a) ∷ []) c.net.ensures in
     let P : Module → Signal → Type 0 = λ k s. ReadsCell k (larger m c.push.new.self c.push-2.new.self) c.args.memory c.args.address s in
     subst (P c.args.self.now) (sym c.new.ensures) (subst (λ k. P k (signal c.in_ok-net.net c.word_width-width.result)) c.self.view_is
-    (reads_cell m c.push.new.self c.push-2.new.self c.in_ok-name.name c.word_width-width.result c.in_ok-net.net c.args.memory c.args.address c.self.invariant has c.word_width-width.ensures (c.in_ok-net.ensures ∙ c.len.ensures) c.in_ok-push.ensures.ok is))
+    (reads_cell m c.push.new.self c.push-2.new.self c.in_ok-name.name c.word_width-width.result c.in_ok-net.net c.args.memory c.args.address c.self.invariant has c.word_width-width.ensures (c.in_ok-net.ensures ∙ c.len.ensures) c.in_ok-name.ensures c.in_ok-push.ensures.ok is))
