@@ -1,13 +1,13 @@
 pub mod CallLemmas
 pub mod CoveredLemmas
-mod EdgeLemmas
+pub mod EdgeLemmas
 mod KernelLemmas
 mod LatencyLemmas
-mod NodeLemmas
+pub mod NodeLemmas
 mod ProblemFacts
 mod ProblemLemmas
-mod Reading
+pub mod Reading
 mod ScheduleLemmas
 mod ShownLemmas
-mod SourceLemmas
+pub mod SourceLemmas
 mod WalkLemmas

@@ -10,6 +10,7 @@ use Rattle.std.proofs.Common.{
   [],
   ◌∷◌,
   length,
+  true,
   get_or,
   refl,
   ap,
@@ -73,7 +74,14 @@ use Rattle.stream_graph.specs.Nodes.{
   AreNodes,
 }
 use Rattle.stream_graph.specs.Steps.{WereLawful}
-use Rattle.offset_edges.specs.Edges.{node_at, kind_at, operands_at, operand_at, no_node}
+use Rattle.offset_edges.specs.Edges.{
+  node_at,
+  kind_at,
+  operands_at,
+  operand_at,
+  is_steady,
+  no_node,
+}
 use Rattle.offset_edges.specs.Latencies.{deciding}
 use Rattle.offset_edges.proofs.CallLemmas.{
   made,
@@ -340,6 +348,22 @@ operation_call so_far n (C.Counter d) kind op mode amount l i e = absurd (cc)
 operation_call so_far n C.Chain kind op mode amount l i e = absurd (cc)
 operation_call so_far n (C.ChainDigit chain d) kind op mode amount l i e = absurd (cc)
 
+-- one word in all ticks has no operands
+steady_call : (so_far : List Call) (n : ℕ) (call : Call) (kind : Kind) → IsKind so_far n call kind →
+    is_steady kind ≡ true → operands_by so_far n call ≡ []
+steady_call so_far n (C.Input name t control) kind i e = absurd (cc)
+steady_call so_far n (C.Output name value control t) kind i e = absurd (cc)
+steady_call so_far n (C.Scalar name t) kind i e = refl
+steady_call so_far n (C.Constant bits t) kind i e = refl
+steady_call so_far n (C.Operation op mode amount args t) kind i e = absurd (cc)
+steady_call so_far n (C.Offset value k t) kind i e = absurd (cc)
+steady_call so_far n (C.Feed t) kind i e = absurd (cc)
+steady_call so_far n (C.Connect feed value) kind i e = absurd i
+steady_call so_far n (C.Hold value store t) kind i e = absurd (cc)
+steady_call so_far n (C.Counter d) kind i e = refl
+steady_call so_far n C.Chain kind i e = refl
+steady_call so_far n (C.ChainDigit chain d) kind i e = absurd (cc)
+
 -- ---- nodes
 
 -- the call of a node
@@ -379,6 +403,8 @@ pub record IsOrderly (nodes : List Node) : Type 0 where
       1048576)
   pub operations : (n : ℕ) (op : Op) (mode : RoundMode) (amount : ℕ) → n < length nodes →
       kind_at nodes n ≡ K.Operation op mode amount → deciding op < length (operands_at nodes n)
+  pub steady : (n : ℕ) → n < length nodes → is_steady (kind_at nodes n) ≡ true
+      → length (operands_at nodes n) ≤ 0
 
 orderly_so_far : (so_far : List Call) (nodes : List Node) → WereLawful so_far → SomeDigits so_far →
     OnceConnected so_far → AreNodes so_far nodes → IsOrderly nodes
@@ -414,6 +440,11 @@ orderly_so_far so_far nodes w some once a =
           let f = operation_call so_far n o.call (kind_at nodes n) op mode amount o.was o.is.kind e
           in
           let q = ap length o.is.operands in
+          omega arith;
+      steady = λ n h e.
+          let o = of_node so_far nodes n w a h in
+          let none = ap length (o.is.operands ∙ steady_call so_far n o.call (kind_at nodes n)
+          o.is.kind e) in
           omega arith;
     }
 

@@ -22,5 +22,6 @@ pub use error::EdgeError;
 pub use kernel::edges;
 pub use latency::latencies;
 pub use law::{schedules_are_solutions, solutions_are_schedules};
+pub use source::{Source, sources};
 pub use uncovered::uncovered_walk;
 pub use walk::ClosedWalk;

@@ -8,13 +8,14 @@ use stream_graph::{Kernel, Kind, NodeId};
 
 /// The words of a node that is no offset, so many ticks ahead, below 0 for the past.
 #[derive(Clone, Copy, Debug, PartialEq, Eq)]
-pub(crate) struct Source {
-    pub(crate) node: u32,
-    pub(crate) offset: i64,
+pub struct Source {
+    pub node: u32,
+    pub offset: i64,
 }
 
-/// What each node of a kernel is read as, in node order.
-pub(crate) fn sources(alloc: Global, kernel: &Kernel) -> Result<Vec<Source>, NoMemory>
+/// What each node of a kernel is read as, in node order: an offset as what its operand is read as, so
+/// many ticks further ahead, and each other node as itself. The only error is want of memory.
+pub fn sources(alloc: Global, kernel: &Kernel) -> Result<Vec<Source>, NoMemory>
     ensures { IfOk result (λ sources.
         AreSources kernel.now.nodes (length kernel.now.nodes) sources.items) }
 {
