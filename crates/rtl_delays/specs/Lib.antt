@@ -1,0 +1,10 @@
+pub mod Steps
+pub mod Delays
+pub mod Names
+pub mod Ordered
+pub mod Driven
+pub mod Partial
+pub mod Extends
+pub mod Stored
+pub mod Rings
+pub mod Elements
