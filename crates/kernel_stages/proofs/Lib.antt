@@ -1,0 +1,4 @@
+pub mod Lists
+pub mod Climbing
+pub mod Chaining
+pub mod Freeing

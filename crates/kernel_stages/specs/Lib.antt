@@ -1,0 +1,4 @@
+pub mod Numbers
+pub mod Chains
+pub mod Starting
+pub mod Closing

@@ -1,0 +1,65 @@
+-- The stages of a node: numbers of advances after which its word is kept.
+use Rattle.std.specs.Prelude.{
+  ℕ,
+  ◌+◌,
+  ◌-◌,
+  ◌*◌,
+  ◌<◌,
+  ◌≤◌,
+  ◌^◌,
+  List,
+  [],
+  ◌∷◌,
+  slice_index_or,
+  sum_by,
+  All,
+}
+use Rattle.std.specs.List.Sorted.{IsStrictlyIncreasing}
+use Rattle.std.specs.Int.Count.{count_leading_zeros}
+
+-- the difference of each number to the one before it, and of the first one to `prior`
+abbrev pub differences : ℕ → List ℕ → List ℕ
+differences prior [] = []
+differences prior (stage ∷ stages) = (stage - prior) ∷ differences stage stages
+
+-- the last of these numbers, and `prior` where there are none
+abbrev pub last_from : ℕ → List ℕ → ℕ
+last_from prior [] = prior
+last_from prior (stage ∷ stages) = last_from stage stages
+
+-- The stages rise from above 0, by at most 2^28 each.
+pub record AreRising (stages : List ℕ) : Type 0 where
+  pub rising : IsStrictlyIncreasing stages
+  pub positive : All (λ stage. 0 < stage) stages
+  pub near : All (λ advances. advances ≤ 2 ^ 28) (differences 0 stages)
+
+-- the stages of node u, and none past the last node
+abbrev pub stages_at : List (List ℕ) → ℕ → List ℕ
+stages_at stages u = slice_index_or stages u []
+
+-- The bits of a pointer to one of so many words, at most 2^32: the fewest that hold each number
+-- below `words`. One word needs no pointer.
+abbrev pub place_bits : ℕ → ℕ
+place_bits words = 32 - count_leading_zeros 32 (words - 1)
+
+-- the bits of the pointers of a node with these stages: a delay of d advances points to one of d
+-- words
+abbrev pub pointer_bits : List ℕ → ℕ
+pointer_bits stages = sum_by place_bits (differences 0 stages)
+
+-- the bits of the pointers of all nodes
+abbrev pub all_pointer_bits : List (List ℕ) → ℕ
+all_pointer_bits [] = 0
+all_pointer_bits (stages ∷ rest) = pointer_bits stages + all_pointer_bits rest
+
+-- The bits of the words that are kept of all nodes: for each node its width times its last stage.
+abbrev pub all_word_bits : List ℕ → List (List ℕ) → ℕ
+all_word_bits [] stages = 0
+all_word_bits (width ∷ widths) [] = 0
+all_word_bits (width ∷ widths) (stages ∷ rest) =
+    width * last_from 0 stages + all_word_bits widths rest
+
+-- words have 1 to 128 bits
+pub record IsWidth (width : ℕ) : Type 0 where
+  pub some : 1 ≤ width
+  pub at_most : width ≤ 128
