@@ -1,0 +1,9 @@
+pub mod Ports
+pub mod Refines
+pub mod IsControl
+pub mod Outputs
+pub mod Nets
+pub mod Due
+pub mod Serving
+pub mod Answers
+pub mod Position
