@@ -1,0 +1,7 @@
+mod Claims
+pub mod Direct
+pub mod Runs
+pub mod Storing
+mod Summing
+mod Values
+mod Words

@@ -1,0 +1,4 @@
+pub mod Built
+pub mod Direct
+pub mod States
+pub mod Sum
