@@ -1,0 +1,9 @@
+pub mod Adding
+pub mod Standing
+pub mod Spelled
+pub mod Apart
+pub mod Named
+pub mod Kernels
+pub mod Whole
+pub mod Looping
+pub mod Chaining

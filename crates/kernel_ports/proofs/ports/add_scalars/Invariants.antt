@@ -1,0 +1,15 @@
+use Rattle.std.proofs.Common.{◌≡◌, ◌++◌, length, map, drop}
+use Rattle.kernel_control.specs.Ports.{port_shape, scalar_ports}
+use Rattle.kernel_ports.specs.Added.{scalars_at}
+use Rattle.kernel_ports.proofs.Adding.{AreLeft}
+use Rattle.kernel_ports.proofs.ports.add_scalars.Given as goal
+
+-- the ports of the nodes that are left are still to be added, and so are their signals
+abbrev pub invariant-loop-node : goal.invariant-loop-node
+invariant-loop-node l = record {
+  left : AreLeft l.fn.netlist l.netlist (scalar_ports (map (port_shape l.kernel.nodes) (drop l.node-index l.nodes)))
+      (scalar_ports (map (port_shape l.kernel.nodes) l.nodes));
+  signals :
+      l.made ++ scalars_at l.kernel.nodes (length l.netlist.nets) (drop l.node-index l.nodes)
+      ≡ scalars_at l.kernel.nodes (length l.fn.netlist.nets) l.nodes;
+}
