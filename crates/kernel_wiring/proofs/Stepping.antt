@@ -1,0 +1,385 @@
+-- Nodes that have their wires, one after another.
+use Rattle.std.proofs.Common.{◌≡◌, ◌∙◌, ℕ, zero, suc, ◌+◌, ◌*◌, ◌≤◌, ◌<◌, Bool, true, false, cond, eqb, ◌||◌, List, [], ◌∷◌, map, length, get_or, slice_set, Some, None, refl, ap, sym, subst, arith, ⊎_elim}
+use Rattle.std.specs.Prelude.{All, Contains}
+use Rattle.std.specs.List.{list_any}
+use Rattle.std.proofs.lemmas.Map.Keys.{IsDistinct-from_apart}
+use Rattle.std.proofs.lemmas.Map.Steps.{length-le_from_distinct_below}
+use Rattle.std.proofs.lemmas.Bool.{false≢true, cases_Bool, cases_eq, eqb-true}
+use Rattle.std.proofs.lemmas.List.{get_or_default}
+use Rattle.rtl_ir.specs.declared.design.Module.{Module}
+use Rattle.rtl_ir.specs.Value.{Family, Contents}
+use Rattle.rtl_ir.specs.Grow.{Holds}
+use Rattle.rtl_build.specs.declared.signal.Signal.{Signal}
+use Rattle.rtl_build.specs.Wires.{AddsWires}
+use Rattle.rtl_delays.specs.Steps.{IsSound}
+use Rattle.rtl_delays.specs.Extends.{Extends}
+use Rattle.rtl_delays.proofs.Extends.{extends_same, extends_on, wires_extends}
+use Rattle.rtl_delays.proofs.Stored.{wires_stored}
+use Rattle.rtl_delays.proofs.Undriven.{same_undriven, wires_undriven, undriven_on}
+use Rattle.rtl_delays.proofs.Kept.{wires_no_register, no_register_on}
+use Rattle.stream_graph.specs.declared.node.Kind.{Kind}
+use Rattle.stream_graph.specs.declared.node.Kind.TheVariants as K
+use Rattle.stream_graph.specs.declared.node.Node.{Node}
+use Rattle.offset_edges.specs.Edges.{kind_at, operand_at}
+use Rattle.offset_edges.proofs.NodeLemmas.{IsOrderly}
+use Rattle.kernel_layout.specs.declared.layout.Layout.{Layout}
+use Rattle.kernel_layout.specs.declared.reads.Read.{Read}
+use Rattle.kernel_layout.specs.Reads.{no_read, read_at}
+use Rattle.kernel_wiring.specs.Words.{has_word, is_wired, no_signal, signal_at, stages_at, late_at, late_of, read_signal, read_net, reads_at, taps_at, IsWordOf, AreGiven, AreLate, IsLaidOut, IsReadIn}
+use Rattle.kernel_wiring.specs.OneNode.{IsWired, takes, IsReadable, AddsWord}
+use Rattle.kernel_wiring.specs.AllNodes.{AddsOnlyWires, AddsNodes}
+use Rattle.kernel_wiring.proofs.Typing.{AreTyped}
+use Rattle.kernel_wiring.proofs.Stages.{not_equal, is_zero, not_zero}
+use Rattle.kernel_wiring.proofs.Readable.{takes_wired, read_of, reads_all, node_in, place_of}
+
+-- ---- lists
+
+set_same : (xs : List Signal) (v : ℕ) (s : Signal) → v < length xs → get_or (slice_set xs v s) v no_signal ≡ s
+set_same [] v s h = absurd (omega arith)
+set_same (x ∷ xs) zero s h = refl
+set_same (x ∷ xs) (suc v) s h = set_same xs v s (omega (arith, h))
+
+set_other : (xs : List Signal) (v u : ℕ) (s : Signal) → (v ≡ u → ⊥) → get_or (slice_set xs v s) u no_signal ≡ get_or xs u no_signal
+set_other [] v u s h = refl
+set_other (x ∷ xs) zero zero s h = absurd (h refl)
+set_other (x ∷ xs) zero (suc u) s h = refl
+set_other (x ∷ xs) (suc v) zero s h = refl
+set_other (x ∷ xs) (suc v) (suc u) s h = set_other xs v u s (λ e. h (ap suc e))
+
+set_length : (xs : List Signal) (v : ℕ) (s : Signal) → length (slice_set xs v s) ≡ length xs
+set_length [] v s = refl
+set_length (x ∷ xs) zero s = refl
+set_length (x ∷ xs) (suc v) s = ap suc (set_length xs v s)
+
+each_more : (P : ℕ → Type 0) (k : ℕ) → ((j : ℕ) → j < k → P j) → P k → (j : ℕ) → j < k + 1 → P j
+each_more P k each last j h = ⊎_elim
+    (λ (e : j ≡ k). subst P (sym e) last)
+    (λ (d : j ≡ k → ⊥). each j (omega (arith, h, d)))
+    (cases_eq j k)
+
+-- what holds of each signal holds of the one at a stage that there is
+late_word : (P : Signal → Type 0) (stages : List ℕ) (signals : List Signal) (b : ℕ) → length signals ≡ length stages → All P signals
+    → Contains stages b → P (late_of stages signals b)
+late_word P [] signals b e a c = absurd (let l = c.1 in omega (arith, l))
+late_word P (x ∷ stages) [] b e a c = absurd (omega (arith, e))
+late_word P (x ∷ stages) (s ∷ signals) b e a c = by_test (eqb x b) refl c.0 c.1 c.2
+    (λ k. late_word P stages signals b (omega (arith, e)) (λ i d h. a (suc i) d (omega (arith, h))) k)
+  where
+    by_test : (t : Bool) → eqb x b ≡ t → (k : ℕ) → k < length (x ∷ stages) → get_or (x ∷ stages) k b ≡ b
+        → (Contains stages b → P (late_of stages signals b)) → P (cond t s (late_of stages signals b))
+    by_test true q k h is more = a 0 s (omega arith)
+    by_test false q zero h is more = absurd (grind (arith, q, is))
+    by_test false q (suc k) h is more = more (k, (omega (arith, h)), is)
+
+same_nets : (stages : List (List ℕ)) (late : List (List Signal)) (words after : List Signal) (reads : List Read)
+    → ((p : ℕ) → p < length reads → (get_or reads p no_read).behind ≡ 0 → signal_at after (get_or reads p no_read).source ≡ signal_at words
+    (get_or reads p no_read).source)
+    → map (read_net stages late after) reads ≡ map (read_net stages late words) reads
+same_nets stages late words after [] same = refl
+same_nets stages late words after (r ∷ reads) same =
+    ap (λ (s : Signal). s.net ∷ map (read_net stages late after) reads) (one (eqb r.behind 0) refl)
+    ∙ ap (λ ns. read_net stages late words r ∷ ns) (same_nets stages late words after reads (λ p h z. same (suc p) (omega (arith, h)) z))
+  where
+    one : (t : Bool) → eqb r.behind 0 ≡ t
+        → cond t (signal_at after r.source) (late_of (stages_at stages r.source) (late_at late r.source) r.behind) ≡ cond t
+        (signal_at words r.source) (late_of (stages_at stages r.source) (late_at late r.source) r.behind)
+    one true e = same 0 (omega arith) (grind (arith, e))
+    one false e = refl
+
+-- numbers below n that all differ are at most n
+any_below : (n q : ℕ) (xs : List ℕ) → ((i : ℕ) → i < length xs → get_or xs i 0 < n) → list_any (eqb q) xs ≡ true → q < n
+any_below n q [] a e = absurd (false≢true e)
+any_below n q (x ∷ xs) a e = by_test (eqb q x) (λ t. eqb-true q x t) (λ r. any_below n q xs (λ i h. a (suc i) (omega (arith, h))) r) (a 0 (omega arith)) e
+  where
+    by_test : (b : Bool) → (b ≡ true → q ≡ x) → (list_any (eqb q) xs ≡ true → q < n) → x < n → (b || list_any (eqb q) xs) ≡ true → q < n
+    by_test true same rest l e = let t = same refl in omega (arith, l, t)
+    by_test false same rest l e = rest e
+
+few_apart : (n : ℕ) (xs : List ℕ) → ((i : ℕ) → i < length xs → get_or xs i 0 < n)
+    → ((i j : ℕ) → i < j → j < length xs → get_or xs i 0 ≡ get_or xs j 0 → ⊥) → length xs ≤ n
+few_apart n xs below apart = length-le_from_distinct_below xs n
+    (IsDistinct-from_apart eqb xs (λ i k d l h.
+    let a : get_or xs i d ≡ get_or xs i 0 = get_or_default xs i d 0 (omega (arith, l, h)) in
+    let b : get_or xs k d ≡ get_or xs k 0 = get_or_default xs k d 0 h in
+    not_equal (get_or xs i d) (get_or xs k d) (λ e. apart i k l h (sym a ∙ e ∙ b))))
+    (λ q t. any_below n q xs below t)
+
+-- ---- what a module keeps
+
+pub wired_kept : (m n : Module) → ((c : Contents) (f : Family) → Holds n c f → Holds m c f)
+    → (nodes : List Node) (taps : List ℕ) (net v : ℕ) (k : Kind) → IsWired m nodes taps net v k → IsWired n nodes taps net v k
+wired_kept m n before nodes taps net v K.Output h = h
+wired_kept m n before nodes taps net v (K.Constant word) h = λ c f q. h c f (before c f q)
+wired_kept m n before nodes taps net v (K.Operation op mode amount) h = λ c f q. h c f (before c f q)
+wired_kept m n before nodes taps net v K.Feed h = h
+wired_kept m n before nodes taps net v K.Input h = tt
+wired_kept m n before nodes taps net v K.Scalar h = tt
+wired_kept m n before nodes taps net v (K.Offset ticks) h = tt
+wired_kept m n before nodes taps net v K.Hold h = tt
+wired_kept m n before nodes taps net v K.Counter h = tt
+wired_kept m n before nodes taps net v K.Chain h = tt
+wired_kept m n before nodes taps net v (K.Part place) h = tt
+
+none_wired : (m : Module) (nodes : List Node) (taps : List ℕ) (net v : ℕ) (k : Kind) → is_wired k ≡ false → IsWired m nodes taps net v k
+none_wired m nodes taps net v K.Output e = absurd (false≢true (sym e))
+none_wired m nodes taps net v (K.Constant word) e = absurd (false≢true (sym e))
+none_wired m nodes taps net v (K.Operation op mode amount) e = absurd (false≢true (sym e))
+none_wired m nodes taps net v K.Feed e = absurd (false≢true (sym e))
+none_wired m nodes taps net v K.Input e = tt
+none_wired m nodes taps net v K.Scalar e = tt
+none_wired m nodes taps net v (K.Offset ticks) e = tt
+none_wired m nodes taps net v K.Hold e = tt
+none_wired m nodes taps net v K.Counter e = tt
+none_wired m nodes taps net v K.Chain e = tt
+none_wired m nodes taps net v (K.Part place) e = tt
+
+word_kept : {m n : Module} {nodes : List Node} {v : ℕ} {s : Signal} → Extends m n → IsWordOf m nodes v s → IsWordOf n nodes v s
+word_kept {s = s} e h = record { signal = e.keeps s h.signal; bits = h.bits }
+
+pub only_same : (m : Module) → IsSound m → AddsOnlyWires m m 0
+only_same m sound = record {
+  extends = extends_same sound;
+  updates = refl;
+  mems = refl;
+  nets = omega arith;
+  stored = refl;
+  undriven = same_undriven m m refl;
+  registers = λ n h. h;
+}
+
+only_less : (old m : Module) (a b : ℕ) → a ≤ b → AddsOnlyWires old m a → AddsOnlyWires old m b
+only_less old m a b le w = record {
+  extends = w.extends;
+  updates = w.updates;
+  mems = w.mems;
+  nets = let n = w.nets in omega (arith, n, le);
+  stored = w.stored;
+  undriven = w.undriven;
+  registers = w.registers;
+}
+
+only_more : (old m n : Module) (k : ℕ) → AddsOnlyWires old m (1024 * k) → AddsWires m n 1024 → AddsOnlyWires old n (1024 * (k + 1))
+only_more old m n k w adds = record {
+  extends = extends_on w.extends (wires_extends w.extends.sound adds);
+  updates = adds.updates ∙ w.updates;
+  mems = adds.mems ∙ w.mems;
+  nets = let a = w.nets in let b = adds.count in omega (arith, a, b);
+  stored = wires_stored adds ∙ w.stored;
+  undriven = undriven_on old m n w.extends.grows w.undriven (wires_undriven adds);
+  registers = no_register_on old m n w.registers (wires_no_register adds);
+}
+
+-- ---- the first nodes of the order
+
+abbrev node_of : Layout → ℕ → ℕ
+node_of layout j = get_or layout.order j 0
+
+pub record AreWired (nodes : List Node) (layout : Layout) (late : List (List Signal)) (old m : Module) (before words : List Signal) (k : ℕ) : Type 0 where
+  pub wires : AddsOnlyWires old m (1024 * k)
+  pub size : length words ≡ length before
+  pub given : (u : ℕ) → is_wired (kind_at nodes u) ≡ false → signal_at words u ≡ signal_at before u
+  pub done : (j : ℕ) → j < k → is_wired (kind_at nodes (node_of layout j)) ≡ true
+      → IsWordOf m nodes (node_of layout j) (signal_at words (node_of layout j))
+  pub built : (j : ℕ) → j < k
+      → IsWired m nodes (taps_at layout late words (node_of layout j)) (signal_at words (node_of layout j)).net (node_of layout j)
+      (kind_at nodes (node_of layout j))
+
+pub none_yet : (nodes : List Node) (layout : Layout) (late : List (List Signal)) (old : Module) (before : List Signal) → IsSound old
+    → AreWired nodes layout late old old before before 0
+none_yet nodes layout late old before sound = record {
+  wires = only_same old sound;
+  size = refl;
+  given = λ u e. refl;
+  done = λ j h. absurd (omega (arith, h));
+  built = λ j h. absurd (omega (arith, h));
+}
+
+module _ (nodes : List Node) (o : IsOrderly nodes) (t : AreTyped nodes) (layout : Layout) (laid : IsLaidOut nodes layout) (late : List (List Signal))
+    (old : Module) (before : List Signal)
+    (shown : AreLate old nodes layout.stages late) (first : AreGiven old nodes before) where
+  -- the word of a node that comes before number k of the order
+  word_there : (m : Module) (words : List Signal) (k : ℕ) → AreWired nodes layout late old m before words k → (u : ℕ) → u < length nodes
+      → has_word (kind_at nodes u) ≡ true
+      → (is_wired (kind_at nodes u) ≡ true → get_or laid.is.order.rank u 0 < k + 1) → IsWordOf m nodes u (signal_at words u)
+  word_there m words k w u h has earlier = ⊎_elim
+      (λ (e : is_wired (kind_at nodes u) ≡ true).
+      let p = place_of nodes o t layout laid u h in
+      let r = p.rank in
+      let l = earlier e in
+      let q : p.place < k = omega (arith, r, l) in
+      subst (λ v. IsWordOf m nodes v (signal_at words v)) p.node (w.done p.place q (ap (λ v. is_wired (kind_at nodes v)) p.node ∙ e)))
+      (λ (e : is_wired (kind_at nodes u) ≡ false).
+      subst (λ s. IsWordOf m nodes u s) (sym (w.given u e)) (word_kept w.wires.extends (first.each u h has e)))
+      (cases_Bool (is_wired (kind_at nodes u)))
+
+  read_in : (m : Module) (words : List Signal) (k : ℕ) → AreWired nodes layout late old m before words k → (n i : ℕ) → n < length nodes
+      → i < length (reads_at layout n)
+      → IsReadIn layout.stages late words (read_at (reads_at layout n) i)
+  read_in m words k w n i h l =
+      let r = read_of nodes o t layout laid n i h l in
+      let inside = r.inside in
+      let a = w.size in
+      let b = first.counted in
+      let c = laid.is.stages.counted in
+      let d = shown.counted in
+      record {
+        source = omega (arith, inside, a, b);
+        later = λ moves. record {
+          node = omega (arith, inside, c);
+          known = omega (arith, inside, d);
+          same = shown.same (read_at (reads_at layout n) i).source inside;
+          kept = r.kept moves;
+        };
+      }
+
+  read_typed : (m : Module) (words : List Signal) (k : ℕ) → k < length layout.order → AreWired nodes layout late old m before words k → (n i : ℕ)
+      → n ≡ node_of layout k → n < length nodes
+      → i < length (reads_at layout n) → takes (kind_at nodes n) i ≡ true → IsWordOf m nodes (operand_at nodes n i)
+      (read_signal layout.stages late words (read_at (reads_at layout n) i))
+  read_typed m words k lt w n i e h l q =
+      let r = read_of nodes o t layout laid n i h l in
+      let read = read_at (reads_at layout n) i in
+      let typed = r.typed q in
+      let place : get_or laid.is.order.rank n 0 ≡ k + 1 = ap (λ v. get_or laid.is.order.rank v 0) e ∙ laid.is.order.placed.place k lt in
+      let now : read.behind ≡ 0 → IsWordOf m nodes read.source (signal_at words read.source) =
+      λ z. word_there m words k w read.source r.inside typed.1 (λ x. let a = r.ranked z in omega (arith, a, place)) in
+      let then : (read.behind ≡ 0 → ⊥) → IsWordOf m nodes read.source
+      (late_of (stages_at layout.stages read.source) (late_at late read.source) read.behind) =
+      λ moves. word_kept w.wires.extends
+      (late_word (IsWordOf old nodes read.source) (stages_at layout.stages read.source) (late_at late read.source) read.behind
+      (shown.same read.source r.inside) (shown.each read.source r.inside) (r.kept moves)) in
+      by_test (eqb read.behind 0) refl read (λ s x. record { signal = x.signal; bits = x.bits ∙ typed.0 }) now then
+    where
+      by_test : (b : Bool) → (eqb (read_at (reads_at layout n) i).behind 0 ≡ b) → (read : Read)
+          → ((s : Signal) → IsWordOf m nodes (read_at (reads_at layout n) i).source s → IsWordOf m nodes (operand_at nodes n i) s)
+          → ((read_at (reads_at layout n) i).behind ≡ 0 → IsWordOf m nodes (read_at (reads_at layout n) i).source
+          (signal_at words (read_at (reads_at layout n) i).source))
+          → (((read_at (reads_at layout n) i).behind ≡ 0 → ⊥) → IsWordOf m nodes (read_at (reads_at layout n) i).source
+          (late_of (stages_at layout.stages (read_at (reads_at layout n) i).source) (late_at late (read_at (reads_at layout n) i).source)
+          (read_at (reads_at layout n) i).behind))
+          → IsWordOf m nodes (operand_at nodes n i) (cond b (signal_at words (read_at (reads_at layout n) i).source)
+          (late_of (stages_at layout.stages (read_at (reads_at layout n) i).source) (late_at late (read_at (reads_at layout n) i).source)
+          (read_at (reads_at layout n) i).behind))
+      by_test true e read same now then = same _ (now (is_zero _ e))
+      by_test false e read same now then = same _ (then (not_zero _ e))
+
+  pub readable : (m : Module) (words : List Signal) (k n : ℕ) → k < length layout.order → n ≡ node_of layout k
+      → AreWired nodes layout late old m before words k → IsReadable m nodes layout late words n
+  readable m words k n lt e w =
+      let h : n < length nodes = subst (λ v. v < length nodes) (sym e) (node_in nodes o t layout laid k lt) in
+      let c = laid.is.reads.counted in
+      record {
+        reads = omega (arith, h, c);
+        counted = reads_all nodes o t layout laid n h;
+        each = λ i d l. subst (λ r. IsReadIn layout.stages late words r) (get_or_default (reads_at layout n) i no_read d l) (read_in m words k w n i h l);
+        typed = λ i l q.
+            let all = reads_all nodes o t layout laid n h (takes_wired (kind_at nodes n) i q) in
+            read_typed m words k lt w n i e h (omega (arith, all, l)) q;
+      }
+
+  -- a node of the order reads the same nets when the word of a later one is written
+  taps_kept : (words : List Signal) (s : Signal) (k j : ℕ) → k < length layout.order → j ≤ k
+      → taps_at layout late (slice_set words (node_of layout k) s) (node_of layout j) ≡ taps_at layout late words (node_of layout j)
+  taps_kept words s k j lt le =
+      let v = node_of layout k in
+      let n = node_of layout j in
+      let l : j < length layout.order = omega (arith, lt, le) in
+      same_nets layout.stages late words (slice_set words v s) (reads_at layout n) (λ p h z.
+      let a = (read_of nodes o t layout laid n p (node_in nodes o t layout laid j l) h).ranked z in
+      let b = laid.is.order.placed.place j l in
+      let c = laid.is.order.placed.place k lt in
+      set_other words v (read_at (reads_at layout n) p).source s
+      (λ e. let d : get_or laid.is.order.rank v 0 ≡ get_or laid.is.order.rank (read_at (reads_at layout n) p).source 0 = ap
+      (λ u. get_or laid.is.order.rank u 0) e in
+      omega (arith, a, b, c, d, le)))
+
+  apart : (j k : ℕ) → j < k → k < length layout.order → node_of layout k ≡ node_of layout j → ⊥
+  apart j k l lt e =
+      let a = laid.is.order.placed.place j (omega (arith, l, lt)) in
+      let b = laid.is.order.placed.place k lt in
+      let c : get_or laid.is.order.rank (node_of layout k) 0 ≡ get_or laid.is.order.rank (node_of layout j) 0 = ap
+      (λ u. get_or laid.is.order.rank u 0) e in
+      omega (arith, a, b, c, l)
+
+  -- one node more, which has wires
+  pub wires_more : (m n : Module) (words : List Signal) (k v : ℕ) (s : Signal) → k < length layout.order → v ≡ node_of layout k
+      → AreWired nodes layout late old m before words k
+      → AddsWord m n nodes layout late words v (Some s) → AreWired nodes layout late old n before (slice_set words v s) (k + 1)
+  wires_more m n words k v s lt e w a =
+      subst (λ x. AreWired nodes layout late old n before (slice_set words x s) (k + 1)) (sym e)
+      (more (subst (λ x. AddsWord m n nodes layout late words x (Some s)) e a))
+    where
+      more : AddsWord m n nodes layout late words (node_of layout k) (Some s)
+          → AreWired nodes layout late old n before (slice_set words (node_of layout k) s) (k + 1)
+      more a =
+          let u = node_of layout k in
+          let after = slice_set words u s in
+          let x = wires_extends w.wires.extends.sound a.adds in
+          let inside : u < length words =
+          let i = node_in nodes o t layout laid k lt in
+          let j = w.size in
+          let l = first.counted in
+          omega (arith, i, j, l) in
+          let mine : signal_at after u ≡ s = set_same words u s inside in
+          let others : (j : ℕ) → j < k → signal_at after (node_of layout j) ≡ signal_at words (node_of layout j) = λ j l. set_other words u
+          (node_of layout j) s (apart j k l lt) in
+          record {
+            wires = only_more old m n k w.wires a.adds;
+            size = set_length words u s ∙ w.size;
+            given = λ z q. set_other words u z s (λ y. false≢true (sym q ∙ ap (λ i. is_wired (kind_at nodes i)) (sym y) ∙ sym a.some)) ∙ w.given z q;
+            done = each_more (λ j. is_wired (kind_at nodes (node_of layout j)) ≡ true → IsWordOf n nodes (node_of layout j)
+                (signal_at after (node_of layout j))) k
+                (λ j l q. subst (λ z. IsWordOf n nodes (node_of layout j) z) (sym (others j l)) (word_kept x (w.done j l q)))
+                (λ q. subst (λ z. IsWordOf n nodes u z) (sym mine) a.shows.0);
+            built = each_more (λ j. IsWired n nodes (taps_at layout late after (node_of layout j)) (signal_at after (node_of layout j)).net
+                (node_of layout j) (kind_at nodes (node_of layout j))) k
+                (λ j l. subst (λ (z : Signal). IsWired n nodes (taps_at layout late after (node_of layout j)) z.net (node_of layout j)
+                (kind_at nodes (node_of layout j))) (sym (others j l))
+                (subst (λ taps. IsWired n nodes taps (signal_at words (node_of layout j)).net (node_of layout j) (kind_at nodes (node_of layout j)))
+                (sym (taps_kept words s k j lt (omega (arith, l))))
+                (wired_kept m n x.before nodes (taps_at layout late words (node_of layout j)) (signal_at words (node_of layout j)).net
+                (node_of layout j) (kind_at nodes (node_of layout j)) (w.built j l))))
+                (subst (λ (z : Signal). IsWired n nodes (taps_at layout late after u) z.net u (kind_at nodes u)) (sym mine)
+                (subst (λ taps. IsWired n nodes taps s.net u (kind_at nodes u)) (sym (taps_kept words s k k lt (omega arith))) a.shows.1));
+          }
+
+  -- one node more, whose word is given
+  pub given_more : (m n : Module) (words : List Signal) (k v : ℕ) → k < length layout.order → v ≡ node_of layout k
+      → AreWired nodes layout late old m before words k
+      → AddsWord m n nodes layout late words v None → AreWired nodes layout late old n before words (k + 1)
+  given_more m n words k v lt e w a =
+      let u = node_of layout k in
+      let none : is_wired (kind_at nodes u) ≡ false = ap (λ z. is_wired (kind_at nodes z)) (sym e) ∙ sym a.some in
+      let x = wires_extends w.wires.extends.sound a.adds in
+      record {
+        wires = only_more old m n k w.wires a.adds;
+        size = w.size;
+        given = w.given;
+        done = each_more (λ j. is_wired (kind_at nodes (node_of layout j)) ≡ true → IsWordOf n nodes (node_of layout j)
+            (signal_at words (node_of layout j))) k
+            (λ j l q. word_kept x (w.done j l q))
+            (λ q. absurd (false≢true (sym none ∙ q)));
+        built = each_more (λ j. IsWired n nodes (taps_at layout late words (node_of layout j)) (signal_at words (node_of layout j)).net
+            (node_of layout j) (kind_at nodes (node_of layout j))) k
+            (λ j l. wired_kept m n x.before nodes (taps_at layout late words (node_of layout j)) (signal_at words (node_of layout j)).net
+            (node_of layout j) (kind_at nodes (node_of layout j)) (w.built j l))
+            (none_wired n nodes (taps_at layout late words u) (signal_at words u).net u (kind_at nodes u) none);
+      }
+
+  -- all of them
+  pub all_wired : (m : Module) (words : List Signal) (k : ℕ) → k ≡ length layout.order → AreWired nodes layout late old m before words k
+      → AddsNodes old m nodes layout late before words
+  all_wired m words k e w = record {
+    wires =
+        let few = few_apart (length nodes) layout.order (λ i h. node_in nodes o t layout laid i h) (λ i j l h q. apart i j l h (sym q)) in
+        only_less old m (1024 * k) (2048 * length nodes) (omega (arith, e, few)) w.wires;
+    counted = w.size;
+    given = w.given;
+    words = λ u h has. word_there m words k w u h has
+        (λ q. let p = place_of nodes o t layout laid u h in let r = p.rank in let l = p.within in omega (arith, r, l, e));
+    built = λ u h.
+        let p = place_of nodes o t layout laid u h in
+        let l = p.within in
+        subst (λ v. IsWired m nodes (taps_at layout late words v) (signal_at words v).net v (kind_at nodes v)) p.node
+        (w.built p.place (omega (arith, l, e)));
+  }

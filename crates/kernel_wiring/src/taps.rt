@@ -1,0 +1,90 @@
+// The signals from which a node reads its operands.
+ghost use Rattle.std.specs.Prelude.{◌≡◌, ◌<◌, map, length, All, Contains, IfOk};
+ghost use Rattle.stream_equations.specs.Equations.{type_at};
+ghost use Rattle.kernel_wiring.specs.Words.{late_of, read_signal, read_net, IsReadIn};
+
+use fix_arith::StreamType;
+use kernel_layout::Read;
+use mx_base::{List, NoMemory};
+use rtl_build::Signal;
+use rtl_ir::NetId;
+use std::alloc::Global;
+use stream_graph::{Kernel, NodeId};
+
+// The signal of the stage with this number of advances.
+fn late_signal(stages: &[u64], signals: &[Signal], behind: u64) -> Signal
+    requires same { length signals.now ≡ length stages.now }
+    requires kept { Contains stages.now behind }
+    ensures { result ≡ late_of stages.now signals.now behind }
+{
+    for place in 0..stages.len() {
+        if stages[place] == behind {
+            return signals[place];
+        }
+    }
+    unreachable!("the word is kept so late")
+}
+
+/// The signal of a read: its source's word as it was computed, or so many advances after.
+pub(crate) fn read_signal(
+    stages: &[List<u64>],
+    late: &[List<Signal>],
+    words: &[Signal],
+    read: Read,
+) -> Signal
+    requires { IsReadIn stages.now late.now words.now read }
+    ensures { result ≡ read_signal stages.now late.now words.now read }
+{
+    let source = read.source as usize;
+    if read.behind == 0 {
+        return words[source];
+    }
+    late_signal(
+        stages[source].as_slice(),
+        late[source].as_slice(),
+        read.behind,
+    )
+}
+
+/// The nets of reads, in their order.
+pub(crate) fn read_nets(
+    alloc: Global,
+    stages: &[List<u64>],
+    late: &[List<Signal>],
+    words: &[Signal],
+    reads: &[Read],
+) -> Result<Vec<NetId>, NoMemory>
+    requires { All (IsReadIn stages.now late.now words.now) reads.now }
+    ensures { IfOk result (λ nets.
+        nets.items ≡ map (read_net stages.now late.now words.now) reads.now) }
+{
+    let mut nets = Vec::new(alloc);
+    for read in reads {
+        nets.push(read_signal(stages, late, words, *read).net())?;
+    }
+    Ok(nets)
+}
+
+// The type of a node's words.
+fn type_of(kernel: &Kernel, id: NodeId) -> StreamType
+    requires { id < length kernel.now.nodes }
+    ensures { result ≡ type_at kernel.now.nodes id }
+{
+    kernel.node(id).t
+}
+
+/// The types of the words of nodes, in their order.
+pub(crate) fn types_of(
+    alloc: Global,
+    kernel: &Kernel,
+    operands: &[NodeId],
+) -> Result<Vec<StreamType>, NoMemory>
+    requires { All (λ operand. operand < length kernel.now.nodes) operands.now }
+    ensures { IfOk result (λ types. types.items ≡ map (type_at kernel.now.nodes) operands.now) }
+{
+    let mut types = Vec::new(alloc);
+    for operand in operands {
+        types.push(type_of(kernel, *operand))?;
+    }
+    Ok(types)
+}
