@@ -1,0 +1,13 @@
+pub mod Numbers
+pub mod Taps
+pub mod Running
+pub mod Finishing
+pub mod Starting
+pub mod Driving
+pub mod Wording
+pub mod Places
+pub mod PortNames
+pub mod Controlled
+pub mod Giving
+pub mod Joining
+pub mod Whole

@@ -1,0 +1,23 @@
+use Rattle.std.proofs.Common.{◌∙◌, sym, subst}
+use Rattle.std.specs.Prelude.{All}
+use Rattle.kernel_stages.specs.Numbers.{AreRising}
+use Rattle.kernel_stages.specs.Starting.{AddsChains}
+use Rattle.kernel_rtl.proofs.Starting.{storage_added, are_widths}
+use Rattle.kernel_rtl.proofs.storage.start_storage.Goals as goal
+
+pub start_stages-requires-clause-widths : goal.start_stages-requires-clause-widths
+start_stages-requires-clause-widths c = are_widths c.args.kernel.now c.as_slice.result.now (c.as_slice.ensures.value ∙ c.in_ok-widths.ensures)
+
+pub start_stages-requires-clause-stages : goal.start_stages-requires-clause-stages
+start_stages-requires-clause-stages c = subst (All AreRising) (sym c.as_slice-2.ensures) c.requires.stages
+
+pub returns : goal.returns
+returns c =
+    let m = c.start_position.new.netlist in
+    let n = c.start_stages.new.netlist in
+    let widths = c.as_slice.result.now in
+    let chains = c.in_ok-delays.delays in
+    storage_added c.args.netlist.now m n c.args.kernel.now.nodes widths c.args.layout.now.stages
+    (record { position = c.in_ok-position.position; delays = chains })
+    (c.as_slice.ensures.value ∙ c.in_ok-widths.ensures) c.in_ok-position.ensures
+    (subst (λ stages. AddsChains m n widths stages chains) c.as_slice-2.ensures c.in_ok-delays.ensures)

@@ -1,0 +1,4 @@
+pub mod Planned
+pub mod Storage
+pub mod Words
+pub mod Handshakes

@@ -1,0 +1,58 @@
+-- The position of a kernel's module and the delays of its nodes, before anything writes them.
+use Rattle.std.specs.Prelude.{◌≡◌, ℕ, ◌+◌, true, false, nat_eq, List, length, codes}
+use Rattle.rtl_ir.specs.declared.design.Module.{Module}
+use Rattle.rtl_ir.specs.Value.{is_reg}
+use Rattle.rtl_ir.specs.Formed.{name_of}
+use Rattle.rtl_build.specs.declared.signal.Signal.{Signal}
+use Rattle.rtl_delays.specs.declared.elements.Element.{Element}
+use Rattle.rtl_delays.specs.Extends.{Extends, AddsOneRegister}
+use Rattle.rtl_delays.specs.Driven.{KeepsUndriven}
+use Rattle.rtl_delays.specs.Stored.{stored_bits}
+use Rattle.rtl_delays.specs.Elements.{AreFree}
+use Rattle.stream_graph.specs.declared.node.Node.{Node}
+use Rattle.kernel_control.specs.Nets.{HasWideRegister}
+use Rattle.kernel_stages.specs.Numbers.{all_word_bits, all_pointer_bits}
+use Rattle.kernel_stages.specs.Chains.{joined, is_register_of, AreChains, AreWide}
+use Rattle.kernel_rtl.specs.declared.storage.Storage.{Storage}
+use Rattle.kernel_rtl.specs.Planned.{widths_of}
+
+-- A register of 48 bits was added, named `position`, which nothing writes yet.
+pub record AddsPosition (old new : Module) (position : Signal) : Type 0 where
+  pub extends : Extends old new
+  pub wide : HasWideRegister new position
+  pub named : name_of new position.net ≡ codes "position"
+  pub last : length new.nets ≡ position.net + 1
+  pub updates : new.updates ≡ old.updates
+  pub only : AddsOneRegister old new position.net
+  pub undriven : KeepsUndriven old new
+  pub stored : stored_bits new ≡ stored_bits old + 48
+
+-- each register of the new module is the position, that of one of the delays, or one of the old one
+abbrev pub AddsRegistersFor : Module → Module → ℕ → List Element → Type 0
+AddsRegistersFor old new position es =
+    (n : ℕ)
+    → is_reg new n ≡ true
+    → nat_eq position n ≡ false
+    → is_register_of es n ≡ false
+    → is_reg old n ≡ true
+
+-- The position and the delays of all nodes for these stages were added, which nothing writes yet.
+-- The position comes before the registers of the delays.
+pub record AddsStorage (old new : Module) (nodes : List Node) (stages : List (List ℕ))
+    (storage : Storage) : Type 0
+  where
+    pub extends : Extends old new
+    pub wide : HasWideRegister new storage.position
+    pub named : name_of new storage.position.net ≡ codes "position"
+    pub late : AreChains stages storage.delays
+    pub widths : AreWide (widths_of nodes) storage.delays
+    pub memory : ℕ
+    pub free :
+        AreFree new (storage.position.net + 1) memory (joined storage.delays) (length new.nets)
+        (length new.mems)
+    pub updates : new.updates ≡ old.updates
+    pub only : AddsRegistersFor old new storage.position.net (joined storage.delays)
+    pub undriven : KeepsUndriven old new
+    pub stored :
+        stored_bits new
+        ≡ stored_bits old + 48 + all_word_bits (widths_of nodes) stages + all_pointer_bits stages
