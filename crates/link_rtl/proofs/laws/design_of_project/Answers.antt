@@ -1,0 +1,5 @@
+use Rattle.link_rtl.proofs.Facts.{whole}
+use Rattle.link_rtl.proofs.laws.design_of_project.Goals as goal
+
+pub returns : goal.returns
+returns c = λ kernel m times d refines first project. whole kernel m d project first (c.project_runs.ensures kernel m times d refines project)

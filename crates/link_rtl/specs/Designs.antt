@@ -1,0 +1,54 @@
+-- What the design of a kernel is.
+use Rattle.std.specs.Prelude.{
+  ◌≡◌,
+  ℕ,
+  ◌+◌,
+  ◌*◌,
+  ◌≤◌,
+  false,
+  List,
+  [],
+  ◌∷◌,
+  ◌++◌,
+  map,
+  length,
+  Some,
+}
+use Rattle.rtl_ir.specs.declared.design.Design.{Design}
+use Rattle.rtl_ir.specs.declared.design.Instance.{Instance}
+use Rattle.rtl_ir.specs.declared.design.Module.{Module}
+use Rattle.rtl_ir.specs.Value.{is_reg}
+use Rattle.rtl_ir.specs.Flat.{top_of}
+use Rattle.rtl_ir.specs.Ports.{HasShape}
+use Rattle.rtl_reading.specs.Reads.{ArePortsFirst}
+use Rattle.stream_graph.specs.declared.kernel.Kernel.{Kernel}
+use Rattle.kernel_control.specs.Ports.{scalars_of}
+use Rattle.link_rtl.specs.Shapes.{shape_of, streams_of}
+use Rattle.link_rtl.specs.Tops.{range}
+use Rattle.link_rtl.specs.Projects.{AreFifos}
+use Rattle.link_rtl.specs.Words.{RunsAsEquations}
+
+-- What the design stores stands in these modules: the FIFOs, which store two words each, and the
+-- kernel's. Each of them has one instance in the top module, which stores nothing itself.
+pub record StoresParts (kernel : Kernel) (m : Module) (d : Design) (top : Module) : Type 0 where
+  pub fifos : List Module
+  pub are_fifos : AreFifos kernel.nodes 0 (streams_of kernel.nodes) fifos
+  pub modules : d.modules ≡ fifos ++ m ∷ top ∷ []
+  pub once : map (λ (i : Instance). i.«module») top.instances ≡ range 0 (length fifos + 1)
+  pub no_registers : (n : ℕ) → is_reg top n ≡ false
+  pub no_memories : top.mems ≡ []
+  pub no_updates : top.updates ≡ []
+
+-- The design of a kernel whose module is this one: the ports of its top module are
+-- those of the kernel's shape; it runs as the stream equations; and it stores what the kernel's
+-- module and the FIFOs store, and nothing else.
+pub record IsDesignOf (kernel : Kernel) (m : Module) (d : Design) : Type 0 where
+  pub top : Module
+  pub is_top : top_of d ≡ Some top
+  pub shape : HasShape top (shape_of kernel)
+  pub ports_first : ArePortsFirst d
+  pub runs : RunsAsEquations kernel d top
+  pub stored : StoresParts kernel m d top
+  pub nets :
+      length top.nets
+      ≤ 16 + 8 * (length (scalars_of kernel.nodes) + length (streams_of kernel.nodes))

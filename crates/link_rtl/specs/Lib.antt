@@ -1,0 +1,5 @@
+pub mod Shapes
+pub mod Tops
+pub mod Projects
+pub mod Words
+pub mod Designs

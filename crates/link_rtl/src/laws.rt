@@ -1,0 +1,34 @@
+// The laws, each the contract of a function that does nothing.
+ghost use Rattle.std.specs.Prelude.{ℕ};
+ghost use Rattle.rtl_ir.specs.declared.design.Design.{Design};
+ghost use Rattle.rtl_ir.specs.declared.design.Module.{Module};
+ghost use Rattle.rtl_reading.specs.Reads.{IsPortsFirst};
+ghost use Rattle.stream_graph.specs.declared.kernel.Kernel.{Kernel};
+ghost use Rattle.kernel_control.specs.Refines.{Refines};
+ghost use Rattle.link_rtl.specs.Tops.{top_module};
+ghost use Rattle.link_rtl.specs.Projects.{IsProjectOf};
+ghost use Rattle.link_rtl.specs.Words.{RunsAsEquations};
+ghost use Rattle.link_rtl.specs.Designs.{IsDesignOf};
+
+use rtl_ir::flat_by_parts;
+
+/// The design of a kernel with a module that refines it, a FIFO of two words for each input and
+/// output and the top module that joins them runs as the stream equations, whatever waits, is
+/// refused or held.
+pub fn project_runs()
+    ensures { (kernel : Kernel) (m : Module) (times : ℕ → ℕ) (d : Design)
+        → Refines m kernel times → IsProjectOf kernel m d
+        → RunsAsEquations kernel d (top_module kernel) }
+{
+    flat_by_parts();
+}
+
+/// So it is the kernel's design: besides, its ports are those of the kernel's shape, the ports of
+/// each module are its first nets, it stores what the kernel's module and the FIFOs store and
+/// nothing else, and its top module has few nets. That it is accepted isn't said yet.
+pub fn design_of_project()
+    ensures { (kernel : Kernel) (m : Module) (times : ℕ → ℕ) (d : Design)
+        → Refines m kernel times → IsPortsFirst m → IsProjectOf kernel m d → IsDesignOf kernel m d }
+{
+    project_runs();
+}
