@@ -1,0 +1,81 @@
+// The module of a control of one input and one output.
+ghost use Rattle.std.specs.Prelude.{◌≡◌, ◌≤◌, ◌^◌, length, IfOk, OnOk};
+ghost use Rattle.rtl_delays.specs.Partial.{HasPortsAlone};
+ghost use Rattle.kernel_control.specs.Nets.{IsHandshake};
+ghost use Rattle.kernel_parts_tests.specs.Beds.{AddsPorts, HasFrame};
+
+use crate::ports::{add_input, add_output, empty, text};
+use kernel_control::{ControlNets, Handshake, add_control};
+use mx_base::NoMemory;
+use rtl_build::{Netlist, Signal};
+use rtl_ir::Module;
+use std::alloc::Global;
+
+// What each control has beside the ports of its kernel and the position.
+#[derive(Clone, Copy)]
+pub(crate) struct Frame {
+    pub(crate) reset: Signal,
+    pub(crate) ticks: Signal,
+    pub(crate) hold: Signal,
+    pub(crate) ended: Signal,
+}
+
+// Adds a clock and the frame: nets 0 to 4.
+fn add_frame(alloc: Global, netlist: &mut Netlist) -> Result<Frame, NoMemory>
+    requires alone { HasPortsAlone netlist.old }
+    ensures adds { OnOk result (HasPortsAlone netlist.new) }
+    ensures has { IfOk result (HasFrame netlist.new) }
+{
+    add_input(alloc, netlist, b"clk", 1)?;
+    let reset = add_input(alloc, netlist, b"reset", 1)?;
+    let ticks = add_input(alloc, netlist, b"ticks", 48)?;
+    let hold = add_input(alloc, netlist, b"hold", 1)?;
+    let ended = add_output(alloc, netlist, b"ended")?;
+    Ok(Frame {
+        reset,
+        ticks,
+        hold,
+        ended,
+    })
+}
+
+// Adds the two nets of a port of this time.
+fn add_port(
+    alloc: Global,
+    netlist: &mut Netlist,
+    waits_for: &[u8],
+    answer: &[u8],
+    time: u64,
+) -> Result<Handshake, NoMemory>
+    requires alone { HasPortsAlone netlist.old }
+    requires small { time ≤ 2 ^ 46 }
+    ensures adds { OnOk result (AddsPorts netlist.old netlist.new) }
+    ensures handshake { IfOk result (IsHandshake netlist.new) }
+    ensures answer { IfOk result (λ h. length netlist.old.nets ≤ h.answer.net) }
+{
+    let waits_for = add_input(alloc, netlist, waits_for, 1)?;
+    let answer = add_output(alloc, netlist, answer)?;
+    Ok(Handshake {
+        time,
+        waits_for,
+        answer,
+    })
+}
+
+// The control of an input at time 0 and an output at time 2.
+pub(crate) fn control_module(alloc: Global) -> Result<Module, NoMemory> {
+    let mut netlist = empty(alloc, b"control")?;
+    let frame = add_frame(alloc, &mut netlist)?;
+    let taken = add_port(alloc, &mut netlist, b"x$valid", b"x$ready", 0)?;
+    let given = add_port(alloc, &mut netlist, b"y$ready", b"y$valid", 2)?;
+    let position = netlist.register(text(alloc, b"position")?, 48)?;
+    let nets = ControlNets {
+        position,
+        reset: frame.reset,
+        ticks: frame.ticks,
+        hold: frame.hold,
+        ended: frame.ended,
+    };
+    add_control(alloc, &mut netlist, nets, &[taken, given])?;
+    Ok(netlist.finish())
+}
