@@ -25,4 +25,6 @@ pub record WritesWords (kernel : Source) {names : RunNames} {before : Held} (l :
 
 -- so it is of every source and table that were compiled to the text that was run
 abbrev pub WritesAllWords : RunNames → Held → Held → Type 0
-WritesAllWords names before now = (l : IsLoaded names before) (source table line : List ℕ) (c : Compiles source table l.files.text line) → WritesWords c.kernel l now
+WritesAllWords names before now =
+    (l : IsLoaded names before) (source table line : List ℕ) (c : Compiles source table l.files.text line)
+    → WritesWords c.kernel l now
