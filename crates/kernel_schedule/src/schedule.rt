@@ -1,6 +1,6 @@
 // The best schedule of a kernel.
-ghost use Rattle.std.specs.Prelude.{◌≡◌, IfOk, OnOk, IfErr, IsErr};
-ghost use Rattle.cycle_find.specs.Constraints.{IsPositiveCycle, Solves, Numbers};
+ghost use Rattle.std.specs.Prelude.{◌≡◌, ◌^◌, ◌≤ℤ◌, ℕ, pos, IfOk, OnOk, IfErr, IsErr};
+ghost use Rattle.cycle_find.specs.Constraints.{IsPositiveCycle, IsSolvable, Solves, Numbers, numbers_of};
 ghost use Rattle.offset_edges.specs.Edges.{edges_of};
 ghost use Rattle.offset_edges.specs.Latencies.{AllTimed};
 ghost use Rattle.offset_edges.specs.Problems.{problem_of};
@@ -31,7 +31,7 @@ pub struct Schedule {
 }
 
 /// The schedule of a kernel by a latency table whose FIFOs hold the fewest bits, and of those the
-/// earliest; with a flow that is worth these bits. Errors, of which the first that stands is
+/// earliest, which are from 0 to 2^46; with a flow that is worth these bits. Errors, of which the first that stands is
 /// answered: those of `edges`, and `Uncovered` exactly where no schedule is legal.
 pub fn best_schedule(
     alloc: Global,
@@ -40,6 +40,9 @@ pub fn best_schedule(
 ) -> Result<Schedule, ScheduleError>
     ensures schedulable { OnOk result (IsSchedulable table.now kernel.now.nodes) }
     ensures least { IfOk result (IsLeast table.now kernel.now.nodes) }
+    ensures arcs { IfOk result (λ schedule. IsSolvable schedule.problem.arcs) }
+    ensures most { IfOk result (λ schedule.
+        (v : ℕ) → numbers_of schedule.answer.times v ≤ℤ pos (2 ^ 46)) }
     ensures refused { IfErr result (IsRefused table.now kernel.now.nodes) }
 {
     solutions_are_schedules(kernel, table);

@@ -1,6 +1,8 @@
 -- The best answer of the kernel's problem is its schedule.
-use Rattle.std.proofs.Common.{length, sym, subst}
+use Rattle.std.proofs.Common.{◌≡◌, ◌+◌, ◌*◌, ◌^◌, length, sym, subst, ap, arith}
 use Rattle.cycle_find.specs.Constraints.{numbers_of}
+use Rattle.std.proofs.lemmas.Int.{ints}
+use Rattle.schedule_problem.specs.declared.problem.Problem.{Problem}
 use Rattle.offset_edges.specs.Latencies.{AreLatencies}
 use Rattle.kernel_schedule.proofs.Least.{schedulable, least_legal, bits_are}
 use Rattle.kernel_schedule.proofs.schedule.best_schedule.Goals as goal
@@ -31,3 +33,15 @@ returns-in-Ok-best-clause-least c =
           bits_are c.args.table.now c.args.kernel.now.nodes c.in-Ok-edges.problem c.in-Ok-edges.ensures.problem
           c.solutions_are_schedules.ensures c.schedules_are_solutions.ensures x best.legal cheapest;
     }
+
+pub returns-in-Ok-best-clause-arcs : goal.returns-in-Ok-best-clause-arcs
+returns-in-Ok-best-clause-arcs c = c.in-Ok-edges.ensures.solvable.arcs
+
+pub returns-in-Ok-best-clause-most : goal.returns-in-Ok-best-clause-most
+returns-in-Ok-best-clause-most c v =
+    let few = c.args.kernel.now.few in
+    let problem = c.in-Ok-edges.problem in
+    let nodes : problem.arcs.nodes ≡ 2 * length c.args.kernel.now.nodes =
+    ap (λ (p : Problem). p.arcs.nodes) c.in-Ok-edges.ensures.problem in
+    let within = c.in-Ok-best.ensures.within (2 ^ 32 + 64) c.in-Ok-edges.ensures.small v in
+    omega (arith, ints, few, nodes, within)
