@@ -8,6 +8,9 @@ use Rattle.std.specs.Prelude.{
   Bool,
   true,
   false,
+  ◌&&◌,
+  ◌==◌,
+  nat_lt,
   pos,
   ◌≤ℤ◌,
   ℤ,
@@ -23,7 +26,7 @@ use Rattle.fix_arith.specs.Types.{width_of}
 use Rattle.stream_graph.specs.declared.node.Kind.{Kind}
 use Rattle.stream_graph.specs.declared.node.Kind.TheVariants as K
 use Rattle.stream_graph.specs.declared.node.Node.{Node}
-use Rattle.offset_edges.specs.Edges.{kind_at, is_offset, edges_of}
+use Rattle.offset_edges.specs.Edges.{kind_at, operands_at, is_offset, edges_of}
 use Rattle.offset_edges.specs.Schedules.{IsLegal}
 use Rattle.stream_equations.specs.Equations.{control_of}
 use Rattle.kernel_layout.specs.declared.layout.Layout.{Layout}
@@ -40,6 +43,18 @@ is_plain_kind (K.Operation op mode amount) = true
 is_plain_kind (K.Offset ticks) = true
 is_plain_kind K.Feed = true
 is_plain_kind _ = false
+
+-- whether a node of this kind with so many operands is no port with a control
+abbrev pub has_no_control : Kind → ℕ → Bool
+has_no_control K.Input operands = operands == 0
+has_no_control K.Output operands = nat_lt operands 2
+has_no_control _ operands = true
+
+-- whether a node gets its hardware here: it is of such a kind, and no port with a control
+abbrev pub is_plain_node : List Node → ℕ → Bool
+is_plain_node nodes n =
+    is_plain_kind (kind_at nodes n)
+    && has_no_control (kind_at nodes n) (length (operands_at nodes n))
 
 -- all nodes are of such kinds, and no port has a control
 pub record IsPlain (nodes : List Node) : Type 0 where

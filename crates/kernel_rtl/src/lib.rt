@@ -8,7 +8,9 @@
 mod control;
 mod module;
 mod outputs;
+mod plain;
 mod storage;
 mod words;
 
 pub use module::kernel_module;
+pub use plain::is_plain;
