@@ -1,0 +1,9 @@
+//! The layout of a kernel's module at its least schedule, where the words that the module keeps
+//! have few bits.
+#![tactic(auto)]
+
+mod error;
+mod planning;
+
+pub use error::PlanError;
+pub use planning::plan;

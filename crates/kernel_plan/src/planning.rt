@@ -1,0 +1,42 @@
+// The layout of a kernel's module at its least schedule.
+ghost use Rattle.std.specs.Prelude.{◌≡◌, ◌^◌, ◌≤ℤ◌, ℕ, pos, slice_index, IfOk, OnOk, IfErr};
+ghost use Rattle.cycle_find.specs.Constraints.{numbers_of, IsSolvable};
+ghost use Rattle.kernel_layout.specs.Layouts.{IsLayout};
+ghost use Rattle.kernel_rtl.specs.Planned.{IsPlanned};
+ghost use Rattle.kernel_plan.specs.Planned.{IsScheduled};
+ghost use Rattle.kernel_plan.specs.Refused.{bits_in, IsRefused};
+
+use crate::PlanError;
+use fifo_sharing::share;
+use kernel_layout::{Layout, lay_out};
+use kernel_schedule::Schedule;
+use schedule_problem::cost;
+use std::alloc::Global;
+use stream_graph::Kernel;
+
+/// The most bits that the FIFOs of a kernel's schedule may hold.
+const MOST_BITS: i128 = 1 << 28;
+
+/// The layout of a kernel's module at its least schedule by some table of latencies, whose times
+/// are at most 2^46: its latencies are those of the layout. Errors: `TooManyBits`, with the bits,
+/// exactly where the FIFOs of the schedule hold more than 2^28 bits; else want of memory.
+pub fn plan(alloc: Global, kernel: &Kernel, schedule: &Schedule) -> Result<Layout, PlanError>
+    requires least { IsScheduled kernel.now.nodes schedule.now }
+    requires arcs { IsSolvable schedule.now.problem.arcs }
+    requires most { (v : ℕ) → numbers_of schedule.now.answer.times v ≤ℤ pos (2 ^ 46) }
+    ensures laid { IfOk result (IsLayout kernel.now.nodes (slice_index schedule.now.latencies)
+        (numbers_of schedule.now.answer.times)) }
+    ensures planned { IfOk result
+        (IsPlanned kernel.now.nodes (numbers_of schedule.now.answer.times)) }
+    ensures fits { OnOk result (bits_in kernel.now.nodes schedule.now ≤ℤ pos (2 ^ 28)) }
+    ensures refused { IfErr result (IsRefused (bits_in kernel.now.nodes schedule.now)) }
+{
+    let times = schedule.answer.times.as_slice();
+    let bits = cost(&schedule.problem, times);
+    if bits > MOST_BITS {
+        return Err(PlanError::TooManyBits(bits.unsigned_abs()));
+    }
+    let chains = share(alloc, &schedule.problem, times)?;
+    let latencies = schedule.latencies.as_slice();
+    Ok(lay_out(alloc, kernel, latencies, times, chains.as_slice())?)
+}
