@@ -5,3 +5,7 @@ pub mod Lookups
 pub mod Joins
 pub mod Runs
 pub mod Facts
+pub mod Porting
+pub mod Porters
+pub mod Making
+pub mod Instancing

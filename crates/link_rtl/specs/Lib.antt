@@ -3,3 +3,5 @@ pub mod Tops
 pub mod Projects
 pub mod Words
 pub mod Designs
+pub mod Nodes
+pub mod Building

@@ -22,6 +22,7 @@ range from (suc count) = from ∷ range (from + 1) count
 
 -- ---- the instances
 
+-- the instance of the module with this number, by its name and its nets
 abbrev pub instance : ℕ → List ℕ → List ℕ → Instance
 instance of name nets = record { «module» = of; name = name; nets = nets }
 
@@ -53,6 +54,7 @@ output_instances nodes of port (n ∷ ns) =
 abbrev pub nets_around : ℕ → ℕ → List ℕ
 nets_around first links = range 0 first ++ range (first + links) links
 
+-- the nets of the kernel of these nodes
 abbrev pub kernel_nets : List Node → List ℕ
 kernel_nets nodes = nets_around (first_input nodes) (link_count nodes)
 
@@ -65,6 +67,7 @@ instances_of nodes =
 
 -- ---- the nets
 
+-- the net of a port
 abbrev pub port_net : PortView → Net
 port_net p = wire p.name p.width
 

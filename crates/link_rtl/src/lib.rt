@@ -2,9 +2,17 @@
 //! and outputs, and the top module that joins them.
 //!
 //! `specs/Tops` has the top module net by net, `specs/Projects` the modules around it, and
-//! `specs/Designs` what the whole is. The functions do nothing: their contracts are the laws.
+//! `specs/Designs` what the whole is.
 #![tactic(auto)]
 
+mod building;
+mod done;
+mod instances;
 mod laws;
+mod nodes;
+mod places;
+mod ports;
+mod wires;
 
+pub use building::design;
 pub use laws::{design_of_project, project_runs};
