@@ -9,3 +9,17 @@ pub mod Porting
 pub mod Porters
 pub mod Making
 pub mod Instancing
+pub mod AcceptedSlots
+pub mod AcceptedNets
+pub mod AcceptedParts
+pub mod AcceptedPlaces
+pub mod AcceptedDriven
+pub mod AcceptedLevels
+pub mod AcceptedModules
+pub mod AcceptedNames
+pub mod AcceptedApart
+pub mod AcceptedSound
+pub mod AcceptedSpelled
+pub mod AcceptedFormed
+pub mod Accepted
+pub mod AcceptedAlone

@@ -2,10 +2,12 @@
 ghost use Rattle.std.specs.Prelude.{ℕ};
 ghost use Rattle.rtl_ir.specs.declared.design.Design.{Design};
 ghost use Rattle.rtl_ir.specs.declared.design.Module.{Module};
+ghost use Rattle.rtl_ir.specs.Rules.{IsAccepted};
 ghost use Rattle.rtl_reading.specs.Reads.{IsPortsFirst};
 ghost use Rattle.stream_graph.specs.declared.kernel.Kernel.{Kernel};
 ghost use Rattle.kernel_control.specs.Refines.{Refines};
 ghost use Rattle.link_rtl.specs.Tops.{top_module};
+ghost use Rattle.link_rtl.specs.Kept.{KeepsRules};
 ghost use Rattle.link_rtl.specs.Projects.{IsProjectOf};
 ghost use Rattle.link_rtl.specs.Words.{RunsAsEquations};
 ghost use Rattle.link_rtl.specs.Designs.{IsDesignOf};
@@ -25,10 +27,22 @@ pub fn project_runs()
 
 /// So it is the kernel's design: besides, its ports are those of the kernel's shape, the ports of
 /// each module are its first nets, it stores what the kernel's module and the FIFOs store and
-/// nothing else, and its top module has few nets. That it is accepted isn't said yet.
+/// nothing else, and its top module has few nets.
 pub fn design_of_project()
     ensures { (kernel : Kernel) (m : Module) (times : ℕ → ℕ) (d : Design)
         → Refines m kernel times → IsPortsFirst m → IsProjectOf kernel m d → IsDesignOf kernel m d }
 {
     project_runs();
 }
+
+/// It keeps all rules of designs where the kernel's module keeps them.
+pub fn project_is_accepted()
+    ensures { (kernel : Kernel) (m : Module) (d : Design)
+        → KeepsRules kernel m → IsProjectOf kernel m d → IsAccepted d }
+{}
+
+/// A module that refines a kernel keeps them, so that a design with it is accepted.
+pub fn refinement_keeps_rules()
+    ensures { (kernel : Kernel) (m : Module) (times : ℕ → ℕ)
+        → Refines m kernel times → KeepsRules kernel m }
+{}

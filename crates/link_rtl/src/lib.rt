@@ -15,4 +15,4 @@ mod ports;
 mod wires;
 
 pub use building::design;
-pub use laws::{design_of_project, project_runs};
+pub use laws::{design_of_project, project_is_accepted, project_runs, refinement_keeps_rules};
