@@ -10,6 +10,7 @@ use Rattle.rtl_ir.specs.Value.{net_kept, net_width}
 use Rattle.rtl_ir.specs.Formed.{net_name}
 use Rattle.rtl_ir.specs.Flat.{top_of}
 use Rattle.rtl_ir.specs.Ports.{PortView, port_view, HasShape, shape_ports}
+use Rattle.rtl_ir.specs.Rules.{IsAccepted}
 use Rattle.rtl_reading.specs.Reads.{numbers_from, IsPortsFirst, ArePortsFirst}
 use Rattle.stream_graph.specs.declared.kernel.Kernel.{Kernel}
 use Rattle.stream_graph.specs.declared.node.Node.{Node}
@@ -20,8 +21,9 @@ use Rattle.link_rtl.specs.Shapes.{shape_of, streams_of, port_count}
 use Rattle.link_rtl.specs.Tops.{range, instance, kernel_nets, port_net, ports_from, link_widths, done_widths, wire_widths, input_instances, output_instances, instances_of, top_module}
 use Rattle.link_rtl.specs.Projects.{AreFifos, IsProjectOf}
 use Rattle.link_rtl.specs.Words.{RunsAsEquations}
-use Rattle.link_rtl.specs.Designs.{IsDesignOf}
+use Rattle.link_rtl.specs.Designs.{StoresParts, IsDesignOf}
 use Rattle.link_rtl.proofs.Lookups.{get_left, get_behind, length_map, length_ports, length_fifos}
+use Rattle.link_rtl.proofs.Storage.{bits}
 
 -- ---- the ports
 
@@ -160,6 +162,17 @@ once nodes count e =
     ∙ sym (range_append 0 i (o + 1))
     ∙ ap (λ k. range 0 k) (sym all)
 
+pub stores_parts : (kernel : Kernel) (m : Module) (d : Design) → IsProjectOf kernel m d → StoresParts kernel m d (top_module kernel)
+stores_parts kernel m d project = record {
+  fifos = project.fifos;
+  are_fifos = project.are_fifos;
+  modules = project.modules;
+  once = once kernel.nodes (length project.fifos) (length_fifos kernel.nodes 0 (streams_of kernel.nodes) project.fifos project.are_fifos);
+  no_registers = λ n. kept_ports (shape_ports (shape_of kernel)) (wires_from (port_count kernel.nodes) (wire_widths kernel.nodes)) (kept_wires (port_count kernel.nodes) (wire_widths kernel.nodes)) n;
+  no_memories = refl;
+  no_updates = refl;
+}
+
 -- ---- the number of nets
 
 length_wires : (k : ℕ) (ws : List ℕ) → length (wires_from k ws) ≡ length ws
@@ -191,21 +204,19 @@ few_nets kernel =
 
 -- ---- all of it
 
-pub whole : (kernel : Kernel) (m : Module) (d : Design) → IsProjectOf kernel m d → IsPortsFirst m → RunsAsEquations kernel d (top_module kernel) → IsDesignOf kernel m d
-whole kernel m d project first runs = record {
-  top = top_module kernel;
-  is_top = is_top kernel m d project;
-  shape = has_shape kernel;
-  ports_first = ports_first kernel m d project first;
-  runs = runs;
-  stored = record {
-    fifos = project.fifos;
-    are_fifos = project.are_fifos;
-    modules = project.modules;
-    once = once kernel.nodes (length project.fifos) (length_fifos kernel.nodes 0 (streams_of kernel.nodes) project.fifos project.are_fifos);
-    no_registers = λ n. kept_ports (shape_ports (shape_of kernel)) (wires_from (port_count kernel.nodes) (wire_widths kernel.nodes)) (kept_wires (port_count kernel.nodes) (wire_widths kernel.nodes)) n;
-    no_memories = refl;
-    no_updates = refl;
-  };
-  nets = few_nets kernel;
-}
+pub whole :
+    (kernel : Kernel) (m : Module) (d : Design)
+    → IsProjectOf kernel m d → m.instances ≡ [] → IsPortsFirst m → RunsAsEquations kernel d (top_module kernel) → IsAccepted d → IsDesignOf kernel m d
+whole kernel m d project alone first runs accepted =
+    let parts : StoresParts kernel m d (top_module kernel) = stores_parts kernel m d project in
+    record {
+      accepted = accepted;
+      top = top_module kernel;
+      is_top = is_top kernel m d project;
+      shape = has_shape kernel;
+      ports_first = ports_first kernel m d project first;
+      runs = runs;
+      stored = parts;
+      bits = bits kernel m d (top_module kernel) parts alone;
+      nets = few_nets kernel;
+    }

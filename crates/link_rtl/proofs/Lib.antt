@@ -4,6 +4,7 @@ pub mod Outputs
 pub mod Lookups
 pub mod Joins
 pub mod Runs
+pub mod Storage
 pub mod Facts
 pub mod Porting
 pub mod Porters

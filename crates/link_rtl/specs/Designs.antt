@@ -20,12 +20,15 @@ use Rattle.rtl_ir.specs.declared.design.Module.{Module}
 use Rattle.rtl_ir.specs.Value.{is_reg}
 use Rattle.rtl_ir.specs.Flat.{top_of}
 use Rattle.rtl_ir.specs.Ports.{HasShape}
+use Rattle.rtl_ir.specs.Rules.{IsAccepted}
 use Rattle.rtl_reading.specs.Reads.{ArePortsFirst}
 use Rattle.stream_graph.specs.declared.kernel.Kernel.{Kernel}
+use Rattle.rtl_delays.specs.Stored.{stored_bits}
 use Rattle.kernel_control.specs.Ports.{scalars_of}
 use Rattle.link_rtl.specs.Shapes.{shape_of, streams_of}
 use Rattle.link_rtl.specs.Tops.{range}
 use Rattle.link_rtl.specs.Projects.{AreFifos}
+use Rattle.link_rtl.specs.Storage.{all_bits, host_bits}
 use Rattle.link_rtl.specs.Words.{RunsAsEquations}
 
 -- What the design stores stands in these modules: the FIFOs, which store two words each, and the
@@ -39,16 +42,18 @@ pub record StoresParts (kernel : Kernel) (m : Module) (d : Design) (top : Module
   pub no_memories : top.mems ≡ []
   pub no_updates : top.updates ≡ []
 
--- The design of a kernel whose module is this one: the ports of its top module are
--- those of the kernel's shape; it runs as the stream equations; and it stores what the kernel's
--- module and the FIFOs store, and nothing else.
+-- The design of a kernel whose module is this one: it keeps all rules of designs; the ports of its
+-- top module are those of the kernel's shape; it runs as the stream equations; and all its registers
+-- and memories are those of the kernel's module and of the FIFOs.
 pub record IsDesignOf (kernel : Kernel) (m : Module) (d : Design) : Type 0 where
+  pub accepted : IsAccepted d
   pub top : Module
   pub is_top : top_of d ≡ Some top
   pub shape : HasShape top (shape_of kernel)
   pub ports_first : ArePortsFirst d
   pub runs : RunsAsEquations kernel d top
   pub stored : StoresParts kernel m d top
+  pub bits : all_bits d ≡ stored_bits m + host_bits kernel.nodes
   pub nets :
       length top.nets
       ≤ 16 + 8 * (length (scalars_of kernel.nodes) + length (streams_of kernel.nodes))

@@ -98,6 +98,11 @@ fn top(alloc: Global, kernel: &Kernel, ports: &PortNodes) -> Result<Module, NoMe
 /// and so on in node order, then `inner`, and last the top module, which has one instance of each
 /// (IEEE 1364-2005, 12.1.2).
 ///
+/// Where `inner` refines the kernel at some times, and its ports are its first nets, the design
+/// keeps all rules of designs and runs as the kernel's stream equations. Over all instances it then
+/// stores the bits of `inner`, and 2 W + 3 for each input and output of width W: two words, a place
+/// of 1 bit and a count of 2.
+///
 /// The only error is `NoMemory`.
 pub fn design(alloc: Global, kernel: &Kernel, inner: Module) -> Result<Design, NoMemory>
     ensures project { IfOk result (IsProjectOf kernel.now inner) }

@@ -25,17 +25,7 @@ pub fn project_runs()
     flat_by_parts();
 }
 
-/// So it is the kernel's design: besides, its ports are those of the kernel's shape, the ports of
-/// each module are its first nets, it stores what the kernel's module and the FIFOs store and
-/// nothing else, and its top module has few nets.
-pub fn design_of_project()
-    ensures { (kernel : Kernel) (m : Module) (times : ℕ → ℕ) (d : Design)
-        → Refines m kernel times → IsPortsFirst m → IsProjectOf kernel m d → IsDesignOf kernel m d }
-{
-    project_runs();
-}
-
-/// It keeps all rules of designs where the kernel's module keeps them.
+/// Such a design keeps all rules of designs where the kernel's module keeps them.
 pub fn project_is_accepted()
     ensures { (kernel : Kernel) (m : Module) (d : Design)
         → KeepsRules kernel m → IsProjectOf kernel m d → IsAccepted d }
@@ -46,3 +36,17 @@ pub fn refinement_keeps_rules()
     ensures { (kernel : Kernel) (m : Module) (times : ℕ → ℕ)
         → Refines m kernel times → KeepsRules kernel m }
 {}
+
+/// So with a module that refines the kernel it is the kernel's design: it runs as the stream
+/// equations and keeps all rules of designs; its ports are those of the kernel's shape, and the
+/// ports of each module are its first nets; the bits that it stores, over all instances, are those
+/// of the kernel's module and of a FIFO of two words for each input and output, and no others; and
+/// its top module has few nets.
+pub fn design_of_project()
+    ensures { (kernel : Kernel) (m : Module) (times : ℕ → ℕ) (d : Design)
+        → Refines m kernel times → IsPortsFirst m → IsProjectOf kernel m d → IsDesignOf kernel m d }
+{
+    project_runs();
+    refinement_keeps_rules();
+    project_is_accepted();
+}
