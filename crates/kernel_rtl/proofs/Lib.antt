@@ -7,6 +7,7 @@ pub mod Driving
 pub mod Wording
 pub mod Places
 pub mod PortNames
+pub mod PortsFirst
 pub mod Controlled
 pub mod Giving
 pub mod Joining

@@ -3,6 +3,7 @@ ghost use Rattle.std.specs.Prelude.{◌≡◌, ◌+◌, ◌≤◌, ◌<◌, ◌^
 ghost use Rattle.cycle_find.specs.Constraints.{numbers_of};
 ghost use Rattle.rtl_ir.specs.Ports.{is_plain_name};
 ghost use Rattle.rtl_delays.specs.Stored.{stored_bits};
+ghost use Rattle.rtl_reading.specs.Reads.{IsPortsFirst};
 ghost use Rattle.kernel_control.specs.Refines.{Refines};
 ghost use Rattle.kernel_stages.specs.Numbers.{all_word_bits, all_pointer_bits};
 ghost use Rattle.kernel_rtl.specs.Planned.{IsPlain, IsPlanned, times_of, widths_of};
@@ -31,9 +32,9 @@ fn finished(netlist: Netlist) -> Module
     module
 }
 
-/// The module of a kernel at these times, by a layout at them: it refines the kernel, and stores
-/// the 48 bits of its position, the words that its nodes' stages keep, and the pointers of those
-/// that are kept in memories.
+/// The module of a kernel at these times, by a layout at them: it refines the kernel, its ports are
+/// its first nets, in their order, and it stores the 48 bits of its position, the words that its
+/// nodes' stages keep, and the pointers of those that are kept in memories.
 ///
 /// The kernel's name is a letter and then letters, digits and `_`. Times are in advances, from 0 to
 /// 2^46, in node order. The only error is `NoMemory`, also where the module has 2^32 nets.
@@ -48,6 +49,7 @@ pub fn kernel_module(
     requires times { length kernel.now.nodes ≤ length times.now }
     requires planned { IsPlanned kernel.now.nodes (numbers_of times.now) layout.now }
     ensures refines { IfOk result (λ built. Refines built kernel.now (times_of times.now)) }
+    ensures ports_first { IfOk result IsPortsFirst }
     ensures stored { IfOk result (λ built. stored_bits built
         ≡ 48 + all_word_bits (widths_of kernel.now.nodes) layout.now.stages
         + all_pointer_bits layout.now.stages) }

@@ -4,6 +4,8 @@ use Rattle.cycle_find.specs.Constraints.{numbers_of}
 use Rattle.rtl_ir.specs.declared.design.Module.{Module}
 use Rattle.rtl_delays.specs.Elements.{HasElement}
 use Rattle.rtl_delays.specs.Stored.{stored_bits}
+use Rattle.rtl_delays.proofs.Extends.{extends_on}
+use Rattle.rtl_reading.specs.Reads.{IsPortsFirst}
 use Rattle.offset_edges.proofs.NodeLemmas.{orderly}
 use Rattle.offset_edges.proofs.EdgeLemmas.{edges_are}
 use Rattle.kernel_control.specs.Refines.{Refines}
@@ -13,6 +15,7 @@ use Rattle.kernel_stages.proofs.Chaining.{chains_length}
 use Rattle.kernel_rtl.specs.Planned.{times_of}
 use Rattle.kernel_rtl.proofs.Starting.{all_stand, are_rising}
 use Rattle.kernel_rtl.proofs.Joining.{words_named, streams_on, data_undriven, told_undriven, control_nets_stand, handshakes_stand, delays_free, inputs_timed, outputs_timed, words_follow}
+use Rattle.kernel_rtl.proofs.PortsFirst.{ports_first}
 use Rattle.kernel_rtl.proofs.Whole.{ClosesDelays, closed_named, stored, refines}
 use Rattle.kernel_rtl.proofs.module.kernel_module.Goals as goal
 
@@ -147,6 +150,14 @@ returns-clause-refines c =
     c.in_ok-netlist.ensures c.in_ok-storage.ensures
     (words_named b w kernel.nodes c.args.layout.now ports c.as_slice-delays.result.now storage.delays words c.as_slice-delays.ensures c.in_ok-words.ensures)
     c.in_ok-run.ensures closed nets mems)
+
+pub returns-clause-ports_first : goal.returns-clause-ports_first
+returns-clause-ports_first c =
+    let netlist = c.in_ok-netlist in
+    let all = extends_on c.in_ok-storage.ensures.extends
+    (extends_on c.in_ok-words.ensures.extends (extends_on c.in_ok-run.ensures.extends c.in_ok-close_stages.ensures.extends)) in
+    subst (λ (x : Module). IsPortsFirst x) (sym c.finished.ensures.whole)
+    (ports_first netlist.netlist c.close_stages.new.netlist all netlist.ensures.alone.partial)
 
 pub returns-clause-stored : goal.returns-clause-stored
 returns-clause-stored c =
