@@ -17,13 +17,13 @@ greater_first d None = omega (arith, ints)
 greater_first d (Some e) = omega (arith, ints, clamps)
 
 -- a node has a greatest delay, which is at least this
-record HasGreatest (ticks : ℕ → ℕ) (s : Numbers) (edges : List Edge) (u : ℕ) (least : ℤ) : Type 0
+pub record HasGreatest (ticks : ℕ → ℕ) (s : Numbers) (edges : List Edge) (u : ℕ) (least : ℤ) : Type 0
   where
-    greatest : ℤ
-    is : greatest_delay ticks s edges u ≡ Some greatest
-    above : least ≤ℤ greatest
+    pub greatest : ℤ
+    pub is : greatest_delay ticks s edges u ≡ Some greatest
+    pub above : least ≤ℤ greatest
 
-has_greatest : (ticks : ℕ → ℕ) (s : Numbers) (edges : List Edge) (j : ℕ) → j < length edges
+pub has_greatest : (ticks : ℕ → ℕ) (s : Numbers) (edges : List Edge) (j : ℕ) → j < length edges
     → HasGreatest ticks s edges (edge_at edges j).from (delay_of ticks s (edge_at edges j))
 has_greatest ticks s [] j h = absurd (omega arith)
 has_greatest ticks s (e ∷ es) zero h =
@@ -50,7 +50,7 @@ has_greatest ticks s (e ∷ es) (suc j) h =
     by_test false r = (r.greatest, r.is, r.above)
 
 -- no greatest delay is below 0
-none_below : (ticks : ℕ → ℕ) (s : Numbers) (edges : List Edge) (u : ℕ) (d : ℤ)
+pub none_below : (ticks : ℕ → ℕ) (s : Numbers) (edges : List Edge) (u : ℕ) (d : ℤ)
     → IsLegal ticks edges s → greatest_delay ticks s edges u ≡ Some d → pos 0 ≤ℤ d
 none_below ticks s [] u d legal e = absurd (cc)
 none_below ticks s (x ∷ xs) u d legal e =
@@ -84,7 +84,8 @@ module _ (ticks : ℕ → ℕ) (nodes : List Node) (edges : List Edge) (s : Numb
   of_node : (u : ℕ) → pos 0 ≤ℤ bits_of nodes u (greatest_delay ticks s edges u)
   of_node u = no_bits_below nodes u (greatest_delay ticks s edges u) (λ d e. none_below ticks s edges u d legal e)
 
-  of_nodes : (n : ℕ) → pos 0 ≤ℤ bits_below ticks nodes edges s n
+  -- no FIFOs have fewer bits than none
+  pub of_nodes : (n : ℕ) → pos 0 ≤ℤ bits_below ticks nodes edges s n
   of_nodes zero = omega (arith, ints)
   of_nodes (suc n) = let a = of_nodes n in let b = of_node n in omega (arith, ints, a, b)
 

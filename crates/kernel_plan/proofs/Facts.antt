@@ -32,11 +32,12 @@ use Rattle.kernel_stages.specs.Numbers.{AreRising}
 use Rattle.std.specs.Prelude.{Result, Ok, Err, IfErr}
 use Rattle.std.specs.Result.{IsErrAnd}
 use Rattle.kernel_plan.specs.declared.error.PlanError.{PlanError}
+use Rattle.kernel_plan.specs.declared.planned.Plan.{Plan}
 use Rattle.kernel_plan.specs.declared.error.PlanError.TheVariants as E
 use Rattle.kernel_rtl.specs.Planned.{IsPlanned}
 use Rattle.kernel_plan.specs.Planned.{IsScheduled}
 use Rattle.kernel_plan.specs.Refused.{bits_in, IsRefused}
-use Rattle.kernel_plan.proofs.Bits.{delay_at_most}
+use Rattle.kernel_plan.proofs.Bits.{of_nodes, delay_at_most}
 use Rattle.kernel_plan.proofs.Rising.{rising}
 
 -- ---- latencies
@@ -52,7 +53,7 @@ ticks_read table nodes ticks a n = ⊎_elim
     ∙ ap (λ node. unwrap_or (latency_as table nodes n node.view.kind) 0) (sym (get_or_past nodes n no_node ge)))
     (cases_lt n (length nodes))
 
-same_ticks : (table : Table) (nodes : List Node) (ticks : List ℕ)
+pub same_ticks : (table : Table) (nodes : List Node) (ticks : List ℕ)
     → AreLatencies table nodes (length nodes) ticks → slice_index ticks ≡ ticks_of table nodes
 same_ticks table nodes ticks a = λ i n. ticks_read table nodes ticks a n i
 
@@ -109,10 +110,20 @@ many bits said is above = (omega (arith, ints, is, above), omega (arith, ints, i
 enough : (bits : ℤ) → int_lt (pos (2 ^ 28)) bits ≡ false → bits ≤ℤ pos (2 ^ 28)
 enough bits above = omega (arith, ints, above)
 
+-- bits that aren't below 0 are said as they are
+whole : (bits : ℤ) → pos 0 ≤ℤ bits → pos (unsigned_abs bits) ≡ bits
+whole bits some = omega (arith, ints, some)
+
+pub few_said : (bits : ℤ) (said : ℕ) → pos said ≡ bits → bits ≤ℤ pos (2 ^ 28) → said ≤ 2 ^ 28
+few_said bits said is few = omega (arith, ints, is, few)
+
+pub said_few : (bits : ℤ) (said : ℕ) → pos said ≡ bits → said ≤ 2 ^ 28 → bits ≤ℤ pos (2 ^ 28)
+said_few bits said is few = omega (arith, ints, is, few)
+
 -- want of memory comes where the bits are few enough
-pub no_memory : (r : Result Layout PlanError) (bits : ℤ) → IsErrAnd r (λ e. e ≡ E.NoMemory)
+pub no_memory : (r : Result Plan PlanError) (bits : ℤ) → IsErrAnd r (λ e. e ≡ E.NoMemory)
     → bits ≤ℤ pos (2 ^ 28) → IfErr r (IsRefused bits)
-no_memory (Ok layout) bits is few = absurd is
+no_memory (Ok plan) bits is few = absurd is
 no_memory (Err e) bits is few = subst (IsRefused bits) (sym is) few
 
 -- ---- a least schedule
@@ -168,6 +179,15 @@ module _ (nodes : List Node) (schedule : Schedule) (scheduled : IsScheduled node
   bits_read z times fits cost is =
       to_z-of_z w128 z fits
       ∙ (cost ∙ (ap (λ xs. cost_of schedule.problem (numbers_of xs)) is ∙ sym bits_are))
+
+  pub some_bits : pos 0 ≤ℤ bits_in nodes schedule
+  some_bits = of_nodes ticks nodes (edges_of nodes) x legal (length nodes)
+
+  -- the bits as they are said
+  pub bits_said : (z : ℤ) (times : List ℤ) → SFits w128 z → z ≡ cost_of schedule.problem (numbers_of times)
+      → times ≡ schedule.answer.times → pos (unsigned_abs (to_z w128 (of_z w128 z))) ≡ bits_in nodes schedule
+  bits_said z times fits cost is =
+      ap (λ b. pos (unsigned_abs b)) (bits_read z times fits cost is) ∙ whole (bits_in nodes schedule) some_bits
 
   -- where the cost is tested, the bits are few enough
   pub few_bits : (z : ℤ) (times : List ℤ) → SFits w128 z → z ≡ cost_of schedule.problem (numbers_of times)

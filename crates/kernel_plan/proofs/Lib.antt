@@ -1,3 +1,4 @@
 mod Bits
-mod Facts
+pub mod Facts
 mod Rising
+mod Stored

@@ -10,7 +10,7 @@ use Rattle.stream_graph.specs.declared.node.Node.{Node}
 use Rattle.kernel_layout.specs.Stages.{AreStages, IsReadBehind}
 use Rattle.kernel_stages.specs.Numbers.{differences, AreRising}
 
-rest_rises : (s : ℕ) (ss : List ℕ) → IsStrictlyIncreasing (s ∷ ss) → IsStrictlyIncreasing ss
+pub rest_rises : (s : ℕ) (ss : List ℕ) → IsStrictlyIncreasing (s ∷ ss) → IsStrictlyIncreasing ss
 rest_rises s ss r k lt =
     let P : ℕ → Type 0 = λ n. get_or ss k 0 < get_or (s ∷ ss) n 0 in
     let e : suc k + 1 ≡ suc (k + 1) = omega arith in
@@ -24,7 +24,7 @@ first_least s ss up x h =
     let p = AllPairs-from_increasing (s ∷ ss) up 0 (suc k) x (omega arith) (omega (arith, lt)) in
     subst (λ y. s < y) h.2 p
 
-first_at_most : (s : ℕ) (ss : List ℕ) → IsStrictlyIncreasing (s ∷ ss) → (x : ℕ) → Contains (s ∷ ss) x → s ≤ x
+pub first_at_most : (s : ℕ) (ss : List ℕ) → IsStrictlyIncreasing (s ∷ ss) → (x : ℕ) → Contains (s ∷ ss) x → s ≤ x
 first_at_most s ss up x (zero, lt, e) = omega (arith, e)
 first_at_most s ss up x (suc k, lt, e) = let f = first_least s ss up x (k, omega (arith, lt), e) in omega (arith, f)
 

@@ -3,7 +3,9 @@
 #![tactic(auto)]
 
 mod error;
+mod planned;
 mod planning;
 
 pub use error::PlanError;
+pub use planned::Plan;
 pub use planning::plan;

@@ -1,14 +1,16 @@
 // The layout of a kernel's module at its least schedule.
-ghost use Rattle.std.specs.Prelude.{◌≡◌, ◌^◌, ◌≤ℤ◌, ℕ, pos, slice_index, IfOk, OnOk, IfErr};
+ghost use Rattle.std.specs.Prelude.{◌≡◌, ◌+◌, ◌^◌, ◌≤◌, ◌≤ℤ◌, ℕ, pos, slice_index, IfOk, IfErr};
 ghost use Rattle.cycle_find.specs.Constraints.{numbers_of, IsSolvable};
 ghost use Rattle.kernel_layout.specs.Layouts.{IsLayout};
-ghost use Rattle.kernel_rtl.specs.Planned.{IsPlanned};
+ghost use Rattle.kernel_stages.specs.Numbers.{all_word_bits};
+ghost use Rattle.kernel_rtl.specs.Planned.{IsPlanned, widths_of};
 ghost use Rattle.kernel_plan.specs.Planned.{IsScheduled};
 ghost use Rattle.kernel_plan.specs.Refused.{bits_in, IsRefused};
+ghost use Rattle.kernel_plan.specs.Stored.{latency_bits};
 
-use crate::PlanError;
+use crate::{Plan, PlanError};
 use fifo_sharing::share;
-use kernel_layout::{Layout, lay_out};
+use kernel_layout::lay_out;
 use kernel_schedule::Schedule;
 use schedule_problem::cost;
 use std::alloc::Global;
@@ -18,17 +20,22 @@ use stream_graph::Kernel;
 const MOST_BITS: i128 = 1 << 28;
 
 /// The layout of a kernel's module at its least schedule by some table of latencies, whose times
-/// are at most 2^46: its latencies are those of the layout. Errors: `TooManyBits`, with the bits,
-/// exactly where the FIFOs of the schedule hold more than 2^28 bits; else want of memory.
-pub fn plan(alloc: Global, kernel: &Kernel, schedule: &Schedule) -> Result<Layout, PlanError>
+/// are at most 2^46, with the bits of the schedule's FIFOs: the stages of the layout keep the words
+/// of these FIFOs and those of the registers behind its nodes. Errors: `TooManyBits`, with the
+/// bits, exactly where the FIFOs hold more than 2^28 bits; else want of memory.
+pub fn plan(alloc: Global, kernel: &Kernel, schedule: &Schedule) -> Result<Plan, PlanError>
     requires least { IsScheduled kernel.now.nodes schedule.now }
     requires arcs { IsSolvable schedule.now.problem.arcs }
     requires most { (v : ℕ) → numbers_of schedule.now.answer.times v ≤ℤ pos (2 ^ 46) }
-    ensures laid { IfOk result (IsLayout kernel.now.nodes (slice_index schedule.now.latencies)
-        (numbers_of schedule.now.answer.times)) }
-    ensures planned { IfOk result
-        (IsPlanned kernel.now.nodes (numbers_of schedule.now.answer.times)) }
-    ensures fits { OnOk result (bits_in kernel.now.nodes schedule.now ≤ℤ pos (2 ^ 28)) }
+    ensures laid { IfOk result (λ made. IsLayout kernel.now.nodes
+        (slice_index schedule.now.latencies) (numbers_of schedule.now.answer.times) made.layout) }
+    ensures planned { IfOk result (λ made. IsPlanned kernel.now.nodes
+        (numbers_of schedule.now.answer.times) made.layout) }
+    ensures bits { IfOk result (λ made. pos made.bits ≡ bits_in kernel.now.nodes schedule.now) }
+    ensures fits { IfOk result (λ made. made.bits ≤ 2 ^ 28) }
+    ensures stored { IfOk result (λ made.
+        all_word_bits (widths_of kernel.now.nodes) made.layout.stages
+        ≡ made.bits + latency_bits (slice_index schedule.now.latencies) kernel.now.nodes) }
     ensures refused { IfErr result (IsRefused (bits_in kernel.now.nodes schedule.now)) }
 {
     let times = schedule.answer.times.as_slice();
@@ -38,5 +45,9 @@ pub fn plan(alloc: Global, kernel: &Kernel, schedule: &Schedule) -> Result<Layou
     }
     let chains = share(alloc, &schedule.problem, times)?;
     let latencies = schedule.latencies.as_slice();
-    Ok(lay_out(alloc, kernel, latencies, times, chains.as_slice())?)
+    let layout = lay_out(alloc, kernel, latencies, times, chains.as_slice())?;
+    Ok(Plan {
+        bits: bits as u64,
+        layout,
+    })
 }

@@ -1,7 +1,8 @@
-use Rattle.std.proofs.Common.{◌≡◌, ◌∙◌, ◌^◌, true, length, sym, ap, subst, rules}
+use Rattle.std.proofs.Common.{◌≡◌, ◌∙◌, ◌^◌, true, length, sym, ap, subst, rules, arith}
 use Rattle.std.specs.Int.{w128}
 use mir.Val.{SFits}
 use Rattle.std.specs.Prelude.{pos, slice_index, unsigned_abs, int_lt}
+use Rattle.std.proofs.lemmas.Int.{ints}
 use Rattle.cycle_find.specs.Constraints.{numbers_of}
 use Rattle.schedule_problem.specs.Flow.{TermsInRange}
 use Rattle.offset_edges.specs.Edges.{edges_of}
@@ -10,7 +11,8 @@ use Rattle.offset_edges.specs.Schedules.{IsLegal}
 use Rattle.fifo_sharing.specs.Chains.{AreChains}
 use Rattle.kernel_layout.specs.Layouts.{IsLayout}
 use Rattle.kernel_plan.specs.Refused.{bits_in}
-use Rattle.kernel_plan.proofs.Facts.{few_terms, terms_inside, legal, causal, problem_is, bits_read, planned, many, few_bits, no_memory}
+use Rattle.kernel_plan.proofs.Facts.{few_terms, terms_inside, legal, causal, problem_is, bits_read, some_bits, bits_said, planned, many, few_said, said_few, few_bits, no_memory}
+use Rattle.kernel_plan.proofs.Stored.{stored}
 use Rattle.kernel_plan.proofs.planning.plan.Goals as goal
 
 pub cost-bits-requires-clause-count : goal.cost-bits-requires-clause-count
@@ -68,22 +70,41 @@ returns-in_err-chains-clause-refused c =
     (few_bits nodes schedule c.requires.least c.cost-bits.result c.as_slice-times.result.now f c.cost-bits.ensures c.as_slice-times.ensures
     c.if-bits-gt-MOST_BITS.false)
 
-pub returns-in_err-lay_out-clause-refused : goal.returns-in_err-lay_out-clause-refused
-returns-in_err-lay_out-clause-refused c =
+pub returns-in_err-layout-clause-refused : goal.returns-in_err-layout-clause-refused
+returns-in_err-layout-clause-refused c =
     let nodes = c.args.kernel.now.nodes in
     let schedule = c.args.schedule.now in
     let f : SFits w128 c.cost-bits.result = search rules in
-    no_memory c.from_residual-in_err-lay_out.result (bits_in nodes schedule) c.from_residual-in_err-lay_out.ensures.1
+    no_memory c.from_residual-in_err-layout.result (bits_in nodes schedule) c.from_residual-in_err-layout.ensures.1
     (few_bits nodes schedule c.requires.least c.cost-bits.result c.as_slice-times.result.now f c.cost-bits.ensures c.as_slice-times.ensures
     c.if-bits-gt-MOST_BITS.false)
+
+-- the cost is not below 0 and at most 2^28, so that no bit is lost
+pub overflow_cast-result : goal.overflow_cast-result
+overflow_cast-result c =
+    let nodes = c.args.kernel.now.nodes in
+    let schedule = c.args.schedule.now in
+    let f : SFits w128 c.cost-bits.result = search rules in
+    let read = bits_read nodes schedule c.requires.least c.cost-bits.result c.as_slice-times.result.now f c.cost-bits.ensures c.as_slice-times.ensures in
+    let some = some_bits nodes schedule c.requires.least in
+    let few = few_bits nodes schedule c.requires.least c.cost-bits.result c.as_slice-times.result.now f c.cost-bits.ensures c.as_slice-times.ensures c.if-bits-gt-MOST_BITS.false in
+    omega (arith, ints, read, some, few)
+
+pub returns-clause-bits : goal.returns-clause-bits
+returns-clause-bits c =
+    let nodes = c.args.kernel.now.nodes in
+    let schedule = c.args.schedule.now in
+    let f : SFits w128 c.cost-bits.result = search rules in
+    bits_said nodes schedule c.requires.least c.cost-bits.result c.as_slice-times.result.now f c.cost-bits.ensures c.as_slice-times.ensures
 
 pub returns-clause-fits : goal.returns-clause-fits
 returns-clause-fits c =
     let nodes = c.args.kernel.now.nodes in
     let schedule = c.args.schedule.now in
     let f : SFits w128 c.cost-bits.result = search rules in
-    few_bits nodes schedule c.requires.least c.cost-bits.result c.as_slice-times.result.now f c.cost-bits.ensures c.as_slice-times.ensures
-    c.if-bits-gt-MOST_BITS.false
+    few_said (bits_in nodes schedule) _ (returns-clause-bits c)
+    (few_bits nodes schedule c.requires.least c.cost-bits.result c.as_slice-times.result.now f c.cost-bits.ensures c.as_slice-times.ensures
+    c.if-bits-gt-MOST_BITS.false)
 
 pub returns-clause-laid : goal.returns-clause-laid
 returns-clause-laid c =
@@ -91,11 +112,19 @@ returns-clause-laid c =
     let schedule = c.args.schedule.now in
     let times : c.as_slice-times.result.now ≡ schedule.answer.times = c.as_slice-times.ensures in
     let latencies : c.as_slice-latencies.result.now ≡ schedule.latencies = c.as_slice-latencies.ensures in
-    let layout = c.in_ok-lay_out.field-0 in
+    let layout = c.in_ok-layout.layout in
     subst (λ xs. IsLayout nodes (slice_index schedule.latencies) (numbers_of xs) layout) times
-    (subst (λ ls. IsLayout nodes (slice_index ls) (numbers_of c.as_slice-times.result.now) layout) latencies c.in_ok-lay_out.ensures)
+    (subst (λ ls. IsLayout nodes (slice_index ls) (numbers_of c.as_slice-times.result.now) layout) latencies c.in_ok-layout.ensures)
 
 pub returns-clause-planned : goal.returns-clause-planned
 returns-clause-planned c =
     planned c.args.kernel.now.nodes c.args.schedule.now c.requires.least c.args.kernel.now.made c.args.kernel.now.few
-    (returns-clause-fits c) c.requires.most c.in_ok-lay_out.field-0 (returns-clause-laid c)
+    (said_few (bits_in c.args.kernel.now.nodes c.args.schedule.now) _ (returns-clause-bits c) (returns-clause-fits c))
+    c.requires.most c.in_ok-layout.layout (returns-clause-laid c)
+
+pub returns-clause-stored : goal.returns-clause-stored
+returns-clause-stored c =
+    let nodes = c.args.kernel.now.nodes in
+    let schedule = c.args.schedule.now in
+    stored nodes (slice_index schedule.latencies) (numbers_of schedule.answer.times) (legal nodes schedule c.requires.least)
+    c.in_ok-layout.layout.stages (returns-clause-laid c).stages _ (returns-clause-bits c)

@@ -1,0 +1,206 @@
+-- What the stages of a node keep: its latency and its FIFO.
+use Rattle.std.proofs.Common.{◌≡◌, ◌∙◌, ◌⊎◌, ⊎_elim, inl, inr, ℕ, zero, suc, ◌+◌, ◌*◌, ◌<◌, ◌≤◌, Bool, true, false, List, [], ◌∷◌, length, get_or, refl, ap, sym, arith}
+use Rattle.std.specs.Prelude.{Contains, ℤ, pos, ◌+ℤ◌, ◌*ℤ◌, ◌≤ℤ◌, ◌==◌, Option, Some, None, if◌then◌else◌, unsigned_abs, int_lt}
+use Rattle.std.specs.Int.{int_max}
+use Rattle.std.specs.List.Sorted.{IsStrictlyIncreasing}
+use Rattle.std.proofs.Math.IntN.{pos-*ℤ-pos}
+use Rattle.std.proofs.Math.Nat.{mul-add}
+use Rattle.std.proofs.lemmas.Int.{ints}
+use Rattle.std.proofs.lemmas.Bool.{cases_cond, cases_lt, eqb-true}
+use Rattle.cycle_find.specs.Constraints.{Numbers}
+use Rattle.stream_graph.specs.declared.node.Node.{Node}
+use Rattle.offset_edges.specs.declared.edge.Edge.{Edge}
+use Rattle.offset_edges.specs.Edges.{edges_of, edge_at, width_at}
+use Rattle.offset_edges.specs.Schedules.{delay_of, IsLegal, greater, greatest_delay, bits_of, bits_below, fifo_bits}
+use Rattle.kernel_layout.specs.Stages.{AreStages, IsReadBehind}
+use Rattle.kernel_layout.specs.Layouts.{AreAllStages}
+use Rattle.kernel_stages.specs.Numbers.{last_from, all_word_bits}
+use Rattle.kernel_rtl.specs.Planned.{widths_of}
+use Rattle.kernel_plan.specs.Stored.{latency_bits_below, latency_bits}
+use Rattle.kernel_plan.proofs.Bits.{has_greatest, none_below}
+use Rattle.kernel_plan.proofs.Rising.{rest_rises, first_at_most}
+
+-- ---- the last of rising numbers
+
+-- it is one of them
+last_among : (prior s : ℕ) (ss : List ℕ) → Contains (s ∷ ss) (last_from prior (s ∷ ss))
+last_among prior s [] = (0, omega arith, refl)
+last_among prior s (t ∷ ts) =
+    let l = last_among s t ts in
+    let within = l.1 in
+    (suc l.0, omega (arith, within), l.2)
+
+-- none of them is above it
+below_last : (prior : ℕ) (ss : List ℕ) → IsStrictlyIncreasing ss → (x : ℕ) → Contains ss x
+    → x ≤ last_from prior ss
+below_last prior [] up x (k, lt, e) = absurd (omega (arith, lt))
+below_last prior (s ∷ ss) up x (zero, lt, e) =
+    let first = first_at_most s ss up (last_from s ss) (last_among prior s ss) in
+    omega (arith, e, first)
+below_last prior (s ∷ ss) up x (suc k, lt, e) =
+    below_last s ss (rest_rises s ss up) x (k, omega (arith, lt), e)
+
+-- so it is the number that is the greatest of them, or 0 where there are none
+last_at_most : (stages : List ℕ) (g : ℕ) → ((x : ℕ) → Contains stages x → x ≤ g)
+    → last_from 0 stages ≤ g
+last_at_most [] g h = omega arith
+last_at_most (s ∷ ss) g h = h (last_from 0 (s ∷ ss)) (last_among 0 s ss)
+
+last_is : (stages : List ℕ) (g : ℕ) → IsStrictlyIncreasing stages
+    → ((x : ℕ) → Contains stages x → x ≤ g) → (0 < g → Contains stages g) → last_from 0 stages ≡ g
+last_is stages g up most has =
+    let above = last_at_most stages g most in
+    ⊎_elim
+    (λ (some : 0 < g).
+    let below = below_last 0 stages up g (has some) in
+    omega (arith, above, below))
+    (λ (none : g ≤ 0). omega (arith, above, none))
+    (cases_lt 0 g)
+
+-- ---- the greatest delay
+
+-- it is that of an edge
+record HasEdge (ticks : ℕ → ℕ) (s : Numbers) (edges : List Edge) (u : ℕ) (d : ℤ) : Type 0 where
+  number : ℕ
+  within : number < length edges
+  from : (edge_at edges number).from ≡ u
+  is : delay_of ticks s (edge_at edges number) ≡ d
+
+later : (ticks : ℕ → ℕ) (s : Numbers) (e : Edge) (es : List Edge) (u : ℕ) (d : ℤ)
+    → HasEdge ticks s es u d → HasEdge ticks s (e ∷ es) u d
+later ticks s e es u d h =
+    let within = h.within in
+    record { number = suc h.number; within = omega (arith, within); from = h.from; is = h.is }
+
+greater_is : (d e : ℤ) → (int_max d e ≡ d) ⊎ (int_max d e ≡ e)
+greater_is d e = cases_cond (int_lt e d) d e (int_max d e) refl
+
+greatest_among : (ticks : ℕ → ℕ) (s : Numbers) (edges : List Edge) (u : ℕ) (d : ℤ)
+    → greatest_delay ticks s edges u ≡ Some d → HasEdge ticks s edges u d
+greatest_among ticks s [] u d h = absurd (cc)
+greatest_among ticks s (e ∷ es) u d h =
+    by_test (e.from == u) refl (greatest_delay ticks s es u) h (greatest_among ticks s es u)
+  where
+    here : (e.from == u) ≡ true → delay_of ticks s e ≡ d → HasEdge ticks s (e ∷ es) u d
+    here same is = record { number = 0; within = omega arith; from = eqb-true e.from u same; is = is }
+
+    by_test : (b : Bool) → (e.from == u) ≡ b → (o : Option ℤ)
+        → (if b then Some (greater (delay_of ticks s e) o) else o) ≡ Some d
+        → ((d' : ℤ) → o ≡ Some d' → HasEdge ticks s es u d') → HasEdge ticks s (e ∷ es) u d
+    by_test false test o is rest = later ticks s e es u d (rest d is)
+    by_test true test None is rest = here test cc
+    by_test true test (Some d') is rest =
+        let top : int_max (delay_of ticks s e) d' ≡ d = cc in
+        ⊎_elim
+        (λ (first : int_max (delay_of ticks s e) d' ≡ delay_of ticks s e). here test (sym first ∙ top))
+        (λ (other : int_max (delay_of ticks s e) d' ≡ d').
+        later ticks s e es u d (rest d (ap (λ z. Some z) (sym other ∙ top))))
+        (greater_is (delay_of ticks s e) d')
+
+-- how long words wait at most
+abbrev wait_of : Option ℤ → ℕ
+wait_of None = 0
+wait_of (Some d) = unsigned_abs d
+
+-- ---- the stages of a node
+
+module _ (nodes : List Node) (ticks : ℕ → ℕ) (s : Numbers) (legal : IsLegal ticks (edges_of nodes) s) where
+  abbrev greatest : ℕ → Option ℤ
+  greatest u = greatest_delay ticks s (edges_of nodes) u
+
+  -- no word is read later than the greatest delay behind the latency
+  read_in_time : (u b : ℕ) → IsReadBehind nodes s u b → b ≤ ticks u + wait_of (greatest u)
+  read_in_time u b (j, within, from, behind) =
+      let g = has_greatest ticks s (edges_of nodes) j within in
+      let above = g.above in
+      let waits = ap wait_of g.is in
+      let same = ap (λ v. wait_of (greatest v)) from in
+      let latency = ap ticks from in
+      omega (arith, ints, above, waits, same, latency, behind)
+
+  -- where there is a delay or a latency, a stage is so late
+  reached : (u : ℕ) (o : Option ℤ) → greatest u ≡ o → (stages : List ℕ)
+      → AreStages nodes ticks s u stages → 0 < ticks u + wait_of o
+      → Contains stages (ticks u + wait_of o)
+  reached u None e stages a some = (a.each (ticks u + 0)).1 (some, inl (omega arith))
+  reached u (Some d) e stages a some =
+      let h = greatest_among ticks s (edges_of nodes) u d e in
+      let start = none_below ticks s (edges_of nodes) u d legal e in
+      let latency = ap ticks h.from in
+      let is = h.is in
+      (a.each (ticks u + unsigned_abs d)).1
+      (some, inr (h.number, h.within, h.from, omega (arith, ints, start, latency, is)))
+
+  -- so the last stage comes the greatest delay behind the latency
+  last_stage : (u : ℕ) (stages : List ℕ) → AreStages nodes ticks s u stages
+      → last_from 0 stages ≡ ticks u + wait_of (greatest u)
+  last_stage u stages a =
+      last_is stages (ticks u + wait_of (greatest u)) a.rising
+      (λ x c.
+      ⊎_elim
+      (λ (l : x ≤ ticks u). omega (arith, l))
+      (λ (r : IsReadBehind nodes s u x). read_in_time u x r)
+      ((a.each x).0 c).1)
+      (reached u (greatest u) refl stages a)
+
+-- ---- the bits of a node
+
+product_is : (width latency : ℕ) (d : ℤ) → pos 0 ≤ℤ d
+    → pos (width * (latency + unsigned_abs d)) ≡ (pos width *ℤ d) +ℤ pos (width * latency)
+product_is width latency d start =
+    let is : d ≡ pos (unsigned_abs d) = omega (arith, ints, start) in
+    let whole = ap (λ z. pos width *ℤ z) is ∙ pos-*ℤ-pos width (unsigned_abs d) in
+    let parts = mul-add width latency (unsigned_abs d) in
+    omega (arith, ints, whole, parts)
+
+node_bits : (nodes : List Node) (u latency : ℕ) (o : Option ℤ)
+    → ((d : ℤ) → o ≡ Some d → pos 0 ≤ℤ d)
+    → pos (width_at nodes u * (latency + wait_of o))
+    ≡ bits_of nodes u o +ℤ pos (width_at nodes u * latency)
+node_bits nodes u latency None start = omega (arith, ints, mul-add (width_at nodes u) latency 0)
+node_bits nodes u latency (Some d) start = product_is (width_at nodes u) latency d (start d refl)
+
+-- ---- sums
+
+-- the sum of the first so many numbers
+abbrev sum_below : (ℕ → ℕ) → ℕ → ℕ
+sum_below f zero = 0
+sum_below f (suc n) = sum_below f n + f n
+
+-- the first one and those behind it
+sum_front : (f : ℕ → ℕ) (n : ℕ) → sum_below f (suc n) ≡ f 0 + sum_below (λ k. f (suc k)) n
+sum_front f zero = omega arith
+sum_front f (suc n) = omega (arith, sum_front f n)
+
+-- the bits of the words that are kept of a node
+abbrev kept_at : List Node → List (List ℕ) → ℕ → ℕ
+kept_at nodes stages u = width_at nodes u * last_from 0 (get_or stages u [])
+
+all_kept : (nodes : List Node) (stages : List (List ℕ)) → length stages ≡ length nodes
+    → all_word_bits (widths_of nodes) stages ≡ sum_below (kept_at nodes stages) (length nodes)
+all_kept [] stages counted = refl
+all_kept (node ∷ nodes) [] counted = absurd (omega (arith, counted))
+all_kept (node ∷ nodes) (ss ∷ rest) counted =
+    let behind = all_kept nodes rest (omega (arith, counted)) in
+    let front = sum_front (kept_at (node ∷ nodes) (ss ∷ rest)) (length nodes) in
+    omega (arith, behind, front)
+
+module _ (nodes : List Node) (ticks : ℕ → ℕ) (s : Numbers) (legal : IsLegal ticks (edges_of nodes) s) (stages : List (List ℕ)) (all : AreAllStages nodes ticks s (length nodes) stages) where
+  kept_below : (n : ℕ) → n ≤ length nodes
+      → pos (sum_below (kept_at nodes stages) n)
+      ≡ bits_below ticks nodes (edges_of nodes) s n +ℤ pos (latency_bits_below ticks nodes n)
+  kept_below zero h = omega (arith, ints)
+  kept_below (suc n) h =
+      let o : Option ℤ = greatest_delay ticks s (edges_of nodes) n in
+      let before = kept_below n (omega (arith, h)) in
+      let last = ap (λ x. width_at nodes n * x) (last_stage nodes ticks s legal n (get_or stages n []) (all.each n (omega (arith, h)))) in
+      let here = node_bits nodes n (ticks n) o (λ d e. none_below ticks s (edges_of nodes) n d legal e) in
+      omega (arith, ints, before, last, here)
+
+  -- the words that are kept have the bits of the FIFOs and those of the registers behind the nodes
+  pub stored : (bits : ℕ) → pos bits ≡ fifo_bits ticks nodes (edges_of nodes) s
+      → all_word_bits (widths_of nodes) stages ≡ bits + latency_bits ticks nodes
+  stored bits is =
+      let counted = all_kept nodes stages all.counted in
+      let sum = kept_below (length nodes) (omega arith) in
+      omega (arith, ints, is, counted, sum)
