@@ -84,7 +84,11 @@ pub const SUM: u32 = 36;
 pub const WIDE_DEPTH: u32 = 37;
 /// Whether the sum is below the depth.
 pub const SUM_BELOW: u32 = 38;
-/// The sum less the depth.
-pub const SUM_ROUND: u32 = 39;
+/// The low bits of the sum, as many as the place has.
+pub const SUM_LOW: u32 = 39;
+/// The low bits of the depth, as many as the place has.
+pub const LOW_DEPTH: u32 = 40;
+/// The low bits of the sum less the depth.
+pub const ROUND_LOW: u32 = 41;
 /// The address at which a word is written.
-pub const ADDRESS: u32 = 40;
+pub const ADDRESS: u32 = 42;

@@ -14,12 +14,14 @@ pub struct Steps {
 
 /// The numbers of the netlist: those of the place, which steps from 0 to the depth less 1, and of
 /// the count, which steps from 0 to the depth. For the sum of both, which has one bit more than the
-/// count: the depth, and the zeros that stand before the place and the count. And 1, as a bit.
+/// count: the depth, and the zeros that stand before the place and the count. For the low bits of
+/// the sum, as many as the place has: those of the depth. And 1, as a bit.
 #[derive(Clone, Copy)]
 pub struct Numbers {
     pub place: Steps,
     pub count: Steps,
     pub wide_depth: Word,
+    pub low_depth: Word,
     pub before_place: Word,
     pub before_count: Word,
     pub high: Word,
@@ -53,6 +55,7 @@ pub fn numbers_of(depth: u32, place_bits: u8, count_bits: u8) -> Numbers
         place: steps_to(depth - 1, place_bits),
         count: steps_to(depth, count_bits),
         wide_depth: Word::new(depth as u128, count_bits + 1),
+        low_depth: Word::new(depth as u128 % (1 << place_bits), place_bits),
         before_place: Word::new(0, count_bits + 1 - place_bits),
         before_count: Word::new(0, 1),
         high: Word::new(1, 1),

@@ -13,7 +13,8 @@ fn a_fifo_of_bytes_is_made(rt: HostRuntime) -> Result<(), Fail> {
         (7, "out$ready", 1),
         (8, "r8", 2),
         (9, "r9", 3),
-        (40, "w40", 4),
+        (36, "w36", 4),
+        (42, "w42", 2),
     ];
     for (number, name, width) in nets {
         let net = module.nets.get(number).ok_or("no such net")?;

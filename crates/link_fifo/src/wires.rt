@@ -74,8 +74,10 @@ pub fn add_all_wires(
         sum,
         sum,
         1,
-        sum,
-        sum,
+        p,
+        p,
+        p,
+        p,
     ];
     add_wires(alloc, nets, &widths)
 }
