@@ -1,6 +1,7 @@
 -- Words of one bit as tests, and wires after wires.
-use Rattle.std.proofs.Common.{◌≡◌, ℕ, zero, suc, ◌+◌, ◌-◌, ◌%◌, ◌^◌, ◌<◌, Bool, true, false, not, ◌&&◌, ◌||◌, eqb, ltb, leb, refl, ap, ◌∙◌, subst, arith}
+use Rattle.std.proofs.Common.{◌≡◌, ℕ, zero, suc, ◌+◌, ◌-◌, ◌%◌, ◌^◌, ◌<◌, Bool, true, false, not, ◌&&◌, ◌||◌, eqb, ltb, leb, refl, sym, ap, ◌∙◌, subst, arith}
 use Rattle.std.specs.Prelude.{bit_and, bit_or}
+use Rattle.std.proofs.Math.Nat.{mod-eq_of_lt}
 use Rattle.rtl_ir.specs.declared.design.Module.{Module}
 use Rattle.rtl_ir.specs.Value.{Family, Contents, bit}
 use Rattle.rtl_ir.specs.Grow.{Holds}
@@ -59,6 +60,19 @@ active_is both begun before end early start position ticks time w u e1 e2 one e3
     let before' : before ≡ bit (ltb position ((time + ticks) % 2 ^ 48)) = e3 ∙ ap (λ x. bit (ltb position x)) end' in
     e1 ∙ ap (λ x. bit_and x before) begun' ∙ ap (bit_and (bit (leb time position))) before' ∙ and_bits (leb time position)
     (ltb position ((time + ticks) % 2 ^ 48))
+
+-- from the start on no position comes before the first one
+pub begun_at_start : (position ticks w : ℕ) → w ≡ 48 → ticks < 2 ^ w
+    → bit (ltb position ticks) ≡ bit (leb 0 position && ltb position ((0 + ticks) % 2 ^ 48))
+begun_at_start position ticks w wide fits =
+    let below : ticks < 2 ^ 48 = subst (λ x. ticks < 2 ^ x) wide fits in
+    let none : 0 + ticks ≡ ticks = omega arith in
+    let same : (0 + ticks) % 2 ^ 48 ≡ ticks = ap (λ x. x % 2 ^ 48) none ∙ mod-eq_of_lt below in
+    ap (λ x. bit (ltb position x)) (sym same)
+    ∙ ap (λ b. bit (b && ltb position ((0 + ticks) % 2 ^ 48))) (sym (from_first position))
+  where
+    from_first : (n : ℕ) → leb 0 n ≡ true
+    from_first n = grind (arith)
 
 pub past_is :
     (done before end start position ticks time w u : ℕ) → done ≡ 2 ^ w - 1 - before → w ≡ 1 → before ≡ bit (ltb position end) → end ≡

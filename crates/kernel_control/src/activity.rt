@@ -10,8 +10,23 @@ use mx_bits::Word;
 use rtl_build::{Netlist, Signal};
 use rtl_ir::Sign;
 
-// One bit: 1 where the position is that of a tick of the run, for a node of this time.
-pub(crate) fn active(
+// One bit: 1 where the position is that of a tick of the run, for a node of time 0. No position
+// comes before the first one.
+fn active_at_start(
+    netlist: &mut Netlist,
+    position: Signal,
+    ticks: Signal,
+) -> Result<Signal, NoMemory>
+    requires position { HasWidth netlist.old 48 position }
+    requires ticks { HasWidth netlist.old 48 ticks }
+    ensures { IfOk result (Makes netlist.old netlist.new 6 1
+        (λ v. bit (is_in_ticks (v position.net) (v ticks.net) 0))) }
+{
+    netlist.binary(Sign::Lt, position, ticks)
+}
+
+// The same for a node of this time.
+fn active_behind(
     netlist: &mut Netlist,
     position: Signal,
     ticks: Signal,
@@ -29,6 +44,26 @@ pub(crate) fn active(
     let end = netlist.binary(Sign::Add, start, ticks)?;
     let before = netlist.binary(Sign::Lt, position, end)?;
     netlist.binary(Sign::And, begun, before)
+}
+
+// One bit: 1 where the position is that of a tick of the run, for a node of this time.
+pub(crate) fn active(
+    netlist: &mut Netlist,
+    position: Signal,
+    ticks: Signal,
+    time: u64,
+) -> Result<Signal, NoMemory>
+    requires position { HasWidth netlist.old 48 position }
+    requires ticks { HasWidth netlist.old 48 ticks }
+    requires small { time < 2 ^ 48 }
+    ensures { IfOk result (Makes netlist.old netlist.new 6 1
+        (λ v. bit (is_in_ticks (v position.net) (v ticks.net) time))) }
+{
+    if time == 0 {
+        active_at_start(netlist, position, ticks)
+    } else {
+        active_behind(netlist, position, ticks, time)
+    }
 }
 
 // One bit: 1 where the position is past the last tick of a node of this time.
