@@ -1,0 +1,110 @@
+-- From a least schedule of a kernel to its text.
+use Rattle.std.proofs.Common.{◌≡◌, ◌∙◌, ℕ, ◌+◌, ◌*◌, ◌≤◌, ◌^◌, List, length, sym, ap, subst, arith}
+use Rattle.std.specs.Prelude.{pos, slice_index, Result, Ok, Err, IfErr}
+use Rattle.std.specs.Result.{IsErrAnd}
+use Rattle.cycle_find.specs.Constraints.{numbers_of}
+use Rattle.rtl_ir.specs.declared.design.Design.{Design}
+use Rattle.stream_graph.specs.declared.kernel.Kernel.{Kernel}
+use Rattle.stream_graph.specs.declared.node.Node.{Node}
+use Rattle.latency_table.specs.declared.table.Table.{Table}
+use Rattle.offset_edges.specs.Edges.{edges_of}
+use Rattle.offset_edges.specs.Latencies.{ticks_of}
+use Rattle.offset_edges.specs.Schedules.{fifo_bits}
+use Rattle.kernel_schedule.specs.declared.schedule.Schedule.{Schedule}
+use Rattle.kernel_schedule.specs.Schedules.{IsSchedulable, IsLeast}
+use Rattle.kernel_layout.specs.declared.layout.Layout.{Layout}
+use Rattle.kernel_layout.specs.Layouts.{IsLayout}
+use Rattle.kernel_stages.specs.Numbers.{all_word_bits}
+use Rattle.kernel_rtl.specs.Planned.{IsPlain, widths_of}
+use Rattle.kernel_plan.specs.Planned.{IsScheduled}
+use Rattle.kernel_plan.specs.declared.error.PlanError.{PlanError}
+use Rattle.kernel_plan.specs.declared.error.PlanError.TheVariants as P
+use Rattle.kernel_plan.specs.Refused.{bits_in}
+use Rattle.kernel_plan.specs.Refused as Plans
+use Rattle.kernel_plan.specs.Stored.{latency_bits}
+use Rattle.kernel_plan.proofs.Facts.{same_ticks, times_length}
+use Rattle.kernel_verilog.specs.declared.error.TextError.{TextError}
+use Rattle.kernel_verilog.specs.declared.writing.KernelText.{KernelText}
+use Rattle.kernel_verilog.specs.Bits.{NeedsBits}
+use Rattle.kernel_verilog.specs.Refused.{of_plan, IsRefused}
+use Rattle.kernel_verilog.specs.Texts.{IsDesigned, IsPrinted, IsTextOf}
+
+pub scheduled : (table : Table) (nodes : List Node) (schedule : Schedule)
+    → IsSchedulable table nodes → IsLeast table nodes schedule → IsScheduled nodes schedule
+scheduled table nodes schedule schedulable least =
+    record { table = table; schedulable = schedulable; least = least }
+
+-- there is a time for each node
+pub enough_times : (nodes : List Node) (schedule : Schedule) → IsScheduled nodes schedule
+    → length nodes ≤ length schedule.answer.times
+enough_times nodes schedule is =
+    let e : length schedule.answer.times ≡ 2 * length nodes = times_length nodes schedule is in
+    omega arith
+
+module _ (table : Table) (nodes : List Node) (schedule : Schedule)
+    (least : IsLeast table nodes schedule) where
+  same : slice_index schedule.latencies ≡ ticks_of table nodes
+  same = same_ticks table nodes schedule.latencies least.latencies
+
+  pub needs : (bits : ℕ) → pos bits ≡ bits_in nodes schedule → NeedsBits table nodes bits
+  needs bits are =
+      record {
+        times = numbers_of schedule.answer.times;
+        least = least.times;
+        holds =
+            ap (λ t. fifo_bits t nodes (edges_of nodes) (numbers_of schedule.answer.times))
+            (sym same)
+            ∙ sym are;
+      }
+
+-- why a kernel that has no layout has no text
+pub plan_refused : (table : Table) (nodes : List Node) (schedule : Schedule)
+    → IsSchedulable table nodes → IsLeast table nodes schedule → IsPlain nodes
+    → (error : PlanError) → Plans.IsRefused (bits_in nodes schedule) error
+    → (r : Result KernelText TextError) → IsErrAnd r (λ e. e ≡ of_plan error)
+    → IfErr r (IsRefused table nodes)
+plan_refused table nodes schedule schedulable least plain error h (Ok made) is = absurd is
+plan_refused table nodes schedule schedulable least plain (P.TooManyBits bits) h (Err e) is =
+    subst (IsRefused table nodes) (sym is)
+    (record {
+      schedulable = schedulable;
+      plain = plain;
+      needs = needs table nodes schedule least bits h.0;
+      many = h.1;
+    })
+plan_refused table nodes schedule schedulable least plain P.NoMemory h (Err e) is =
+    subst (IsRefused table nodes) (sym is) tt
+
+module _ (table : Table) (kernel : Kernel) (schedule : Schedule)
+    (schedulable : IsSchedulable table kernel.nodes) (least : IsLeast table kernel.nodes schedule)
+    (plain : IsPlain kernel.nodes) where
+  abbrev nodes : List Node
+  nodes = kernel.nodes
+
+  pub text_is : (bits : ℕ) (layout : Layout) → pos bits ≡ bits_in nodes schedule → bits ≤ 2 ^ 28
+      → IsLayout nodes (slice_index schedule.latencies) (numbers_of schedule.answer.times) layout
+      → all_word_bits (widths_of nodes) layout.stages
+      ≡ bits + latency_bits (slice_index schedule.latencies) nodes
+      → (d : Design) → IsDesigned kernel schedule.answer.times layout d
+      → (text : List ℕ) → IsPrinted d text → IsTextOf table kernel text bits
+  unfolding needs
+  text_is bits layout are few laid words d designed text printed =
+      let ticks = same table nodes schedule least in
+      let latencies = ap (λ t. latency_bits t nodes) ticks in
+      let whole = designed.is.bits in
+      let own = designed.stored in
+      record {
+        schedulable = schedulable;
+        plain = plain;
+        needs = needs table nodes schedule least bits are;
+        few = few;
+        begin = λ n h. least.earliest.non_negative n;
+        design = d;
+        printed = printed;
+        inner = designed.inner;
+        refines = designed.refines;
+        is = designed.is;
+        layout = layout;
+        laid = subst (λ t. IsLayout nodes t (numbers_of schedule.answer.times) layout) ticks laid;
+        stored = omega (arith, whole, own, words, latencies);
+      }

@@ -1,0 +1,73 @@
+-- The Verilog text of a kernel that stands alone.
+use Rattle.std.specs.Prelude.{
+  ◌≡◌,
+  ℕ,
+  ◌+◌,
+  ◌<◌,
+  ◌≤◌,
+  ◌^◌,
+  ℤ,
+  pos,
+  ◌≤ℤ◌,
+  unsigned_abs,
+  List,
+  length,
+}
+use Rattle.rtl_ir.specs.declared.design.Design.{Design}
+use Rattle.rtl_ir.specs.declared.design.Module.{Module}
+use Rattle.rtl_text.specs.Text.{TextOf}
+use Rattle.rtl_reading.specs.Reads.{ReadsAs}
+use Rattle.stream_graph.specs.declared.kernel.Kernel.{Kernel}
+use Rattle.latency_table.specs.declared.table.Table.{Table}
+use Rattle.offset_edges.specs.Latencies.{ticks_of}
+use Rattle.rtl_delays.specs.Stored.{stored_bits}
+use Rattle.kernel_schedule.specs.Schedules.{IsSchedulable}
+use Rattle.kernel_layout.specs.declared.layout.Layout.{Layout}
+use Rattle.kernel_layout.specs.Layouts.{IsLayout}
+use Rattle.kernel_stages.specs.Numbers.{all_word_bits, all_pointer_bits}
+use Rattle.kernel_control.specs.Refines.{Refines}
+use Rattle.kernel_rtl.specs.Planned.{IsPlain, times_of, widths_of}
+use Rattle.kernel_plan.specs.Stored.{latency_bits}
+use Rattle.link_rtl.specs.Designs.{IsDesignOf}
+use Rattle.link_rtl.specs.Storage.{all_bits, host_bits}
+use Rattle.kernel_verilog.specs.Bits.{NeedsBits}
+
+-- a design of a kernel, whose module refines it at these times and stores what a layout says
+pub record IsDesigned (kernel : Kernel) (times : List ℤ) (layout : Layout) (d : Design) : Type 0
+  where
+    pub inner : Module
+    pub refines : Refines inner kernel (times_of times)
+    pub is : IsDesignOf kernel inner d
+    pub stored :
+        stored_bits inner
+        ≡ 48 + all_word_bits (widths_of kernel.nodes) layout.stages
+        + all_pointer_bits layout.stages
+
+-- a text of a design, which reading it gives back
+pub record IsPrinted (d : Design) (text : List ℕ) : Type 0 where
+  pub of : TextOf text d
+  pub reads : ReadsAs text d
+
+-- The text of a kernel whose FIFOs hold so many bits, which are the fewest by a table of latencies
+-- and at most 2^28. It is one of a design of the kernel, whose module refines the kernel at the
+-- times of a least schedule from 0 on. All registers and memories of the design are these: the
+-- FIFOs of the schedule; for each node its width times its latency; the position of 48 bits; the
+-- pointers of the words that are kept in memories; and the FIFOs of the inputs and outputs.
+pub record IsTextOf (table : Table) (kernel : Kernel) (text : List ℕ) (bits : ℕ) : Type 0 where
+  pub schedulable : IsSchedulable table kernel.nodes
+  pub plain : IsPlain kernel.nodes
+  pub needs : NeedsBits table kernel.nodes bits
+  pub few : bits ≤ 2 ^ 28
+  pub begin : (n : ℕ) → n < length kernel.nodes → pos 0 ≤ℤ needs.times n
+  pub design : Design
+  pub printed : IsPrinted design text
+  pub inner : Module
+  pub refines : Refines inner kernel (λ n. unsigned_abs (needs.times n))
+  pub is : IsDesignOf kernel inner design
+  pub layout : Layout
+  pub laid : IsLayout kernel.nodes (ticks_of table kernel.nodes) needs.times layout
+  pub stored :
+      all_bits design
+      ≡ bits + latency_bits (ticks_of table kernel.nodes) kernel.nodes + 48
+      + all_pointer_bits layout.stages
+      + host_bits kernel.nodes
