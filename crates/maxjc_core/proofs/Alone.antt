@@ -1,6 +1,6 @@
 -- The class that stands alone in a source.
 use Rattle.std.proofs.Common.{◌≡◌, ◌∙◌, ℕ, List, [], ◌∷◌, Ok, Err, true, false, refl, sym, subst}
-use Rattle.std.specs.Prelude.{Bool, Result, Some, IfOk, IfErr, if◌then◌else◌}
+use Rattle.std.specs.Prelude.{Bool, Result, Some, if◌then◌else◌}
 use Rattle.maxj_syntax.specs.Outcomes.{IsTheSource}
 use Rattle.maxj_syntax.specs.Tree.{ClassTree, ClassIs, ClassesAre, ProgramIs}
 use Rattle.maxj_syntax.specs.declared.tree.Class.{Class}
@@ -300,3 +300,10 @@ own-kernel p c kernel one host is = record {
   at = refl;
   host = sym is.manager ∙ host;
 }
+
+-- the tree of the one class of a program
+pub tree-in : (p : Program) (c : Class) → (classes : List ClassTree) × ProgramIs p classes
+    → p.classes ≡ c ∷ [] → (kernel : ClassTree) × ClassIs p.tree c kernel
+tree-in p c read one =
+    let tree = tree-of p c read.0 one read.1 in
+    (tree.0, class-alone p c read.0 tree.0 one tree.1 read.1)

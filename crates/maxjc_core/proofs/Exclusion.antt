@@ -3,6 +3,8 @@ use Rattle.std.proofs.Common.{
   ◌≡◌,
   ◌∙◌,
   ◌<◌,
+  ◌≤◌,
+  ◌^◌,
   ℕ,
   List,
   [],
@@ -19,13 +21,12 @@ use Rattle.std.proofs.Common.{
   sym,
   subst,
 }
-use Rattle.std.specs.Prelude.{IsSome}
+use Rattle.std.specs.Prelude.{IsSome, ◌≤ℤ◌}
 use Rattle.std.proofs.lemmas.Int.{ints, clamps}
 use Rattle.mx_base.specs.Files.{Held, Name, Holds}
 use Rattle.maxj_syntax.specs.Tree.{ClassTree}
 use Rattle.maxj_syntax.specs.Source.{IsSourceOf, HasFirst}
 use Rattle.maxj_syntax.proofs.Sources.{one_source, no_fault}
-use Rattle.expression_source.specs.Source.{Source, IsSource}
 use Rattle.kernel_meaning.specs.Answer.{calls_of}
 use Rattle.kernel_meaning.specs.Constructors.{building_run}
 use Rattle.latency_table.specs.declared.table.Table.{Table}
@@ -35,12 +36,19 @@ use Rattle.stream_graph.specs.Nodes.{later, AreNodes}
 use Rattle.offset_edges.specs.declared.error.EdgeError.TheVariants as edge_errors
 use Rattle.offset_edges.specs.Edges.{edges_of}
 use Rattle.offset_edges.specs.Latencies.{ticks_of}
+use Rattle.offset_edges.specs.Schedules.{IsLegal, fifo_bits}
+use Rattle.cycle_find.specs.Constraints.{Numbers}
 use Rattle.offset_edges.specs.Walks.{IsShown}
 use Rattle.offset_edges.proofs.CoveredLemmas.{shown_back, shown_covered}
 use Rattle.kernel_schedule.specs.declared.error.ScheduleError.{ScheduleError}
 use Rattle.kernel_schedule.specs.declared.error.ScheduleError.TheVariants as schedule_errors
 use Rattle.kernel_schedule.specs.Refused.{IsRefused}
-use Rattle.kernel_schedule.specs.Schedules.{IsSchedulable}
+use Rattle.kernel_schedule.specs.Schedules.{IsSchedulable, IsLeastLegal}
+use Rattle.kernel_rtl.specs.Planned.{IsPlain}
+use Rattle.kernel_verilog.specs.declared.error.TextError.{TextError}
+use Rattle.kernel_verilog.specs.declared.error.TextError.TheVariants as text_errors
+use Rattle.kernel_verilog.specs.Bits.{NeedsBits}
+use Rattle.kernel_verilog.specs.Refused as texts
 use Rattle.maxjc_core.proofs.Latencies.{
   SameLatencies,
   same_latencies,
@@ -59,8 +67,7 @@ use Rattle.maxjc_core.specs.Causes.{
   IsWithin,
   IsPast,
   OneKernel,
-  IsScheduled,
-  AreImmediate,
+  HasText,
   IsOfFiles,
   Stands,
   IsBuilt,
@@ -158,40 +165,70 @@ has-none a b nodes (schedule_errors.Uncovered walk) same fault has refused =
     let uncovered = refused.uncovered.uncovered in
     omega (arith, ints, clamps, back, waits, uncovered)
 
+-- what no legal schedule needs fewer bits than is the same by tables of the same latencies
+least-along : (a b : Table) (nodes : List Node) (s : Numbers) → SameLatencies a b
+    → IsLeastLegal a nodes s → IsLeastLegal b nodes s
+least-along a b nodes s same is =
+    let e = same_ticks a b same nodes in
+    record {
+      legal = subst (λ t. IsLegal t (edges_of nodes) s) e is.legal;
+      least = λ other legal.
+          subst (λ t. fifo_bits t nodes (edges_of nodes) s
+          ≤ℤ fifo_bits t nodes (edges_of nodes) other) e
+          (is.least other (subst (λ t. IsLegal t (edges_of nodes) other) (sym e) legal));
+    }
+
+one-need : (a b : Table) (nodes : List Node) (x y : ℕ) → SameLatencies a b → NeedsBits a nodes x
+    → NeedsBits b nodes y → x ≡ y
+one-need a b nodes x y same p q =
+    let e = same_ticks a b same nodes in
+    let along = least-along a b nodes p.times same p.least in
+    let first = along.least q.times q.least.legal in
+    let second = q.least.least p.times along.legal in
+    let has = ap (λ t. fifo_bits t nodes (edges_of nodes) p.times) (sym e) ∙ p.holds in
+    let needs = q.holds in
+    omega (arith, ints, first, second, has, needs)
+
+-- a kernel that has a text has no cause for which it has none
+not-lacking : (a b : Table) (nodes : List Node) (error : TextError) (bits : ℕ) → SameLatencies a b
+    → texts.is_memory error ≡ false → IsSchedulable b nodes → IsPlain nodes → NeedsBits b nodes bits
+    → bits ≤ 2 ^ 28 → texts.IsRefused a nodes error → ⊥
+not-lacking a b nodes (text_errors.Schedule error) bits same fault has plain needs few refused =
+    has-none a b nodes error same
+    (λ e. let both = subst (λ x. texts.is_memory (text_errors.Schedule x) ≡ false) e fault in absurd (cc))
+    has refused
+not-lacking a b nodes text_errors.NotBuilt bits same fault has plain needs few refused =
+    refused.not_plain plain
+not-lacking a b nodes (text_errors.TooManyBits most) bits same fault has plain needs few refused =
+    let e = one-need a b nodes most bits same refused.needs needs in
+    let many = refused.many in
+    omega (arith, e, many, few)
+not-lacking a b nodes text_errors.NoMemory bits same fault has plain needs few refused =
+    absurd (cc)
+
 no-cause : {source table other others : List ℕ} (cause : Cause) → source ≡ other → table ≡ others
-    → IsOfFiles source table cause → (q : OneKernel other others) (s : IsScheduled q) (kernel :
-    Source)
-    → IsSource q.classes kernel → AreImmediate q.latencies s.nodes → ⊥
-no-cause {source} {table} {other} {others} _ bytes latencies (IsOfFiles.fault fault first) q s
-    kernel is immediate =
+    → IsOfFiles source table cause → (q : OneKernel other others) → HasText q → ⊥
+no-cause {source} {table} {other} {others} _ bytes latencies (IsOfFiles.fault fault first) q has =
     no_fault other q.classes fault q.is (subst (λ (b : List ℕ). HasFirst b fault) bytes first)
-no-cause {source} {table} {other} {others} _ bytes latencies (IsOfFiles.manager has) q s kernel is
-    immediate =
-    let classes : has.classes ≡ q.classes =
-    one_source other has.classes q.classes (subst (λ (b : List ℕ). IsSourceOf b has.classes) bytes
-    has.is) q.is in
-    has.not_alone q.kernel (subst (λ (cs : List ClassTree). IsAlone cs q.kernel) (sym classes)
+no-cause {source} {table} {other} {others} _ bytes latencies (IsOfFiles.manager lacks) q has =
+    let classes : lacks.classes ≡ q.classes =
+    one_source other lacks.classes q.classes (subst (λ (b : List ℕ). IsSourceOf b lacks.classes) bytes
+    lacks.is) q.is in
+    lacks.not_alone q.kernel (subst (λ (cs : List ClassTree). IsAlone cs q.kernel) (sym classes)
     q.alone)
-no-cause {source} {table} {other} {others} _ bytes latencies (IsOfFiles.table_fault error has) q s
-    kernel is immediate =
-    no_fault_read others q.latencies error has.fault q.reads
-    (subst (λ (b : List ℕ). Reads b (Err error)) latencies has.reads)
-no-cause cause bytes latencies (IsOfFiles.lacks_kernel p _ lacks) q s kernel is immediate =
+no-cause {source} {table} {other} {others} _ bytes latencies (IsOfFiles.table_fault error lacks) q
+    has =
+    no_fault_read others q.latencies error lacks.fault q.reads
+    (subst (λ (b : List ℕ). Reads b (Err error)) latencies lacks.reads)
+no-cause cause bytes latencies (IsOfFiles.lacks_kernel p _ lacks) q has =
     let same = same-project p q bytes latencies in
-    has-one q.kernel s.nodes cause s.is (subst (λ k. LacksKernel k cause) same.kernel lacks)
-no-cause _ bytes latencies (IsOfFiles.lacks_schedule p error lacks) q s kernel is immediate =
+    has-one q.kernel has.nodes cause has.is (subst (λ k. LacksKernel k cause) same.kernel lacks)
+no-cause _ bytes latencies (IsOfFiles.lacks_text p error lacks) q has =
     let same = same-project p q bytes latencies in
-    let nodes = one-nodes p.kernel q.kernel lacks.nodes s.nodes same.kernel lacks.is s.is in
-    has-none p.latencies q.latencies s.nodes error same.latencies lacks.fault s.schedulable
-    (subst (λ ns. IsRefused p.latencies ns error) nodes lacks.refused)
-no-cause _ bytes latencies (IsOfFiles.no_form p none) q s kernel is immediate =
-    let same = same-project p q bytes latencies in
-    let nodes = one-nodes p.kernel q.kernel none.scheduled.nodes s.nodes same.kernel
-    none.scheduled.is s.is in
-    let ticks = same_ticks p.latencies q.latencies same.latencies none.scheduled.nodes in
-    none.no_form kernel (subst (λ (cs : List ClassTree). IsSource cs kernel) (sym same.classes) is)
-    (λ n h. ap (λ t. t n) ticks ∙ subst (λ ns. n < length ns
-    → ticks_of q.latencies ns n ≡ 0) (sym nodes) (immediate n) h)
+    let nodes = one-nodes p.kernel q.kernel lacks.nodes has.nodes same.kernel lacks.is has.is in
+    not-lacking p.latencies q.latencies has.nodes error has.bits same.latencies lacks.fault
+    has.schedulable has.plain has.needs has.few
+    (subst (λ ns. texts.IsRefused p.latencies ns error) nodes lacks.refused)
 
 pub excluded : (names : Names) (held : Held) (cause : Cause) → Stands names held cause
     → IsBuilt names held → ⊥
@@ -205,7 +242,7 @@ excluded names held cause (Stands.of_files files _ is) built =
     built.files.source_is.holds)
     (same_bytes held names.table files.table built.files.table files.table_is.holds
     built.files.table_is.holds)
-    is built.project built.scheduled built.kernel built.is built.immediate
+    is built.project built.has
 
 -- where a cause stands the source is held
 pub told_from_cause : (names : Names) (held : Held) (cause : Cause) → Stands names held cause
@@ -223,8 +260,13 @@ built_from_compiled names held text line c =
     record {
       files = c.files;
       project = c.compiles.project;
-      scheduled = c.compiles.scheduled;
-      kernel = c.compiles.kernel;
-      is = c.compiles.is;
-      immediate = c.compiles.immediate;
+      has = record {
+        nodes = c.compiles.kernel.nodes;
+        is = c.compiles.is;
+        schedulable = c.compiles.text_of.schedulable;
+        plain = c.compiles.text_of.plain;
+        bits = c.compiles.bits;
+        needs = c.compiles.text_of.needs;
+        few = c.compiles.text_of.few;
+      };
     }

@@ -2,39 +2,26 @@
 use Rattle.std.proofs.Common.{
   ◌≡◌,
   ◌∙◌,
-  ◌<◌,
   ℕ,
   List,
   Err,
-  length,
-  arith,
   refl,
-  ap,
   sym,
   subst,
 }
-use Rattle.std.specs.Prelude.{Bool, true, false, Option, Some, None, IfNone, slice_index}
-use Rattle.std.specs.Option.{unwrap_or}
+use Rattle.std.specs.Prelude.{Bool, true, false, Option, Some, None, IfNone, if◌then◌else◌}
 use Rattle.maxj_syntax.specs.Source.{IsSourceOf}
 use Rattle.maxj_syntax.specs.Tree.{ClassTree}
 use Rattle.latency_table.specs.declared.error.TableError.{TableError}
 use Rattle.latency_table.specs.declared.error.TableError.TheVariants as table_errors
-use Rattle.latency_table.specs.declared.table.Table.{Table}
 use Rattle.latency_table.specs.Tables.{Reads}
 use Rattle.stream_graph.specs.declared.node.Node.{Node}
-use Rattle.offset_edges.specs.declared.error.EdgeError.TheVariants as edge_errors
-use Rattle.offset_edges.specs.Latencies.{AreLatencies, ticks_of}
-use Rattle.kernel_schedule.specs.declared.error.ScheduleError.{ScheduleError}
-use Rattle.kernel_schedule.specs.declared.error.ScheduleError.TheVariants as schedule_errors
-use Rattle.kernel_schedule.specs.Refused.{IsRefused}
-use Rattle.maxjc_core.specs.Causes.{
-  OneKernel,
-  AreImmediate,
-  IsOfFiles,
-}
+use Rattle.kernel_verilog.specs.declared.error.TextError.{TextError}
+use Rattle.kernel_verilog.specs.Refused.{is_memory, IsRefused}
+use Rattle.maxjc_core.specs.Causes.{OneKernel, IsOfFiles}
 use Rattle.maxjc_core.specs.Kernels.{IsAlone, IsKernel, LacksKernel}
 use Rattle.maxjc_core.specs.Lines.{Cause}
-use Rattle.maxjc_core.specs.Refusals.{IfCause, table_cause, schedule_cause}
+use Rattle.maxjc_core.specs.Refusals.{IfCause, table_cause, kernel_cause}
 use Rattle.maxjc_core.specs.Stops.{IfRefused}
 use Rattle.maxjc_core.specs.declared.stop.Stop.{Stop}
 use Rattle.maxjc_core.proofs.Alone.{refused-so, some-same}
@@ -48,31 +35,17 @@ some-table table_errors.NotJson memory = refl
 some-table (table_errors.Shape key) memory = refl
 some-table (table_errors.Range op) memory = refl
 
-some-schedule : (name : List ℕ) (error : ScheduleError)
-    → (error ≡ schedule_errors.Edges edge_errors.NoMemory → ⊥)
-    → schedule_cause name error ≡ Some (Cause.NoSchedule name error)
-some-schedule name (schedule_errors.Edges edge_errors.NoMemory) memory = absurd (memory refl)
-some-schedule name (schedule_errors.Edges (edge_errors.NoLatency op width)) memory = refl
-some-schedule name (schedule_errors.Edges (edge_errors.Cycle walk)) memory = refl
-some-schedule name (schedule_errors.Uncovered walk) memory = refl
-
 pub own-table : (error : TableError) → (error ≡ table_errors.NoMemory → ⊥)
     → IfCause (table_cause error) (λ cause. table_cause error ≡ Some cause)
 own-table error memory = rw (some-table error memory) refl
 
-pub own-schedule : (name : List ℕ) (error : ScheduleError)
-    → (error ≡ schedule_errors.Edges edge_errors.NoMemory → ⊥)
-    → IfCause (schedule_cause name error) (λ cause. schedule_cause name error ≡ Some cause)
-own-schedule name error memory = rw (some-schedule name error memory) refl
+pub own-text : (name : List ℕ) (error : TextError) → is_memory error ≡ false
+    → IfCause (kernel_cause name error) (λ cause. kernel_cause name error ≡ Some cause)
+own-text name error fault = rw fault refl
 
 not-table-memory : (error : TableError) (cause : Cause) → table_cause error ≡ Some cause
     → error ≡ table_errors.NoMemory → ⊥
 not-table-memory error cause is e = let none = rw e at is in absurd (cc)
-
-not-schedule-memory : (name : List ℕ) (error : ScheduleError) (cause : Cause)
-    → schedule_cause name error ≡ Some cause → error ≡ schedule_errors.Edges edge_errors.NoMemory
-    → ⊥
-not-schedule-memory name error cause is e = let none = rw e at is in absurd (cc)
 
 -- ---- what stops a project
 
@@ -95,25 +68,30 @@ of-table source table stop error classes is kernel alone reads told =
       reads = reads;
     }))) told
 
-pub of-schedule : {source table : List ℕ} (p : OneKernel source table) (nodes : List Node) (told :
-    List ℕ)
-    (stop : Stop) (error : ScheduleError) → IsKernel p.kernel nodes → p.kernel.name ≡ told
-    → IsRefused p.latencies nodes error → IfRefused stop (λ cause. schedule_cause told error ≡ Some
-    cause)
+text-cause : {source table : List ℕ} (p : OneKernel source table) (nodes : List Node)
+    (error : TextError) (cause : Cause) → IsKernel p.kernel nodes
+    → IsRefused p.latencies nodes error → kernel_cause p.kernel.name error ≡ Some cause
+    → IsOfFiles source table cause
+text-cause {source} {table} p nodes error cause is refused e = by_test (is_memory error) refl e
+  where
+    by_test : (b : Bool) → is_memory error ≡ b
+        → (if b then None else Some (Cause.NoText p.kernel.name error)) ≡ Some cause
+        → IsOfFiles source table cause
+    by_test true m e = absurd (cc)
+    by_test false m e =
+        subst (IsOfFiles source table) (some-same e)
+        (IsOfFiles.lacks_text p error
+        (record { nodes = nodes; is = is; fault = m; refused = refused }))
+
+pub of-text : {source table : List ℕ} (p : OneKernel source table) (nodes : List Node)
+    (told : List ℕ) (stop : Stop) (error : TextError) → IsKernel p.kernel nodes
+    → p.kernel.name ≡ told → IsRefused p.latencies nodes error
+    → IfRefused stop (λ cause. kernel_cause told error ≡ Some cause)
     → IfRefused stop (IsOfFiles source table)
-of-schedule {source} {table} p nodes told stop error is named refused h =
-    refused-so stop (λ cause. schedule_cause told error ≡ Some cause) (IsOfFiles source table)
-    (λ cause e.
-    let fault = not-schedule-memory told error cause e in
-    subst (IsOfFiles source table) (some-same (sym (some-schedule told error fault) ∙ e))
-    (subst (λ n. IsOfFiles source table (Cause.NoSchedule n error)) named
-    (IsOfFiles.lacks_schedule p error (record {
-      nodes = nodes;
-      is = is;
-      fault = fault;
-      refused =
-          refused;
-    }))))
+of-text {source} {table} p nodes told stop error is named refused h =
+    refused-so stop (λ cause. kernel_cause told error ≡ Some cause) (IsOfFiles source table)
+    (λ cause e. text-cause p nodes error cause is refused
+    (subst (λ n. kernel_cause n error ≡ Some cause) (sym named) e))
     h
 
 pub of-class : {source table : List ℕ} (p : OneKernel source table) (stop : Stop)
@@ -122,33 +100,7 @@ of-class {source} {table} p stop h =
     refused-so stop (LacksKernel p.kernel) (IsOfFiles source table)
     (λ cause lacks. IsOfFiles.lacks_kernel p cause lacks) h
 
--- ---- latencies
-
-ticks-at : (table : Table) (nodes : List Node) (ticks : List ℕ)
-    → AreLatencies table nodes (length nodes) ticks → (n : ℕ) → n < length nodes
-    → ticks_of table nodes n ≡ slice_index ticks n
-ticks-at table nodes ticks are n h = ap (λ o. unwrap_or o 0) (are.each n h)
-
-pub immediate : (table : Table) (nodes : List Node) (ticks : List ℕ)
-    → AreLatencies table nodes (length nodes) ticks
-    → ((n : ℕ) → n < length ticks → slice_index ticks n ≡ 0) → AreImmediate table nodes
-immediate table nodes ticks are none n h =
-    let count = are.counted in
-    ticks-at table nodes ticks are n h ∙ none n (omega arith)
-
-pub immediate-ticks : (table : Table) (nodes : List Node) (ticks : List ℕ)
-    → AreLatencies table nodes (length nodes) ticks → AreImmediate table nodes
-    → (n : ℕ) → n < length ticks → slice_index ticks n ≡ 0
-immediate-ticks table nodes ticks are all n h =
-    let count = are.counted in
-    let below : n < length nodes = omega arith in
-    sym (ticks-at table nodes ticks are n below) ∙ all n below
-
 -- ---- tests
-
-pub not-both : (b : Bool) → b ≡ false → b ≡ true → ⊥
-not-both true h e = absurd (cc)
-not-both false h e = absurd (cc)
 
 pub none-so : {A P : Type 0} (o : Option A) → ((a : A) → o ≡ Some a → ⊥) → IfNone o P → P
 none-so None other h = h

@@ -1,21 +1,6 @@
 -- Tables that are read from one text have the same latencies.
-use Rattle.std.proofs.Common.{
-  ◌≡◌,
-  ◌∙◌,
-  ℕ,
-  ◌<◌,
-  List,
-  Bool,
-  true,
-  false,
-  Ok,
-  Err,
-  refl,
-  sym,
-  ap,
-  subst,
-}
-use Rattle.std.specs.Prelude.{Option, Some, None, IsSome, option_map, if◌then◌else◌}
+use Rattle.std.proofs.Common.{◌≡◌, ◌∙◌, ℕ, List, Bool, true, false, Ok, Err, refl, sym, ap, subst}
+use Rattle.std.specs.Prelude.{Some, None, IsSome, option_map, if◌then◌else◌}
 use Rattle.std.specs.Option.{unwrap_or}
 use mathlib.Core.Path.{fun_ext}
 use Rattle.mx_bits.specs.declared.op.Op.{Op}
@@ -28,16 +13,7 @@ use Rattle.latency_table.specs.declared.error.TableError.TheVariants as faults
 use Rattle.latency_table.specs.declared.rows.Row.{Row}
 use Rattle.latency_table.specs.declared.table.Table.{Table}
 use Rattle.latency_table.specs.Rows.{row_at}
-use Rattle.latency_table.specs.Tables.{
-  rows_at,
-  is_free,
-  latency_of,
-  Reads,
-  rows_under,
-  IsTable,
-  shape_fault,
-  range_fault,
-}
+use Rattle.latency_table.specs.Tables.{rows_at, is_free, latency_of, Reads, IsTable, shape_fault, range_fault}
 use Rattle.offset_edges.specs.Edges.{kind_at}
 use Rattle.offset_edges.specs.Latencies.{
   latency_as,

@@ -7,11 +7,11 @@ pub mod RunLoading
 pub mod RunEnding
 pub mod RunClauses
 pub mod OneCommand
-pub mod Sources
 pub mod Exclusion
 pub mod OneShape
 pub mod Alone
 pub mod Judging
 pub mod Latencies
 pub mod Answering
+pub mod Shapes
 pub mod Writing

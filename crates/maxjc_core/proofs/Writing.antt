@@ -1,75 +1,73 @@
 -- A simulation of a text that `compile` wrote gives the words of its kernel.
-use Rattle.std.proofs.Common.{◌≡◌, ℕ, List, [], ◌∷◌, map, Option, Some, Ok, refl, sym, subst, ap, ◌∙◌, arith}
-use Rattle.std.specs.Prelude.{slice_get}
-use Rattle.mx_base.specs.Files.{Name, Held, Holds}
+use Rattle.std.proofs.Common.{◌≡◌, ℕ, suc, List, [], ◌∷◌, map, length, true, Ok, refl, sym, subst, ap, ◌∙◌, arith}
+use Rattle.mx_base.specs.Files.{Name, Held}
 use Rattle.rtl_ir.specs.declared.design.Design.{Design}
 use Rattle.rtl_ir.specs.declared.design.Module.{Module}
-use Rattle.rtl_ir.specs.Flat.{Families, top_of}
+use Rattle.rtl_ir.specs.Value.{Family}
+use Rattle.rtl_ir.specs.Flat.{Families}
 use Rattle.rtl_ir.specs.Parts.{own_of}
 use Rattle.rtl_ir.specs.Ports.{Shape, HasShape, outer_of}
-use Rattle.rtl_ir.specs.Run.{moved, IsDriven}
-use Rattle.expression_module.specs.Streams.{Streams, StreamsAs}
+use Rattle.rtl_ir.specs.Run.{Channel, moved, IsDriven}
+use Rattle.rtl_ir.specs.Interfaces.{stream_shape}
+use Rattle.stream_graph.specs.declared.kernel.Kernel.{Kernel}
+use Rattle.stream_graph.specs.declared.node.Node.{Node}
+use Rattle.stream_equations.specs.Equations.{GivenRun, Values}
+use Rattle.kernel_control.specs.Ports.{port_shape, outputs_of}
+use Rattle.link_rtl.specs.Shapes.{shape_of}
+use Rattle.link_rtl.specs.Words.{AllAgree, RunsAsEquations}
 use Rattle.stall_source.specs.Stalls.{Answers}
-use Rattle.maxj_syntax.specs.Tree.{ClassTree}
-use Rattle.expression_source.specs.Source.{Source, IsSource, output_of}
-use Rattle.top_ports.specs.Shapes.{IsTopShape, AreByKernel}
 use Rattle.simulation.specs.declared.plan.Plan.{Plan}
-use Rattle.simulation.specs.Inputs.{InputFile, words_of, input_files}
-use Rattle.simulation.specs.Outputs.{lines_of_words, AreWritten}
+use Rattle.simulation.specs.Inputs.{words_of, input_files}
+use Rattle.simulation.specs.Outputs.{AreWritten}
 use Rattle.simulation.specs.Runs.{IsRun}
 use Rattle.simulation.specs.Ends.{End, Ends}
-use Rattle.simulation.specs.Plans.{setup_of}
-use Rattle.simulation.specs.Answers.{Finishes}
-use Rattle.maxjc_core.specs.Command.{RunNames}
-use Rattle.maxjc_core.specs.Compiling.{Compiles, kernel_shape}
-use Rattle.maxjc_core.specs.Loading.{IsLoaded, setup}
-use Rattle.maxjc_core.specs.Writing.{WritesWords, WritesAllWords}
-use Rattle.top_ports.proofs.ShapeLists.{one_alone}
-use Rattle.rtl_ir.specs.Interfaces.{stream_shape}
-use Rattle.maxjc_core.proofs.OneShape.{fused}
-use Rattle.maxjc_core.specs.LoadStops.{IsOnlyDesign}
-use Rattle.simulation.specs.Answers.{end_of}
+use Rattle.simulation.specs.Answers.{Finishes, end_of}
 use Rattle.simulation.specs.declared.stop.Outcome.{Outcome}
+use Rattle.top_ports.proofs.ShapeLists.{one_alone}
+use Rattle.kernel_calls.specs.Laws.{is_port_name}
+use Rattle.maxjc_core.specs.Command.{RunNames}
+use Rattle.maxjc_core.specs.Compiling.{Compiles}
+use Rattle.maxjc_core.specs.Loading.{IsLoaded, setup}
+use Rattle.maxjc_core.specs.LoadStops.{IsOnlyDesign}
+use Rattle.maxjc_core.specs.Writing.{AllHoldWords, WritesWords, WritesAllWords}
+use Rattle.maxjc_core.proofs.OneShape.{fused}
+use Rattle.maxjc_core.proofs.Shapes.{kernel_top}
 use Rattle.maxjc_core.proofs.RunExclusion.{same_file}
 use Rattle.maxjc_core.proofs.RunEnding.{IsMade, IsSimulated, told_loaded, of_loaded}
-use Rattle.maxjc_core.proofs.Sources.{plain}
 
--- a list of one element, by what it is turned into
-single : {A B : Type 0} (f : A → B) (xs : List A) (y : B) → map f xs ≡ y ∷ [] → (x : A) × (xs ≡ x ∷ [])
-single f [] y e = absurd (cc)
-single f (x ∷ []) y e = (x, refl)
-single f (x ∷ z ∷ xs) y e = absurd (cc)
+-- ---- the output files
 
-one_file : (held : Held) (inputs : List (Name × ℕ)) (i : Name × ℕ) → inputs ≡ i ∷ [] → (f : InputFile) × (input_files held inputs ≡ f ∷ [])
-one_file held inputs i e = single (λ (f : InputFile). f.name) (input_files held inputs) i.0 (ap (λ (xs : List (Name × ℕ)). map (λ (f : InputFile). f.name) (input_files held xs)) e)
+abbrev widths : List (Name × ℕ) → List ℕ
+widths files = map (λ (file : Name × ℕ). file.1) files
 
--- the words that left agree with f of those that were taken
-pub record Streamed (f : ℕ → Option ℕ) (words : List ℕ) (now : Held) (output : Name × ℕ) : Type 0 where
-  pub taken : List ℕ
-  pub left : List ℕ
-  pub streams : Streams f words taken left
-  pub written : Holds now output.0 (lines_of_words output.1 left)
+-- as many files as outputs hold what moved over as many channels
+all_written : (nodes : List Node) (run : GivenRun) (val : Values) (vs : List Family) (now : Held)
+    (chs : List Channel) (files : List (Name × ℕ)) (ns : List ℕ)
+    → AllAgree nodes run val chs ns vs → AreWritten now vs chs files → length files ≡ length ns
+    → AllHoldWords nodes run val now files ns
+all_written nodes run val vs now [] [] [] agree written count = tt
+all_written nodes run val vs now (ch ∷ chs) (file ∷ files) (n ∷ ns) agree written count = (
+  record {
+    left = moved ch vs;
+    agrees = agree.0;
+    written = written 0 ch file refl refl;
+  },
+  all_written nodes run val vs now chs files ns agree.1
+      (λ k c o at here. written (suc k) c o at here) (omega (arith, count)),
+)
+all_written nodes run val vs now [] (file ∷ files) [] agree written count = absurd (omega (arith, count))
+all_written nodes run val vs now [] files (n ∷ ns) agree written count = absurd agree
+all_written nodes run val vs now (ch ∷ chs) files [] agree written count = absurd agree
+all_written nodes run val vs now (ch ∷ chs) [] (n ∷ ns) agree written count = absurd (omega (arith, count))
 
-first_of : {A : Type 0} (xs : List A) (x : A) → xs ≡ x ∷ [] → slice_get xs 0 ≡ Some x
-first_of xs x e = rw e refl
-
-streamed :
-    (f : ℕ → Option ℕ) (d : Design) (m : Module) (s : Shape) (p : Plan) (held now : Held) (stalls : Answers) (restart : Families) (vs : List Families)
-    → StreamsAs d m (outer_of s m) f
-    → IsRun stalls (setup_of d m s p held) restart vs
-    → AreWritten now (own_of (restart ∷ vs)) (outer_of s m).outputs p.outputs
-    → (file : InputFile) → input_files held p.inputs ≡ file ∷ []
-    → (output : Name × ℕ) → p.outputs ≡ output ∷ []
-    → Streamed f (words_of file) now output
-streamed f d m s p held now stalls restart vs streams run written file files output one =
-    let words : map words_of (input_files held p.inputs) ≡ words_of file ∷ [] = ap (map words_of) files in
-    let driven = subst (λ (ws : List (List ℕ)). IsDriven (outer_of s m) (setup_of d m s p held).steady ws run.events (own_of (restart ∷ vs))) words run.driven in
-    record {
-      taken = moved streams.input (own_of (restart ∷ vs));
-      left = moved streams.output (own_of (restart ∷ vs));
-      streams = streams.runs (setup_of d m s p held).contents (setup_of d m s p held).steady (words_of file) run.events (restart ∷ vs) run.edges driven;
-      written = written 0 streams.output output (first_of (outer_of s m).outputs streams.output streams.outputs) (first_of p.outputs output one);
-    }
+same_length : {A B C : Type 0} (f : A → C) (g : B → C) (xs : List A) (ys : List B)
+    → map f xs ≡ map g ys → length xs ≡ length ys
+same_length f g [] [] e = refl
+same_length f g (x ∷ xs) (y ∷ ys) e =
+    let rest : map f xs ≡ map g ys = cc in
+    ap suc (same_length f g xs ys rest)
+same_length f g [] (y ∷ ys) e = absurd (cc)
+same_length f g (x ∷ xs) [] e = absurd (cc)
 
 -- what a run that ends was
 run_of : (stalls : Answers) {names : RunNames} {before : Held} (l : IsLoaded names before) (restart : Families) (vs : List Families) (end : End) → Ends stalls (setup l) restart vs end → IsRun stalls (setup l) restart vs
@@ -77,65 +75,67 @@ run_of stalls l restart vs end (Ends.done run few is) = run
 run_of stalls l restart vs end (Ends.limit run all is) = run
 run_of stalls l restart vs end (Ends.stopped fault run few is stops) = run
 
--- the shape of a kernel's ports is one of a top module
-kernel_top : (classes : List ClassTree) (k : Source) → IsSource classes k → IsTopShape (kernel_shape k)
-kernel_top classes k is = record {
-  shape = record {
-    some = omega arith;
-    kernels = rw (plain k.name is.allowed.name.0) refl;
-    scalars = refl;
-    inputs = rw (plain k.input is.allowed.input.0) refl;
-    outputs = rw (plain k.output is.allowed.output.0) refl;
-  };
-  by_kernel = AreByKernel.none;
-}
+-- ---- the design that is run
 
-only_top : (d : Design) (m : Module) → d.modules ≡ m ∷ [] → top_of d ≡ Some m
-only_top d m e = rw e refl
+-- what is run is the design that was written, with the ports of its kernel
+record IsRunOf (kernel : Kernel) {names : RunNames} {before : Held} (l : IsLoaded names before)
+    : Type 0
+  where
+    shape : l.fit.is.shape ≡ shape_of kernel
+    runs : RunsAsEquations kernel l.fit.design l.fit.is.top
 
--- a text that was written by `compile` has the streams of its kernel, also as it is read
-streams_read :
-    (source table line : List ℕ) {names : RunNames} {before : Held} (l : IsLoaded names before) (d : Design) → IsOnlyDesign l.files.text d → (c : Compiles source table l.files.text line)
-    → StreamsAs l.fit.design l.fit.is.top (outer_of l.fit.is.shape l.fit.is.top) (output_of c.kernel) × (l.fit.is.shape ≡ kernel_shape c.kernel)
-streams_read source table line l d only c =
-    let straight = c.straight in
-    let same : c.design ≡ l.fit.design = only c.design c.reads ∙ sym (only l.fit.design l.fit.is.reads) in
-    let top : top_of c.design ≡ Some straight.top = only_top c.design straight.top straight.only in
+run_is : (source table line : List ℕ) {names : RunNames} {before : Held} (l : IsLoaded names before)
+    (d : Design) → IsOnlyDesign l.files.text d → (c : Compiles source table l.files.text line)
+    → IsRunOf c.kernel l
+run_is source table line l d only c =
+    let t = c.text_of in
+    let same : t.design ≡ l.fit.design = only t.design t.printed.reads ∙ sym (only l.fit.design l.fit.is.reads) in
+    let top = t.is.is_top in
     let read = l.fit.is.is_top in
-    let tops : straight.top ≡ l.fit.is.top = cc in
-    let shapes : kernel_shape c.kernel ≡ l.fit.is.shape =
-    one_alone l.fit.is.top (kernel_shape c.kernel) l.fit.is.shape
-    (record { is = kernel_top c.project.classes c.kernel c.is; has = subst (λ (m : Module). HasShape m (kernel_shape c.kernel)) tops straight.has_shape }) l.fit.is.is_run in (
-      subst (λ (s : Shape). StreamsAs l.fit.design l.fit.is.top (outer_of s l.fit.is.top) (output_of c.kernel)) shapes
-          (subst (λ (m : Module). StreamsAs l.fit.design m (outer_of (kernel_shape c.kernel) m) (output_of c.kernel)) tops
-          (subst (λ (d : Design). StreamsAs d straight.top (outer_of (kernel_shape c.kernel) straight.top) (output_of c.kernel)) same straight.streams)),
-      sym shapes,
-    )
+    let tops : t.is.top ≡ l.fit.is.top = cc in
+    let plain = subst (λ n. is_port_name n ≡ true) (sym c.named) c.is.name in
+    let shapes : shape_of c.kernel ≡ l.fit.is.shape =
+    one_alone l.fit.is.top (shape_of c.kernel) l.fit.is.shape
+    (record {
+      is = kernel_top c.kernel plain;
+      has = subst (λ (m : Module). HasShape m (shape_of c.kernel)) tops t.is.shape;
+    }) l.fit.is.is_run in
+    record {
+      shape = sym shapes;
+      runs =
+          subst (λ (m : Module). RunsAsEquations c.kernel l.fit.design m) tops
+          (subst (λ (x : Design). RunsAsEquations c.kernel x t.is.top) same t.is.runs);
+    }
+
+output_count : (kernel : Kernel) {names : RunNames} {before : Held} (l : IsLoaded names before)
+    → l.fit.is.shape ≡ shape_of kernel
+    → length l.fit.plan.outputs ≡ length (outputs_of kernel.nodes)
+output_count kernel l shape =
+    let widths = l.fit.planned.output_widths
+    ∙ fused stream_shape (λ (y : Name × ℕ). y.1) l.fit.ports.outputs
+    ∙ ap (λ (s : Shape). map (λ (y : Name × ℕ). y.1) s.outputs) (l.fit.are ∙ shape)
+    ∙ sym (fused (port_shape kernel.nodes) (λ (y : Name × ℕ). y.1) (outputs_of kernel.nodes)) in
+    same_length (λ (o : Name × ℕ). o.1) (λ n. (port_shape kernel.nodes n).1) l.fit.plan.outputs
+    (outputs_of kernel.nodes) widths
 
 pub words_written :
-    (stalls : Answers) (source table line : List ℕ) {names : RunNames} {before : Held} (l : IsLoaded names before) (d : Design) → IsOnlyDesign l.files.text d → (c : Compiles source table l.files.text line) (now : Held) (end : End)
+    (stalls : Answers) (source table line : List ℕ) {names : RunNames} {before : Held}
+    (l : IsLoaded names before) (d : Design) → IsOnlyDesign l.files.text d
+    → (c : Compiles source table l.files.text line) (now : Held) (end : End)
     → Finishes stalls (setup l) l.fit.plan.outputs now end
     → WritesWords c.kernel l now
-words_written stalls source table line {names} {before} l d only c now end finishes =
-    let (streams, shapes) = streams_read source table line l d only c in
-    let p = l.fit.plan in
-    let inputs = single (λ (i : Name × ℕ). i.1) p.inputs _ (l.fit.planned.input_widths ∙ fused stream_shape (λ (i : Name × ℕ). i.1) l.fit.ports.inputs ∙ ap (map (λ (i : Name × ℕ). i.1)) (ap (λ (s : Shape). s.inputs) (l.fit.are ∙ shapes))) in
-    let outputs = single (λ (i : Name × ℕ). i.1) p.outputs _ (l.fit.planned.output_widths ∙ fused stream_shape (λ (i : Name × ℕ). i.1) l.fit.ports.outputs ∙ ap (map (λ (i : Name × ℕ). i.1)) (ap (λ (s : Shape). s.outputs) (l.fit.are ∙ shapes))) in
-    let files = one_file before p.inputs inputs.0 inputs.1 in
-    let run = run_of stalls l finishes.restart finishes.vs end finishes.ends in
-    let words = streamed (output_of c.kernel) l.fit.design l.fit.is.top l.fit.is.shape p before now stalls finishes.restart finishes.vs streams run finishes.written files.0 files.1 outputs.0 outputs.1 in
-    record {
-      input = inputs.0;
-      one_input = inputs.1;
-      output = outputs.0;
-      one_output = outputs.1;
-      file = files.0;
-      files = files.1;
-      taken = words.taken;
-      left = words.left;
-      streams = words.streams;
-      written = words.written;
-    }
+words_written stalls source table line {names} {before} l d only c now end finishes = λ run val few steady sources equations guarded.
+    let of = run_is source table line l d only c in
+    let made = run_of stalls l finishes.restart finishes.vs end finishes.ends in
+    let top = l.fit.is.top in
+    let vs = finishes.restart ∷ finishes.vs in
+    let words = map words_of (input_files before l.fit.plan.inputs) in
+    let driven = subst (λ (s : Shape). IsDriven (outer_of s top) (setup l).steady words made.events (own_of vs)) of.shape made.driven in
+    let steadily = subst (λ (xs : List ℕ). IsDriven (outer_of (shape_of c.kernel) top) xs words made.events (own_of vs)) steady driven in
+    let agree = of.runs run val words made.events (setup l).contents vs few equations guarded sources made.edges steadily in
+    let written = subst (λ (s : Shape). AreWritten now (own_of vs) (outer_of s top).outputs l.fit.plan.outputs) of.shape finishes.written in
+    all_written c.kernel.nodes run val (own_of vs) now (outer_of (shape_of c.kernel) top).outputs
+    l.fit.plan.outputs (outputs_of c.kernel.nodes) agree written (output_count c.kernel l of.shape)
 
 -- what the run that was made wrote
 pub words_so : {names : RunNames} {stalls : Answers} {held now : Held} {d : Design} {p : Plan} (o : Outcome) → IsMade names held d p → IsSimulated stalls d p held now (Ok o) → WritesAllWords names held now

@@ -1,23 +1,21 @@
 -- Why `compile` refuses a project, by what its files hold.
-use Rattle.std.specs.Prelude.{ℕ, ◌≡◌, ◌⊎◌, ◌≤◌, ◌<◌, List, length, Ok, Err}
+use Rattle.std.specs.Prelude.{ℕ, ◌≡◌, ◌⊎◌, ◌≤◌, ◌<◌, ◌^◌, false, List, length, Ok, Err}
 use Rattle.mx_base.specs.Files.{Held, Holds, Lacks}
 use Rattle.maxj_syntax.specs.Source.{IsSourceOf, Fault, HasFirst}
 use Rattle.maxj_syntax.specs.Tree.{ClassTree}
-use Rattle.expression_source.specs.Source.{Source, IsSource}
 use Rattle.latency_table.specs.declared.error.TableError.{TableError}
 use Rattle.latency_table.specs.declared.error.TableError.TheVariants as table_errors
 use Rattle.latency_table.specs.declared.table.Table.{Table}
 use Rattle.latency_table.specs.Tables.{Reads}
 use Rattle.stream_graph.specs.declared.node.Node.{Node}
-use Rattle.offset_edges.specs.declared.error.EdgeError.TheVariants as edge_errors
-use Rattle.offset_edges.specs.Latencies.{ticks_of}
-use Rattle.kernel_schedule.specs.declared.error.ScheduleError.{ScheduleError}
-use Rattle.kernel_schedule.specs.declared.error.ScheduleError.TheVariants as schedule_errors
-use Rattle.kernel_schedule.specs.Refused.{IsRefused}
 use Rattle.kernel_schedule.specs.Schedules.{IsSchedulable}
+use Rattle.kernel_rtl.specs.Planned.{IsPlain}
+use Rattle.kernel_verilog.specs.declared.error.TextError.{TextError}
+use Rattle.kernel_verilog.specs.Bits.{NeedsBits}
+use Rattle.kernel_verilog.specs.Refused.{is_memory, IsRefused}
 use Rattle.maxjc_core.specs.Command.{Name, Names}
 use Rattle.maxjc_core.specs.Kernels.{IsAlone, IsKernel, LacksKernel}
-use Rattle.maxjc_core.specs.Lines.{Cause, TooLarge, SourceFault, TableFault, NoSchedule, NotBuilt}
+use Rattle.maxjc_core.specs.Lines.{Cause, TooLarge, SourceFault, TableFault, NoText, NotBuilt}
 
 -- the most bytes of a file that is read whole: 2 ^ 24
 abbrev pub file_limit : ℕ
@@ -58,31 +56,25 @@ pub record HasTableFault (source table : List ℕ) (error : TableError) : Type 0
   pub fault : error ≡ table_errors.NoMemory → ⊥
   pub reads : Reads table (Err error)
 
--- the kernel of a project, and why it has no schedule
-pub record LacksSchedule
-    {source table : List ℕ} (p : OneKernel source table) (error : ScheduleError) : Type 0 where
+-- the kernel of a project, and why it has no text
+pub record LacksText {source table : List ℕ} (p : OneKernel source table) (error : TextError) : Type 0 where
   pub nodes : List Node
   pub is : IsKernel p.kernel nodes
-  pub fault : error ≡ schedule_errors.Edges edge_errors.NoMemory → ⊥
+  pub fault : is_memory error ≡ false
   pub refused : IsRefused p.latencies nodes error
 
--- the kernel of a project has a legal schedule
-pub record IsScheduled {source table : List ℕ} (p : OneKernel source table) : Type 0 where
+-- the kernel of a project has a legal schedule, only nodes that have their hardware, and FIFOs that need at most 2^28 bits
+pub record HasText {source table : List ℕ} (p : OneKernel source table) : Type 0 where
   pub nodes : List Node
   pub is : IsKernel p.kernel nodes
   pub schedulable : IsSchedulable p.latencies nodes
-
--- no node of a kernel has a latency other than 0
-abbrev pub AreImmediate : Table → List Node → Type 0
-AreImmediate table nodes = (n : ℕ) → n < length nodes → ticks_of table nodes n ≡ 0
-
--- the kernel has a schedule, and the source is of no form that is compiled
-pub record IsOfNoForm {source table : List ℕ} (p : OneKernel source table) : Type 0 where
-  pub scheduled : IsScheduled p
-  pub no_form : (s : Source) → IsSource p.classes s → AreImmediate p.latencies scheduled.nodes → ⊥
+  pub plain : IsPlain nodes
+  pub bits : ℕ
+  pub needs : NeedsBits p.latencies nodes bits
+  pub few : bits ≤ 2 ^ 28
 
 -- The cause for which the bytes of a source and of a table are refused, the first that stands: a fault of the source, a
--- manager, a fault of the table, why the class has no kernel, why the kernel has no schedule, or no form that is compiled.
+-- manager, a fault of the table, why the class has no kernel, or why the kernel has no text.
 pub data IsOfFiles (source table : List ℕ) : Cause → Type 0 where
   fault : (fault : Fault) → HasFirst source fault → IsOfFiles source table (SourceFault fault)
   manager : HasManager source → IsOfFiles source table NotBuilt
@@ -94,11 +86,10 @@ pub data IsOfFiles (source table : List ℕ) : Cause → Type 0 where
       (p : OneKernel source table) (cause : Cause)
       → LacksKernel p.kernel cause
       → IsOfFiles source table cause
-  lacks_schedule :
-      (p : OneKernel source table) (error : ScheduleError)
-      → LacksSchedule p error
-      → IsOfFiles source table (NoSchedule p.kernel.name error)
-  no_form : (p : OneKernel source table) → IsOfNoForm p → IsOfFiles source table NotBuilt
+  lacks_text :
+      (p : OneKernel source table) (error : TextError)
+      → LacksText p error
+      → IsOfFiles source table (NoText p.kernel.name error)
 
 -- the table is read after a source within the limit, and the source is looked at after both
 pub record IsReadable (names : Names) (held : Held) : Type 0 where
@@ -128,12 +119,8 @@ pub data Stands (names : Names) (held : Held) : Cause → Type 0 where
 abbrev pub IsMissing : Names → Held → Type 0
 IsMissing names held = Lacks held names.source ⊎ AfterSource names held (Lacks held names.table)
 
--- a project that is compiled: its files are held and within the limit, its kernel has a schedule, the source is of the
--- form that is compiled, and no node has a latency
+-- a project that is compiled: its files are held and within the limit, and its kernel has a text
 pub record IsBuilt (names : Names) (held : Held) : Type 0 where
   pub files : IsReadable names held
   pub project : OneKernel files.source files.table
-  pub scheduled : IsScheduled project
-  pub kernel : Source
-  pub is : IsSource project.classes kernel
-  pub immediate : AreImmediate project.latencies scheduled.nodes
+  pub has : HasText project

@@ -8,7 +8,6 @@ pub mod Ends
 pub mod Codes
 pub mod Named
 pub mod Refusals
-pub mod Emitting
 pub mod Stops
 pub mod Loading
 pub mod RunCauses

@@ -10,8 +10,8 @@ use Rattle.stream_graph.specs.declared.error.GraphError.{GraphError}
 use Rattle.stream_graph.specs.Lines.{fault_line as rule_fault_line}
 use Rattle.latency_table.specs.declared.error.TableError.{TableError}
 use Rattle.latency_table.specs.Refused.{said as table_fault_line}
-use Rattle.kernel_schedule.specs.declared.error.ScheduleError.{ScheduleError}
-use Rattle.kernel_schedule.specs.Refused.{said as schedule_fault_line}
+use Rattle.kernel_verilog.specs.declared.error.TextError.{TextError}
+use Rattle.kernel_verilog.specs.Refused.{said as text_fault_line}
 use Rattle.rtl_check.specs.Lines.{rule_line}
 use Rattle.maxjc_core.specs.Command.{Name}
 
@@ -21,8 +21,8 @@ pub data Cause : Type 0 where
   RunRefused : EvalError → Cause  -- E1 to E15: the building run of the kernel is refused so
   NoKernel : Name → GraphError → Cause  -- G1 to G4 and G6: what the run of this kernel makes breaks a rule
   TableFault : TableError → Cause  -- T1 to T3: this is the first fault of the latency table
-  NoSchedule : Name → ScheduleError → Cause  -- L1, C1 and C2: this kernel has no schedule by the latency table
-  NotBuilt : Cause  -- N0: the source is of no form that is built
+  NoText : Name → TextError → Cause  -- L1, C1, C2, N0 and B1: this kernel has no schedule by the latency table, nodes that have no hardware yet, or FIFOs of too many bits
+  NotBuilt : Cause  -- N0: the source has a manager
   NoToken : ℕ → Cause  -- V1: no token begins at this place of the text
   Syntax : ℕ → Cause  -- V2: the token at this place of the text is the first that no text has after those before it
   Rule : ℕ → List Name → Cause  -- V3: the rule of this number is broken by these names
@@ -45,7 +45,7 @@ line_of (SourceFault fault) = fault_line fault
 line_of (RunRefused error) = line_or_none (refusal_of error)
 line_of (NoKernel name error) = line_or_none (rule_fault_line name error)
 line_of (TableFault error) = line_or_none (table_fault_line error)
-line_of (NoSchedule name error) = line_or_none (schedule_fault_line name error)
+line_of (NoText name error) = line_or_none (text_fault_line name error)
 line_of NotBuilt = refused (codes "N0") []
 line_of (NoToken place) = refused (codes "V1") (decimal place ∷ [])
 line_of (Syntax place) = refused (codes "V2") (decimal place ∷ [])

@@ -1,5 +1,5 @@
 -- The cause that a refusal of the code names. Want of memory and a call that failed are none.
-use Rattle.std.specs.Prelude.{ℕ, List, Option, Some, None}
+use Rattle.std.specs.Prelude.{ℕ, List, Option, Some, None, if◌then◌else◌}
 use Rattle.maxj_syntax.specs.Source.{Fault}
 use Rattle.maxj_syntax.specs.declared.source.SourceError.{SourceError}
 use Rattle.maxj_syntax.specs.declared.source.SourceError.TheVariants as source_errors
@@ -13,9 +13,8 @@ use Rattle.stream_graph.specs.declared.error.GraphError.{GraphError}
 use Rattle.stream_graph.specs.declared.error.GraphError.TheVariants as graph_errors
 use Rattle.latency_table.specs.declared.error.TableError.{TableError}
 use Rattle.latency_table.specs.declared.error.TableError.TheVariants as table_errors
-use Rattle.offset_edges.specs.declared.error.EdgeError.TheVariants as edge_errors
-use Rattle.kernel_schedule.specs.declared.error.ScheduleError.{ScheduleError}
-use Rattle.kernel_schedule.specs.declared.error.ScheduleError.TheVariants as schedule_errors
+use Rattle.kernel_verilog.specs.declared.error.TextError.{TextError}
+use Rattle.kernel_verilog.specs.Refused.{is_memory}
 use Rattle.maxjc_core.specs.Lines.{
   Cause,
   TooLarge,
@@ -23,7 +22,7 @@ use Rattle.maxjc_core.specs.Lines.{
   RunRefused,
   NoKernel,
   TableFault,
-  NoSchedule,
+  NoText,
   NotBuilt,
   TooManyCells,
   NotJson,
@@ -69,9 +68,8 @@ abbrev pub table_cause : TableError → Option Cause
 table_cause table_errors.NoMemory = None
 table_cause error = Some (TableFault error)
 
-abbrev pub schedule_cause : List ℕ → ScheduleError → Option Cause
-schedule_cause name (schedule_errors.Edges edge_errors.NoMemory) = None
-schedule_cause name error = Some (NoSchedule name error)
+abbrev pub kernel_cause : List ℕ → TextError → Option Cause
+kernel_cause name error = if is_memory error then None else Some (NoText name error)
 
 abbrev pub cause_told : Refusal → Option Cause
 cause_told (refusals.TooLarge name) = Some (TooLarge name.now)
@@ -79,7 +77,7 @@ cause_told (refusals.Source error) = source_cause error
 cause_told (refusals.Building error) = run_cause error
 cause_told (refusals.Graph name error) = graph_cause name error
 cause_told (refusals.Table error) = table_cause error
-cause_told (refusals.Schedule name error) = schedule_cause name error
+cause_told (refusals.Kernel name error) = kernel_cause name error
 cause_told refusals.NotBuilt = Some NotBuilt
 cause_told (refusals.Verilog error) = text_cause error
 cause_told (refusals.RunFile error) = run_file_cause error

@@ -1,13 +1,11 @@
 // Reads a project and compiles it. No file is changed here.
-ghost use Rattle.std.specs.Prelude.{◌≡◌, ◌<◌, ◌^◌, ◌⊎◌, ◌++◌, ◌∷◌, [], false, List, ℕ, Ok, Err, IfOk, IfErr, length, codes};
+ghost use Rattle.std.specs.Prelude.{◌≡◌, ◌<◌, ◌^◌, ◌⊎◌, ◌∷◌, [], false, List, ℕ, Ok, Err, IfOk, IfErr, length};
 ghost use Rattle.mx_base.specs.Counts.{Rose};
 ghost use Rattle.mx_base.specs.Files.{Lacks};
 ghost use Rattle.maxjc_core.specs.Causes.{IsMissing, IsOfFiles};
-ghost use Rattle.maxjc_core.specs.Compiling.{Compiles};
+ghost use Rattle.maxjc_core.specs.Compiling.{summary_of, Compiles};
 ghost use Rattle.maxjc_core.specs.Stops.{IfRefused, Answers};
 ghost use Rattle.maxjc_core.specs.Named.{names_told};
-ghost use Rattle.maxjc_core.specs.Emitting.{Emits};
-ghost use Rattle.expression_module.specs.Designs.{IsSound};
 ghost use Rattle.latency_table.specs.Tables.{Reads};
 ghost use Rattle.maxj_syntax.specs.Outcomes.{FailsToRead, IsTheSource};
 ghost use Rattle.maxj_syntax.specs.Ranges.{AreInRange};
@@ -17,16 +15,14 @@ use crate::command::Compile;
 use crate::files::{FILE_LIMIT, read_file};
 use crate::kernels::{build_class, class_alone, name_of};
 use crate::refusal::Refusal;
-use crate::schedules::{are_immediate, schedule_stop, table_stop};
 use crate::stop::Stop;
-use expression_module::kernel_design;
-use expression_source::{Project, read_kernel};
-use kernel_schedule::best_schedule;
+use crate::stops::{table_stop, text_stop};
+use kernel_verilog::{KernelText, kernel_text};
 use latency_table::Table;
 use maxj_syntax::{Class, Program, SourceError, parse};
 use mx_base::{Files, NoMemory, Text};
 use std::alloc::Global;
-use verilog_print::print;
+use stream_graph::Kernel;
 
 /// The text of a project, and the line that sums it up.
 #[derive(Drop)]
@@ -35,26 +31,26 @@ pub struct Compiled {
     pub summary: Vec<u8>,
 }
 
-// The line `kernel NAME fifo 0`.
-fn summary_of(alloc: Global, project: &Project) -> Result<Vec<u8>, NoMemory>
-    ensures { IfOk result (λ line. line.items ≡ codes "kernel " ++ project.now.name ++ codes " fifo 0\n") }
+// The line `kernel NAME fifo B`.
+fn summary_of(alloc: Global, name: &[u8], bits: u64) -> Result<Vec<u8>, NoMemory>
+    ensures { IfOk result (λ line. line.items ≡ summary_of name.now bits) }
 {
     let mut line = b"kernel ".to_vec(alloc)?;
-    line.extend_from_slice(project.name.as_bytes())?;
-    line.extend_from_slice(b" fifo 0\n")?;
+    line.extend_from_slice(name)?;
+    line.extend_from_slice(format!(in alloc; " fifo {bits}\n")?.as_bytes())?;
     Ok(line)
 }
 
-// The text and the summary of a project.
-fn emit(alloc: Global, project: &Project) -> Result<Compiled, NoMemory>
-    requires { IsSound project.now }
-    ensures { IfOk result (λ c. Emits project.now c) }
+// The text of a kernel, with its summary.
+fn with_summary(alloc: Global, kernel: &Kernel, made: KernelText) -> Result<Compiled, NoMemory>
+    ensures text { IfOk result (λ c. c.text.items ≡ made.text.items) }
+    ensures summary { IfOk result (λ c. c.summary.items ≡ summary_of kernel.now.name made.bits) }
 {
-    let summary = summary_of(alloc, project)?;
-    let design = kernel_design(alloc, project)?;
-    let mut text = Vec::new(alloc);
-    print(alloc, &design, &mut text)?;
-    Ok(Compiled { text, summary })
+    let summary = summary_of(alloc, kernel.name(), made.bits)?;
+    Ok(Compiled {
+        text: made.text,
+        summary,
+    })
 }
 
 // The refusal of a source by its first fault.
@@ -89,17 +85,10 @@ fn compile_class<'a>(
         Ok(kernel) => kernel,
         Err(stop) => return Err(stop),
     };
-    let schedule = match best_schedule(alloc, &kernel, latencies) {
-        Ok(schedule) => schedule,
-        Err(error) => return Err(schedule_stop(name_of(alloc, class)?, error)),
-    };
-    let Some(project) = read_kernel(alloc, program)? else {
-        return Err(Stop::Refused(Refusal::NotBuilt));
-    };
-    if !are_immediate(schedule.latencies.as_slice()) {
-        return Err(Stop::Refused(Refusal::NotBuilt));
+    match kernel_text(alloc, &kernel, latencies) {
+        Ok(made) => Ok(with_summary(alloc, &kernel, made)?),
+        Err(error) => Err(text_stop(name_of(alloc, class)?, error)),
     }
-    Ok(emit(alloc, &project)?)
 }
 
 // What is made of a program and the bytes of a latency table, or why it isn't compiled.

@@ -1,5 +1,6 @@
 // The kernel of a source that has no manager.
-ghost use Rattle.std.specs.Prelude.{◌≡◌, ◌∷◌, [], List, Some, Err, false, IfOk, IfErr, IfSome, IfNone};
+ghost use Rattle.std.specs.Prelude.{◌≡◌, ◌∷◌, [], List, Some, Err, true, false, IfOk, IfErr, IfSome, IfNone};
+ghost use Rattle.kernel_calls.specs.Laws.{is_port_name};
 ghost use Rattle.maxj_syntax.specs.declared.tree.Class.{Class as OneClass};
 ghost use Rattle.maxj_syntax.specs.Ranges.{AreInRange};
 ghost use Rattle.maxj_syntax.specs.Tree.{ClassTree, ClassIs, ProgramIs};
@@ -40,6 +41,8 @@ pub fn build_class<'a>(
     requires host { class.now.manager ≡ false }
     ensures built { (kernel : ClassTree) → ClassIs program.now.tree class.now kernel
         → IfOk result (λ made. IsKernel kernel made.nodes) }
+    ensures named { IfOk result (λ made. made.name ≡ class.now.name) }
+    ensures plain { IfOk result (λ made. is_port_name made.name ≡ true) }
     ensures fails { (kernel : ClassTree) → ClassIs program.now.tree class.now kernel
         → IfErr result (λ stop. IfRefused stop (LacksKernel kernel)) }
     ensures no_read { result ≡ Err Stop.ReadFault → ⊥ }

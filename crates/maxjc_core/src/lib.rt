@@ -9,10 +9,10 @@ mod kernels;
 mod load;
 mod refusal;
 mod saying;
-mod schedules;
 mod simulate_command;
 mod status;
 mod stop;
+mod stops;
 mod top;
 
 pub use status::Status;

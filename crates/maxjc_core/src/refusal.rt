@@ -5,7 +5,7 @@ ghost use Rattle.maxjc_core.specs.Refusals.{cause_told, IfCause};
 
 use kernel_eval::line_of;
 use kernel_meaning::EvalError;
-use kernel_schedule::ScheduleError;
+use kernel_verilog::TextError;
 use latency_table::TableError;
 use maxj_syntax::SourceError;
 use mx_base::{NoMemory, Text};
@@ -30,9 +30,9 @@ pub enum Refusal<'a> {
     Graph(Text, GraphError),
     /// T1 to T3: the first fault of the latency table.
     Table(TableError),
-    /// L1, C1 and C2: why this kernel has no schedule.
-    Schedule(Text, ScheduleError),
-    /// N0: the source is of no form that is compiled.
+    /// L1, C1, C2, N0 and B1: why this kernel has no text.
+    Kernel(Text, TextError),
+    /// N0: the source has a manager.
     NotBuilt,
     /// V1 to V4: why the text isn't that of a design that can be run.
     Verilog(VerilogError),
@@ -54,7 +54,7 @@ impl<'a> Refusal<'a> {
             Refusal::Building(error) => line_of(alloc, *error),
             Refusal::Graph(kernel, error) => error.line(alloc, kernel),
             Refusal::Table(error) => error.line(alloc),
-            Refusal::Schedule(kernel, error) => error.line(alloc, kernel),
+            Refusal::Kernel(kernel, error) => error.line(alloc, kernel),
             Refusal::NotBuilt => refusal_line(alloc, "N0", &[]),
             Refusal::Verilog(error) => error.line(alloc),
             Refusal::RunFile(error) => error.line(alloc),

@@ -3,8 +3,8 @@ use crate::tests::expect_end;
 use maxjc_core::Status;
 use std::test::Fail;
 
-// Sources, each with the line that it is refused with. The last has a kernel, and no form that is
-// compiled.
+// Sources, each with the line that it is refused with. The last makes a kernel, which has a counter
+// and so no hardware yet.
 const REFUSED: [(&[u8], &[u8]); 22] = [
     (
         b"class K extends Kernel {
@@ -215,8 +215,12 @@ public final class _K extends Kernel { _K(KernelParameters p) { super(p); } }",
     ),
     (
         b"class K extends Kernel {
-  K(KernelParameters p) { super(p); }
-}",
+  K(KernelParameters p) {
+    super(p);
+    DFEVar i = control.count.simpleCounter(8);
+  }
+}
+",
         b"refused N0\n",
     ),
 ];

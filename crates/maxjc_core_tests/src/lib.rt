@@ -4,12 +4,16 @@
 #[cfg(test)]
 mod building_tests;
 #[cfg(test)]
-mod design_tests;
+mod kernel_sources;
+#[cfg(test)]
+mod kernel_tests;
 #[cfg(test)]
 mod schedule_tests;
 #[cfg(test)]
 mod simulate_tests;
 #[cfg(test)]
 mod storage_tests;
+#[cfg(test)]
+mod stored_bits_tests;
 #[cfg(test)]
 mod tests;

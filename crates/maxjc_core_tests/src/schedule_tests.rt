@@ -37,7 +37,7 @@ const ONE: &[u8] = b"{\"add\":[[1,1]],\"eq\":[[1,0]],\"mux\":[[1,0]]}";
 
 // Sources and tables, each with the line that they are refused with. A fault of the source stands
 // before one of the table, as does a manager; one of the table stands before those of the kernel.
-const REFUSED: [(&[u8], &[u8], &[u8]); 16] = [
+const REFUSED: [(&[u8], &[u8], &[u8]); 15] = [
     (DOUBLE, b"[", b"refused T1\n"),
     (DOUBLE, b"", b"refused T1\n"),
     (DOUBLE, b"[]", b"refused T2 -\n"),
@@ -47,7 +47,6 @@ const REFUSED: [(&[u8], &[u8], &[u8]); 16] = [
     (DOUBLE, b"{\"add\":[[1,70]]}", b"refused T3 add\n"),
     (DOUBLE, b"{}", b"refused L1 Double add 8\n"),
     (DOUBLE, b"{\"add\":[[9,0]]}", b"refused L1 Double add 8\n"),
-    (DOUBLE, ONE, b"refused N0\n"),
     (b"class", b"[", b"refused S3 5\n"),
     (MANAGER, b"[", b"refused N0\n"),
     (ITSELF, b"[", b"refused T1\n"),

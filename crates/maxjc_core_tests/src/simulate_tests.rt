@@ -70,7 +70,7 @@ fn text(alloc: Global, bytes: &[u8]) -> Result<Text, Fail> {
     Ok(Text::from_vec(bytes.to_vec(alloc)?))
 }
 
-fn simulate_words(alloc: Global) -> Result<Vec<Text>, Fail> {
+pub(crate) fn simulate_words(alloc: Global) -> Result<Vec<Text>, Fail> {
     let mut words = Vec::new(alloc);
     words.push(text(alloc, b"simulate")?)?;
     words.push(text(alloc, b"text")?)?;
@@ -91,7 +91,7 @@ fn held(alloc: Global, case: &Case<'_>) -> Result<MemFiles, Fail> {
 }
 
 // A pattern that stalls port 1 wherever the pattern number isn't 0.
-fn run_with_port_1_stalled(
+pub(crate) fn run_with_port_1_stalled(
     alloc: Global,
     words: &Vec<Text>,
     files: &mut MemFiles,
@@ -282,27 +282,34 @@ fn compile_words(alloc: Global) -> Result<Vec<Text>, Fail> {
     Ok(words)
 }
 
+const ONE_TICK: &[u8] =
+    b"{\"ticks\":{\"Double\":1},\"inputs\":{\"x\":\"x.txt\"},\"outputs\":{\"y\":\"y.txt\"},\"edges\":1000,\"pattern\":1}";
+
+const THREE_TICKS: &[u8] =
+    b"{\"ticks\":{\"Double\":3},\"inputs\":{\"x\":\"x.txt\"},\"outputs\":{\"y\":\"y.txt\"},\"edges\":1000,\"pattern\":1}";
+
 // The words that a source gives, compiled and simulated under the program's pattern.
 fn expect_words(
     rt: &impl Abort,
     alloc: Global,
     source: &[u8],
+    run_file: &[u8],
     x: &[u8],
     y: &[u8],
 ) -> Result<(), Fail> {
     let mut files = MemFiles::new(alloc, Vec::new(alloc))?;
     files.put(&text(alloc, b"source")?, source)?;
     files.put(&text(alloc, b"table")?, IMMEDIATE)?;
-    files.put(&text(alloc, b"run")?, STALLED)?;
+    files.put(&text(alloc, b"run")?, run_file)?;
     files.put(&text(alloc, b"x.txt")?, x)?;
     let mut say = MemSay::new(alloc, Vec::new(alloc))?;
     let ended = run(alloc, &compile_words(alloc)?, &mut files, &mut say);
     assert_eq!(rt; ended, Status::Done);
     let ended = run(alloc, &simulate_words(alloc)?, &mut files, &mut say);
-    assert_eq!(rt; ended, Status::EdgeLimit);
-    assert_eq!(rt;
-        say.bytes(),
-        b"kernel Double fifo 0\nnot done after 1000 edges\n".as_slice()
+    assert_eq!(rt; ended, Status::Done);
+    assert!(rt;
+        say.bytes()
+            .starts_with(b"kernel Double fifo 0\ndone after ")
     );
     let left = read_whole(alloc, &mut files, &text(alloc, b"y.txt")?, 100)?;
     assert_eq!(rt; left.as_slice(), y);
@@ -311,20 +318,22 @@ fn expect_words(
 
 #[test]
 fn compiled_texts_are_simulated(rt: HostRuntime) -> Result<(), Fail> {
-    for (source, x, y) in [
+    for (source, run_file, x, y) in [
         (
             SOURCE,
+            THREE_TICKS,
             b"01\n02\n03\n".as_slice(),
             b"02\n04\n06\n".as_slice(),
         ),
         (
             SQUARE,
+            ONE_TICK,
             b"ffffffffffffffffffffffffffffffff\n",
             b"00000000000000000000000000000001\n",
         ),
-        (LOGIC, b"10\n7f\n80\n", b"19\n7e\nc1\n"),
+        (LOGIC, THREE_TICKS, b"10\n7f\n80\n", b"19\n7e\nc1\n"),
     ] {
-        expect_words(&rt, rt.alloc(), source, x, y)?;
+        expect_words(&rt, rt.alloc(), source, run_file, x, y)?;
     }
     Ok(())
 }

@@ -2,7 +2,7 @@ use Rattle.std.proofs.Common.{inl, inr, ⊎_elim, refl}
 use Rattle.mx_base.specs.Files.{Held}
 use Rattle.maxjc_core.specs.Causes.{file_limit, Stands}
 use Rattle.maxjc_core.specs.Named.{names_told}
-use Rattle.maxjc_core.proofs.Reading.{found, within, read_stops, missing_stops}
+use Rattle.maxjc_core.proofs.Reading.{within, read_stops, missing_stops}
 use Rattle.maxjc_core.proofs.Answering.{answers_of}
 use Rattle.maxjc_core.proofs.compile.compile.Goals as goal
 

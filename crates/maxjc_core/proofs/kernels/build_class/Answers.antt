@@ -1,9 +1,10 @@
 -- The plan, the run and the graph answer for the class.
-use Rattle.std.proofs.Common.{◌≡◌, ◌∙◌, [], ◌∷◌, Err, false, sym, subst}
+use Rattle.std.proofs.Common.{◌≡◌, ◌∙◌, [], ◌∷◌, Err, true, false, sym, subst}
+use Rattle.kernel_calls.specs.Laws.{is_port_name}
 use Rattle.kernel_meaning.specs.Constructors.{building_run}
 use Rattle.kernel_eval.specs.Built.{IsBuilt}
 use Rattle.maxjc_core.specs.Kernels.{LacksKernel}
-use Rattle.maxjc_core.proofs.Alone.{refused-so, own-program, own-kernel, of-plan, of-run, of-graph, plain-name}
+use Rattle.maxjc_core.proofs.Alone.{refused-so, own-program, own-kernel, of-plan, of-run, of-graph, plain-name, tree-in}
 use Rattle.maxjc_core.proofs.kernels.build_class.Goals as goal
 
 pub returns-in-Err-clause-fails : goal.returns-in-Err-clause-fails
@@ -51,3 +52,20 @@ returns-in_ok-name_of-in-Err-Graph-clause-fails c kernel is =
     (subst (λ e. IsBuilt (building_run kernel []) c.in_ok-name.name (Err e)) c.in-Err-Graph.field-0-is
     (c.in-Err-Graph.ensures kernel at)))
     c.graph_stop.ensures.cause
+
+pub returns-in-Ok-clause-named : goal.returns-in-Ok-clause-named
+returns-in-Ok-clause-named c =
+    let tree = tree-in c.args.program.now c.args.class.now c.requires.read c.requires.one in
+    let at = own-kernel c.args.program.now c.args.class.now tree.0 c.requires.one c.requires.host tree.1 in
+    let made = c.in-Ok.ensures tree.0 at in
+    made.named ∙ c.in_ok-name.ensures
+
+pub returns-in-Ok-clause-plain : goal.returns-in-Ok-clause-plain
+returns-in-Ok-clause-plain c =
+    let tree = tree-in c.args.program.now c.args.class.now c.requires.read c.requires.one in
+    let kernel = tree.0 in
+    let is = tree.1 in
+    let host : kernel.manager ≡ false = sym is.manager ∙ c.requires.host in
+    let own = own-program c.args.program.now c.args.class.now kernel c.requires.one is in
+    let plain = plain-name kernel c.in_default.field-0 host (c.in_default.ensures (kernel ∷ []) own) in
+    subst (λ n. is_port_name n ≡ true) (sym (returns-in-Ok-clause-named c ∙ is.name)) plain

@@ -1,4 +1,0 @@
-pub mod Designs
-pub mod Streams
-pub mod Straight
-pub mod Values

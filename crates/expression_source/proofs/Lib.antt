@@ -1,9 +1,0 @@
-pub mod Examples
-pub mod Words
-pub mod Standing
-pub mod Shapes
-pub mod Forms
-pub mod Operations
-pub mod Locals
-pub mod Kernels
-pub mod Wholes

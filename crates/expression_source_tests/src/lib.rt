@@ -1,5 +1,0 @@
-//! Tests of the crate `expression_source`, apart from it, so that a change of a test proves no function of it again.
-#![tactic(auto)]
-
-#[cfg(test)]
-mod tests;

@@ -1,0 +1,80 @@
+// What the modules of kernels store, summed from the texts.
+use crate::kernel_sources::{LONG, SLOW, SUM3};
+use crate::kernel_tests::compiled;
+use crate::tests::{IMMEDIATE, text};
+use mx_base::read_whole;
+use rtl_ir::{Design, Module};
+use std::alloc::Global;
+use std::process::Abort;
+use std::test::Fail;
+use verilog_read::read;
+
+// The bits of the registers and memories of a module.
+fn bits_of(module: &Module) -> u64 {
+    let mut bits = 0_u64;
+    for net in module.nets.as_slice() {
+        if net.reg {
+            bits = bits.wrapping_add(u64::from(net.width));
+        }
+    }
+    for mem in module.mems.as_slice() {
+        bits = bits.wrapping_add(u64::from(mem.width).wrapping_mul(u64::from(mem.depth)));
+    }
+    bits
+}
+
+// Those of the module of this name.
+fn bits_in(design: &Design, name: &[u8]) -> Option<u64> {
+    for module in design.modules.as_slice() {
+        if module.name.is(name) {
+            return Some(bits_of(module));
+        }
+    }
+    None
+}
+
+// A kernel with a latency table, what `compile` says, and the bits that its module stores.
+#[derive(Clone, Copy)]
+struct Stored<'a> {
+    source: &'a [u8],
+    table: &'a [u8],
+    said: &'a [u8],
+    module: &'a [u8],
+    bits: u64,
+}
+
+fn expect(rt: &impl Abort, alloc: Global, stored: &Stored<'_>) -> Result<(), Fail> {
+    let mut files = compiled(rt, alloc, stored.source, stored.table, stored.said)?;
+    let held = read_whole(alloc, &mut files, &text(alloc, b"text")?, 100_000)?;
+    assert!(rt; held.len() <= 100_000);
+    match read(alloc, held.as_slice()) {
+        Ok(design) => assert_eq!(rt; bits_in(&design, stored.module), Some(stored.bits)),
+        Err(_) => assert!(rt; false, "the text isn't read"),
+    }
+    Ok(())
+}
+
+#[test]
+fn modules_store_fifos_latencies_and_the_position(rt: HostRuntime) -> Result<(), Fail> {
+    for stored in [
+        // 32 bits of FIFOs, 64 of the registers behind the two sums, and 48 of the position
+        Stored {
+            source: SUM3,
+            table: SLOW,
+            said: b"kernel Sum3 fifo 32\n",
+            module: b"kernel$Sum3",
+            bits: 144,
+        },
+        // 320,000 bits of FIFOs, 16 of the pointer of the ring that holds them, and 48 of the position
+        Stored {
+            source: LONG,
+            table: IMMEDIATE,
+            said: b"kernel Long fifo 320000\n",
+            module: b"kernel$Long",
+            bits: 320_064,
+        },
+    ] {
+        expect(&rt, rt.alloc(), &stored)?;
+    }
+    Ok(())
+}
