@@ -11,14 +11,13 @@ is refused. The words that leave are checked. Memory is the greatest resident se
 """
 import json
 import pathlib
-import subprocess
 import sys
 import tempfile
 
 import compile_size
 import simulate_speed
+import trials
 
-TOP = pathlib.Path(__file__).resolve().parent.parent
 MODULES = 1000
 MOST_CELLS = 2**26
 NETS_OF_HEAD = 12  # the ports and `go`
@@ -78,7 +77,7 @@ def holds(kind, text, words, wanted, wanted_words, most_seconds, most_memory=Non
 
 def main():
     assignments = 2 ** (int(sys.argv[1]) if len(sys.argv) > 1 else 20)
-    subprocess.run([str(TOP / "maxjc")], stdout=subprocess.DEVNULL)
+    trials.build()
     words = [2**32 - 1 - 0x1234567 * number for number in range(EDGES)]
     products = [word * (assignments + 1) % 2**32 for word in words]
     place = [MOST_CELLS - 101] * EDGES  # an odd place, so a 1 is written there

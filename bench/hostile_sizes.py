@@ -10,11 +10,11 @@ many ports takes is taken while it is read.
 
     bench/hostile_sizes.py [PORTS [SIDE]]
 """
-import subprocess
 import sys
 
 import check_size
 import simulate_speed
+import trials
 
 # Seconds for each text, and bytes for those of many ways.
 BAR, MOST_MEMORY = 2, 200 * 10**6
@@ -70,7 +70,7 @@ def stairs(side):
 def main():
     ports = int(sys.argv[1]) if len(sys.argv) > 1 else 200_000
     side = int(sys.argv[2]) if len(sys.argv) > 2 else 8_000
-    subprocess.run([str(check_size.TOP / "maxjc")], stdout=subprocess.DEVNULL)
+    trials.build()
     words = list(range(check_size.EDGES))
     inverted = [0 if word % 2 else 2**32 - 1 for word in words]
     # A sum of an even number of equal bits is 0, of an odd number the bit.

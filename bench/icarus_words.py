@@ -1,77 +1,120 @@
 #!/usr/bin/env python3
 """Compares `maxjc simulate` with Icarus.
 
-Each example is compiled; then the text is run by `maxjc simulate` and by Icarus under a testbench with
-the same offers, accepts and holds, without stalls and under several patterns of stalls. The words that
-leave and the line that says how the run ended must be the same. Passed over where Icarus is missing.
+Each example is compiled, by a table by which no operation takes a tick and by one with latencies; then the text is
+run by `maxjc simulate` and by Icarus under a testbench with the same offers, accepts and holds, without stalls and
+under several patterns of stalls, until it is done. The words that leave must be those of the stream equations, and the
+same where they are undefined too; the line that says how the run ended must be the same. Passed over where Icarus is
+missing.
 
     bench/icarus_words.py
 """
 import json
-import os
 import pathlib
 import shutil
 import subprocess
 import sys
 import tempfile
 
+import building_run
+import stream_equations
 import testbench
+from trials import PROGRAM, TOP, build
 
-TOP = pathlib.Path(__file__).resolve().parent.parent
+EDGES = 2000  # in which each example is done, also with stalls
 
 
 def run(words, **kinds):
     return subprocess.run([str(word) for word in words], capture_output=True, text=True, **kinds)
 
 
-def compare(text, run_file, work, expected=None):
-    """The differences between the two tools on a text under a run file, whose files stand in the folder, and from the
-    words that are expected, of which the words that leave are the first; and what `maxjc` says."""
-    spec = testbench.read_run(run_file)
-    said = run([TOP / "maxjc", "simulate", text, run_file], cwd=work)
-    if said.returncode not in (0, 6):
-        return [f"maxjc ends with {said.returncode}: {said.stdout.strip()}"], said.stdout
-    spec["inputs"] = {name: os.path.join(work, file) for name, file in spec["inputs"].items()}
-    bench, _, outputs = testbench.testbench(pathlib.Path(text).read_text(), spec, work, spec["edges"])
+def icarus(text, spec, work, edges):
+    """What Icarus leaves of a run whose files stand in the folder: the line that says how it ended, and the words of each output
+    as they are written; or None and what the translator says."""
+    spec = spec | {"inputs": {name: str(work / file) for name, file in spec["inputs"].items()}}
+    bench, _, outputs = testbench.testbench(pathlib.Path(text).read_text(), spec, work, edges)
     built = run(["iverilog", "-g2005", "-s", "testbench", "-o", work / "sim.vvp", bench, text])
     if built.returncode != 0:
-        return [f"iverilog: {built.stderr}"], said.stdout
-    shown = run(["vvp", "-n", work / "sim.vvp"])
-    last = [line for line in shown.stdout.splitlines() if "edges" in line]
-    wrong = [] if last == said.stdout.splitlines() else [f"maxjc says {said.stdout!r}, Icarus {shown.stdout!r}"]
-    for k, (name, _) in enumerate(outputs):
+        return None, built.stderr
+    shown = run(["vvp", "-n", work / "sim.vvp"]).stdout
+    last = [line for line in shown.splitlines() if "edges" in line]
+    return last, {name: (work / f"out{k}.txt").read_text().split() for k, (name, _) in enumerate(outputs)}
+
+
+def differ(ours, theirs, wanted):
+    """Whether words differ; an undefined one may be of bits that Icarus doesn't know."""
+    unknown = {place for place, word in enumerate(wanted or []) if word is None}
+    pairs = enumerate(zip(ours, theirs))
+    return len(ours) != len(theirs) or any(a != b and not (place in unknown and "x" in b.lower()) for place, (a, b) in pairs)
+
+
+def beside(words, wanted):
+    """Whether words are the first of those that are wanted, of which undefined ones, None, may be any."""
+    return len(words) <= len(wanted) and all(b is None or int(a, 16) == b for a, b in zip(words, wanted))
+
+
+def compare(text, run_file, work, wanted=None):
+    """The differences between the two tools on a text under a run file, whose files stand in the folder, and from the words
+    that are wanted of each output, of which the words that leave are the first; and what `maxjc` says."""
+    spec = testbench.read_run(run_file)
+    said = run([PROGRAM, "simulate", text, run_file], cwd=work)
+    if said.returncode not in (0, 6):
+        return [f"maxjc ends with {said.returncode}: {said.stdout.strip()}"], said.stdout
+    edges = min(spec["edges"], int(said.stdout.split()[-2]) + 1)
+    last, left = icarus(text, spec, work, edges)
+    if last is None:
+        return [f"iverilog: {left}"], said.stdout
+    wrong = [] if last == said.stdout.splitlines() else [f"maxjc says {said.stdout!r}, Icarus {last}"]
+    for name, theirs in left.items():
         ours = (work / spec["outputs"][name]).read_text().split()
-        theirs = (work / f"out{k}.txt").read_text().split()
-        if expected is not None and ours != expected[: len(ours)]:
-            wrong.append(f"output {name}: maxjc {ours[:8]}, expected {expected[:8]}")
-        if ours != theirs:
+        words = wanted and wanted[name]
+        if wanted is not None and not beside(ours, words):
+            wrong.append(f"output {name}: maxjc {ours[:8]}, wanted {words[:8]}")
+        if differ(ours, theirs, words):
             wrong.append(f"output {name}: maxjc {ours[:8]} ({len(ours)} words), Icarus {theirs[:8]} ({len(theirs)} words)")
     return wrong, said.stdout
+
+
+def wanted_of(source, spec):
+    """The words of each output by the stream equations, None where one is undefined."""
+    (name, calls), *_ = building_run.build(source.read_text()).kernels
+    words = {port: [int(line, 16) for line in (TOP / file).read_text().split()] for port, file in spec["inputs"].items()}
+    streams = stream_equations.Streams(stream_equations.nodes_of(calls), spec["ticks"][name], words)
+    return {port: streams.output(port) for port in spec["outputs"]}
+
+
+def compared(source, table, pattern):
+    """What is wrong of an example by a table under a pattern."""
+    with tempfile.TemporaryDirectory() as folder:
+        work = pathlib.Path(folder)
+        shutil.copytree(TOP / "examples", work / "examples")
+        text = work / "text.v"
+        done = run([PROGRAM, "compile", source, TOP / "examples/tables" / table, text, work / "report"])
+        if done.returncode != 0:
+            return [f"not compiled: {done.stdout.strip()}"]
+        spec = testbench.read_run(source.parent / "run.json") | {"pattern": pattern, "edges": EDGES}
+        (work / "run.json").write_text(json.dumps(spec))
+        wanted = wanted_of(source, spec)
+        wrong, said = compare(text, work / "run.json", work, wanted)
+        if not wrong and not said.startswith("done"):
+            wrong = [said.strip()]
+        if not beside((source.parent / "y.expected.txt").read_text().split(), wanted["y"]):
+            wrong.append(f"y.expected.txt isn't {wanted['y'][:8]}")
+        return wrong
 
 
 def main():
     if shutil.which("iverilog") is None:
         print("Icarus is not installed here, passed over")
         return 0
+    build()
     bad = False
     for source in sorted(TOP.glob("examples/*/*.maxj")):
-        for pattern in (0, 1, 2, 77):
-            with tempfile.TemporaryDirectory() as folder:
-                work = pathlib.Path(folder)
-                shutil.copytree(TOP / "examples", work / "examples")
-                text = work / "text.v"
-                done = run([TOP / "maxjc", "compile", source, TOP / "examples/tables/zero.json", text, work / "report"])
-                if done.returncode != 0:
-                    print(f"{source.name}: not compiled: {done.stdout.strip()}")
-                    bad = True
-                    continue
-                spec = testbench.read_run(source.parent / "run.json")
-                spec["pattern"] = pattern
-                (work / "run.json").write_text(json.dumps(spec))
-                expected = (source.parent / "y.expected.txt").read_text().split()
-                wrong, _ = compare(text, work / "run.json", work, expected)
+        for table in ("zero.json", "pipelined.json"):
+            for pattern in (0, 1, 2, 77):
+                wrong = compared(source, table, pattern)
                 bad |= bool(wrong)
-                print(f"{source.name}, pattern {pattern}: " + ("the same words" if not wrong else "; ".join(wrong)))
+                print(f"{source.name}, {table}, pattern {pattern}: " + ("the same words" if not wrong else "; ".join(wrong)))
     return 1 if bad else 0
 
 

@@ -18,6 +18,7 @@ MOST_TEXT, MOST_OTHER = 64 * 2**20, 16 * 2**20
 TABLE = trials.TOP / "examples/tables/zero.json"
 SOURCE = trials.TOP / "examples/double/double.maxj"
 FULL = "/dev/full"
+MOST_BACK = 2**20  # ticks of one offset
 
 
 def run_file(**changed):
@@ -28,6 +29,14 @@ def run_file(**changed):
 def padded(text, size):
     """The text with blanks behind it, so many bytes in all."""
     return text + " " * (size - len(text))
+
+
+def back(ticks):
+    """A kernel that adds a word of 128 bits to the one of so many ticks ago."""
+    parts = [min(ticks - done, MOST_BACK) for done in range(0, ticks, MOST_BACK)]
+    offsets = "".join(f"DFEVar v{k + 1} = stream.offset(v{k}, -{part});\n" for k, part in enumerate(parts))
+    head = 'class K extends Kernel { K(KernelParameters p) { super(p);\nDFEVar v0 = io.input("x", dfeUInt(128));\n'
+    return head + offsets + f'io.output("y", v0 + v{len(parts)}, dfeUInt(128)); }} }}\n'
 
 
 def ended(folder, words, out=subprocess.PIPE):
@@ -50,6 +59,8 @@ def cases(folder):
         ("run", run_file()),
         ("long_run", padded(run_file(), MOST_OTHER + 1)),
         ("run_to_full", run_file(outputs={"y": FULL})),
+        ("most_bits", back(2 * MOST_BACK)),
+        ("more_bits", back(2 * MOST_BACK + 1)),
         ("x.txt", "1\n2\n"),
     ]:
         (folder / name).write_text(content)
@@ -60,6 +71,8 @@ def cases(folder):
     yield "a text of one byte more", ["simulate", "long_text", "run"], 1, "refused F1 long_text\n"
     yield "a long run file", ["simulate", "text", "long_run"], 1, "refused F1 long_run\n"
     yield "one cell too many", ["simulate", "cells", "run"], 1, f"refused V5 {check_size.MOST_CELLS + 1}\n"
+    yield "FIFOs of 2^28 bits", ["compile", "most_bits", TABLE, "out.v", "report"], 0, f"kernel K fifo {2**28}\n"
+    yield "FIFOs of 128 bits more", ["compile", "more_bits", TABLE, "o", "report"], 1, f"refused B1 K {2**28 + 128}\n"
     yield "a source that isn't there", ["compile", "none", TABLE, "o", "report"], 3, ""
     yield "a name that is no path", ["compile", "a\n/b", TABLE, "o", "report"], 3, ""
     yield "a text onto a full device", ["compile", "source", TABLE, FULL, "report"], 4, ""

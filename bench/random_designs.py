@@ -18,6 +18,7 @@ import tempfile
 import design_maker
 import icarus_words
 import module_maker
+import trials
 
 SHARE, FEWEST_COUNTED = 4, 40
 WIDTHS = ["width 1", "width 2 to 63", "width 64", "width 65 to 127", "width 128"]
@@ -61,6 +62,7 @@ def main():
     if shutil.which("iverilog") is None:
         print("Icarus is not installed here, passed over")
         return 0
+    trials.build()
     designs, bad = [], False
     for seed in range(given.first, given.first + given.seeds):
         folder = pathlib.Path(tempfile.mkdtemp(prefix=f"random_design_{seed}_"))

@@ -10,14 +10,13 @@ Memory is the greatest resident set of the program; the bar is 40 bytes a byte o
 """
 import os
 import pathlib
-import subprocess
 import sys
 import tempfile
 
 import compile_size
 import simulate_speed
+import trials
 
-TOP = pathlib.Path(__file__).resolve().parent.parent
 BAR = 40
 
 
@@ -60,7 +59,7 @@ def measure(text):
 
 def main():
     top = int(sys.argv[1]) if len(sys.argv) > 1 else 26
-    subprocess.run([str(TOP / "maxjc")], stdout=subprocess.DEVNULL)
+    trials.build()
     bad = False
     for kind, make in [("printed", printed), ("dense", dense)]:
         for exponent in (top - 4, top - 2, top):

@@ -1,13 +1,19 @@
-"""What docs/SCHEDULES.md says of a kernel's schedules: the refusals L1, C1 and C2, judged by the calls that make it.
+"""What docs/SCHEDULES.md says of a kernel's schedules: the refusals L1, C1, C2 and B1, judged by the calls that make it, and the
+fewest bits that its FIFOs hold. N0 is judged here too, as it stands between C2 and B1.
 
 This is written from that page, and not from the program. A kernel is a name and the list of its calls, as
 bench/building_run.py gives them; a table is the JSON value of a latency table.
 """
+import heapq
 import re
 
 FREE = {"shl", "shr", "cast"}
 STEADY = {"constant", "scalar"}
+COMPILED = {"input", "output", "constant", "operation", "offset", "feed"}
+MOST_BITS = 2**28
+MOST_COUNTED = 250  # nodes that read or are read: the fewest bits are found in no greater kernel
 WALK = re.compile(r"refused (C[12]) (\w+) latency (\d+) back (-?\d+) nodes((?: \d+)+)")
+BITS = re.compile(r"(kernel|refused B1) (\w+)(?: fifo)? (\d+)")
 
 
 class Kernel:
@@ -51,6 +57,11 @@ class Kernel:
             return 0, (op, width)
         rows = [ticks for least, ticks in table.get(op, []) if least <= width]
         return (rows[-1] if rows else None), (op, width)
+
+    def is_compiled(self):
+        """Whether all nodes are of the kinds that have hardware yet, and no port has a control."""
+        controls = [values[2] for kind, values in zip(self.kinds, self.values) if kind in ("input", "output")]
+        return set(self.kinds) <= COMPILED and all(control is None for control in controls)
 
 
 def operands_of(kind, values):
@@ -131,6 +142,97 @@ def has_positive_walk(nodes, arcs):
     return True
 
 
+class Flow:
+    """The flow from nodes to the places behind them where their words are read last, along arcs (start, end, need) that take any
+    amount. `times` stand at least so far apart as the arcs need, so the slack of an arc is never below 0, nor that of an arc
+    turned round where something flows: that one is the price of sending less."""
+
+    def __init__(self, count, arcs, surplus):
+        self.arcs, self.surplus = arcs, surplus
+        self.times = longest(count, arcs)
+        self.amounts = [0] * len(arcs)
+        self.at = [[] for _ in range(count)]
+        for number, (start, end, _) in enumerate(arcs):
+            self.at[start].append((number, end, 1))
+            self.at[end].append((number, start, -1))
+
+    def slack(self, number):
+        start, end, need = self.arcs[number]
+        return self.times[end] - self.times[start] - need
+
+    def ways(self):
+        """The least price from a node with a surplus to each node up to the first one that lacks some (Dijkstra), and by which
+        step each was come to; and that one."""
+        prices = {node: 0 for node, amount in enumerate(self.surplus) if amount > 0}
+        steps, fixed = {}, {}
+        heap = [(0, node) for node in prices]
+        while heap:
+            price, node = heapq.heappop(heap)
+            if node in fixed:
+                continue
+            fixed[node] = price
+            if self.surplus[node] < 0:
+                return fixed, steps, node
+            for number, other, way in self.at[node]:
+                if other in fixed or (way < 0 and self.amounts[number] == 0):
+                    continue
+                through = price + way * self.slack(number)
+                if other not in prices or through < prices[other]:
+                    prices[other] = through
+                    steps[other] = (number, node, way)
+                    heapq.heappush(heap, (through, other))
+        raise ValueError("a surplus that no way leads away")
+
+    def send(self):
+        """Sends as much as one cheapest way takes; the times then have no slack along it."""
+        fixed, steps, last = self.ways()
+        for node, price in fixed.items():
+            self.times[node] += fixed[last] - price
+        way, node = [], last
+        while node in steps:
+            way.append(steps[node])
+            node = steps[node][1]
+        amount = min([self.surplus[node], -self.surplus[last]] + [self.amounts[number] for number, _, sign in way if sign < 0])
+        for number, _, sign in way:
+            self.amounts[number] += sign * amount
+        self.surplus[node] -= amount
+        self.surplus[last] += amount
+
+    def worth(self):
+        while any(self.surplus):
+            self.send()
+        return sum(amount * need for amount, (_, _, need) in zip(self.amounts, self.arcs))
+
+
+def longest(count, arcs):
+    """The least numbers from 0 that stand at least so far apart as the arcs need."""
+    times = [0] * count
+    raised = True
+    while raised:
+        raised = False
+        for start, end, need in arcs:
+            if times[start] + need > times[end]:
+                times[end] = times[start] + need
+                raised = True
+    return times
+
+
+def fewest_bits(kernel, ticks):
+    """The fewest bits that FIFOs hold in a schedule of a kernel that has one, or None where the kernel is too great."""
+    numbers = {node: number for number, node in enumerate(sorted({node for edge in kernel.edges for node in edge[:2]}))}
+    if len(numbers) > MOST_COUNTED:
+        return None
+    arcs, surplus, base = [], [0] * (2 * len(numbers)), 0
+    for start, end, ahead in kernel.edges:
+        arcs.append((numbers[start], numbers[end], ticks[start] + ahead))
+        arcs.append((numbers[end], len(numbers) + numbers[start], -ahead))
+    for node in {edge[0] for edge in kernel.edges}:
+        surplus[numbers[node]] = kernel.widths[node]
+        surplus[len(numbers) + numbers[node]] = -kernel.widths[node]
+        base += kernel.widths[node] * ticks[node]
+    return Flow(2 * len(numbers), arcs, surplus).worth() - base
+
+
 def is_walk(kernel, ticks, said, name):
     """Whether a line shows a closed walk of the kernel, with its sums, from its least node on: its code, latency and back."""
     match = WALK.fullmatch(said)
@@ -159,4 +261,17 @@ def judged(name, calls, table, said):
         return "C1", walk is not None and walk[0] == "C1" and walk[2] <= 0
     if has_positive_walk(nodes, [(start, end, ticks[start] + ahead) for start, end, ahead in kernel.edges]):
         return "C2", walk is not None and walk[0] == "C2" and walk[2] < walk[1]
-    return "none", said == "refused N0" or (said.startswith("kernel ") and not any(ticks))
+    if not kernel.is_compiled():
+        return "N0", said == "refused N0"
+    return judged_bits(name, kernel, ticks, said)
+
+
+def judged_bits(name, kernel, ticks, said):
+    """The same of a kernel that has a schedule and hardware."""
+    match = BITS.fullmatch(said)
+    bits = fewest_bits(kernel, ticks)
+    if bits is None:
+        bits = int(match[3]) if match else 0
+    if bits > MOST_BITS:
+        return "B1", said == f"refused B1 {name} {bits}"
+    return "none", said == f"kernel {name} fifo {bits}"

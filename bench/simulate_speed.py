@@ -7,9 +7,13 @@ is the exclusive or of the last one, so that hardly a net is without an effect. 
 net again for each way that leads to it.) With `--storage` registers and memories stand between the layers,
 written in each edge in which the kernel isn't held. Both tools run it over the same words for 100,000
 edges; Icarus under the testbench of bench/testbench.py. The words must be the same. The ratio is that of the
-times of whole runs, start and files included.
+processor times of whole runs, start and files included.
+
+With `--stencil` the text is that of the stencil of bench/compile_speed.py, which is run for TICKS ticks until it is done; it
+is compared with the program that Verilator builds too, with and without the time of the build.
 
     bench/simulate_speed.py [--storage] [ASSIGNMENTS [EDGES]]
+    bench/simulate_speed.py --stencil [TICKS]
 """
 import argparse
 import json
@@ -19,11 +23,14 @@ import shutil
 import subprocess
 import sys
 import tempfile
-import time
 
+import compile_speed
 import testbench
+import trials
+import verilated
 
-TOP = pathlib.Path(__file__).resolve().parent.parent
+LINE, TICKS = 1920, 100_000
+STENCIL_BAR = 5  # times as fast as vvp
 LAYER = 200
 REGISTERS, MEMORIES = 40, 4  # behind each layer
 HEAD = """module top$project (
@@ -95,47 +102,87 @@ def store(chance, number, wide, lines, updates):
 
 
 def run_ours(work):
-    before = time.time()
-    said = subprocess.run([str(TOP / "crates/maxjc/out/maxjc"), "simulate", "text.v", "run.json"], cwd=work, capture_output=True, text=True)
-    seconds = time.time() - before
-    print(f"maxjc simulate: {said.stdout.strip()}, status {said.returncode}, {seconds:.2f} s")
-    return seconds
+    seconds, said = verilated.timed([trials.PROGRAM, "simulate", "text.v", "run.json"], work)
+    print(f"maxjc simulate: {said.strip()}, {seconds:.2f} s")
+    return seconds, said
 
 
-def run_theirs(work, spec):
-    """The time of `vvp` alone, without the translation of the text."""
+def run_theirs(work, spec, edges):
+    """The processor seconds of `vvp` alone, without the translation of the text, and what it says."""
     text = work / "text.v"
-    spec["inputs"]["x"] = str(work / "x.txt")
-    bench, _, _ = testbench.testbench(text.read_text(), spec, work, spec["edges"])
+    spec = spec | {"inputs": {"x": str(work / "x.txt")}}
+    bench, _, _ = testbench.testbench(text.read_text(), spec, work, edges)
     subprocess.run(["iverilog", "-g2005", "-s", "testbench", "-o", str(work / "sim.vvp"), str(bench), str(text)], check=True)
-    before = time.time()
-    subprocess.run(["vvp", "-n", str(work / "sim.vvp")], check=True, capture_output=True)
-    return time.time() - before
+    return verilated.timed(["vvp", "-n", work / "sim.vvp"], work)
+
+
+def is_faster(work, spec, ours, said, bar):
+    """Whether Icarus leaves the same words and the same end, and takes so many times as long."""
+    if shutil.which("iverilog") is None:
+        print("Icarus is not installed here, passed over")
+        return True
+    theirs, shown = run_theirs(work, spec, spec["edges"])
+    edges = int(said.split()[-2])
+    words = verilated.numbers(work / "y.txt")
+    same = words == verilated.numbers(work / "out0.txt") and shown.strip() == said.strip()
+    rates = f"{edges / theirs:.0f} edges a second, maxjc {edges / ours:.0f}"
+    print(f"vvp: {theirs:.2f} s; {len(words)} words, {'the same' if same else 'NOT the same'}; {theirs / ours:.1f} times as long: {rates}")
+    return same and theirs / ours >= bar
+
+
+def beside_verilator(work, spec, ours, said):
+    """Whether the words and the end are those of the program that Verilator builds."""
+    if shutil.which("verilator") is None:
+        print("Verilator is not installed here, passed over")
+        return True
+    before = verilated.spent()
+    program = verilated.build(work)
+    built = verilated.spent() - before
+    theirs, shown = verilated.timed([*program, spec["edges"], spec["ticks"]["K"]], work)
+    same = shown == said and verilated.numbers(work / "y.txt") == verilated.numbers(work / "theirs.txt")
+    print(
+        f"Verilator: the build {built:.2f} s, the run {theirs:.2f} s; words and end {'the same' if same else 'NOT the same'}; "
+        f"maxjc takes {ours / theirs:.1f} times the run, {ours / (built + theirs):.2f} times both"
+    )
+    return same
+
+
+def write_run(work, width, count, ticks, edges):
+    """Writes random words and the run file, and gives what stands in it."""
+    chance = random.Random(2)
+    (work / "x.txt").write_text("".join(f"{chance.getrandbits(width):0{width // 4}x}\n" for _ in range(count)))
+    spec = {"ticks": {"K": ticks}, "inputs": {"x": "x.txt"}, "outputs": {"y": "y.txt"}, "edges": edges}
+    (work / "run.json").write_text(json.dumps(spec))
+    return spec
+
+
+def run_stencil(work, ticks):
+    """The stencil's text under a run that is done a line and some edges after the last word."""
+    (work / "source.maxj").write_text(compile_speed.stencil(LINE))
+    (work / "table.json").write_text(json.dumps(compile_speed.TABLE))
+    words = [trials.PROGRAM, "compile", "source.maxj", "table.json", "text.v", "report"]
+    print(subprocess.run([str(word) for word in words], cwd=work, capture_output=True, text=True).stdout.strip())
+    spec = write_run(work, 8, ticks, ticks, ticks + LINE + 10)
+    ours, said = run_ours(work)
+    good = is_faster(work, spec, ours, said, STENCIL_BAR)
+    return beside_verilator(work, spec, ours, said) and good
 
 
 def main():
-    arguments = argparse.ArgumentParser(description="The speed of maxjc simulate beside Icarus.")
+    arguments = argparse.ArgumentParser(description="The speed of maxjc simulate beside Icarus and Verilator.")
     arguments.add_argument("--storage", action="store_true", help="registers and memories between the layers")
-    arguments.add_argument("assignments", type=int, nargs="?", default=2000)
+    arguments.add_argument("--stencil", action="store_true", help="the text of a stencil; the number is that of its ticks")
+    arguments.add_argument("assignments", type=int, nargs="?")
     arguments.add_argument("edges", type=int, nargs="?", default=100000)
     given = arguments.parse_args()
+    trials.build()
     with tempfile.TemporaryDirectory() as folder:
         work = pathlib.Path(folder)
-        (work / "text.v").write_text(layers(given.assignments, given.storage))
-        chance = random.Random(2)
-        (work / "x.txt").write_text("".join(f"{chance.getrandbits(32):08x}\n" for _ in range(given.edges)))
-        spec = {"ticks": {"K": given.edges}, "inputs": {"x": "x.txt"}, "outputs": {"y": "y.txt"}, "edges": given.edges}
-        (work / "run.json").write_text(json.dumps(spec))
-        subprocess.run([str(TOP / "maxjc")], stdout=subprocess.DEVNULL)
-        ours = run_ours(work)
-        if shutil.which("iverilog") is None:
-            print("Icarus is not installed here, passed over")
-            return 0
-        theirs = run_theirs(work, spec)
-        words = (work / "y.txt").read_text().split()
-        same = words == (work / "out0.txt").read_text().split() and len(words) == given.edges
-        print(f"vvp: {theirs:.2f} s; the words are {'the same' if same else 'NOT the same'}; vvp takes {theirs / ours:.1f} times as long")
-        return 0 if same else 1
+        if given.stencil:
+            return 0 if run_stencil(work, given.assignments or TICKS) else 1
+        (work / "text.v").write_text(layers(given.assignments or 2000, given.storage))
+        spec = write_run(work, 32, given.edges, given.edges, given.edges)
+        return 0 if is_faster(work, spec, *run_ours(work), 0) else 1
 
 
 if __name__ == "__main__":

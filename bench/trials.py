@@ -1,11 +1,22 @@
 """Trials of the built program on random inputs."""
+import os
 import pathlib
 import random
+import subprocess
 import sys
 import tempfile
 
 TOP = pathlib.Path(__file__).resolve().parent.parent
-PROGRAM = TOP / "crates/maxjc/out/maxjc"
+# the program that is tried; MAXJC in the environment names another one
+PROGRAM = pathlib.Path(os.environ.get("MAXJC") or TOP / "crates/maxjc/out/maxjc").resolve()
+
+
+def build():
+    """Has the program proved and built, where it isn't yet and the environment names no other one."""
+    if not os.environ.get("MAXJC"):
+        subprocess.run([str(TOP / "maxjc")], stdout=subprocess.DEVNULL)
+    if not PROGRAM.exists():
+        sys.exit("the program isn't built here")
 
 
 def run(count, trial):

@@ -12,15 +12,14 @@ the same. The times are processor times of whole runs, files included, the least
 import json
 import pathlib
 import random
-import resource
 import shutil
-import subprocess
 import sys
 import tempfile
 
 import simulate_speed
+import trials
+import verilated
 
-TOP = pathlib.Path(__file__).resolve().parent.parent
 STAGES = 8
 BAR = 2  # times the run of Verilator's program
 FIFO = """module fifo (
@@ -117,54 +116,6 @@ def plumbing(stages):
     return FIFO + STAGE + PORTS + "\n".join(lines) + "\nassign done = 1'h0;\nendmodule\n"
 
 
-MAIN = """#include <cstdio>
-#include <cstdlib>
-#include <vector>
-#include "Vtop.h"
-#include "verilated.h"
-int main(int argc, char** argv) {
-  Verilated::randReset(0);
-  Vtop top;
-  long edges = atol(argv[1]);
-  FILE* in = fopen("x.txt", "r");
-  FILE* out = fopen("theirs.txt", "w");
-  std::vector<char> line(64);
-  auto idle = [&] {
-    top.reset = 0; top.hold__024K = 0;
-    top.in__024x__024data = 0; top.in__024x__024valid = 0; top.out__024y__024ready = 0;
-  };
-  top.ticks__024K = edges;
-  auto tick = [&] { top.clk = 1; top.eval(); top.clk = 0; };
-  idle(); top.clk = 0; top.reset = 1; top.eval(); tick();
-  bool waits = false; unsigned word = 0;
-  for (long edge = 0; edge < edges; edge++) {
-    idle(); top.eval();
-    if (top.done) break;
-    if (!waits && fgets(line.data(), 64, in)) { word = strtoul(line.data(), nullptr, 16); waits = true; }
-    if (waits) { top.in__024x__024valid = 1; top.in__024x__024data = word; }
-    top.out__024y__024ready = 1;
-    top.eval();
-    if (top.in__024x__024valid && top.in__024x__024ready) waits = false;
-    if (top.out__024y__024valid && top.out__024y__024ready) fprintf(out, "%08x\\n", top.out__024y__024data);
-    tick();
-  }
-  fclose(out);
-  return 0;
-}
-"""
-
-
-def best_of(words, work, tries=3):
-    """The least processor time of some runs."""
-    times = []
-    for _ in range(tries):
-        before = resource.getrusage(resource.RUSAGE_CHILDREN)
-        subprocess.run(words, cwd=work, capture_output=True)
-        after = resource.getrusage(resource.RUSAGE_CHILDREN)
-        times.append(after.ru_utime + after.ru_stime - before.ru_utime - before.ru_stime)
-    return min(times)
-
-
 def compared(kind, text, edges):
     with tempfile.TemporaryDirectory() as folder:
         work = pathlib.Path(folder)
@@ -173,14 +124,10 @@ def compared(kind, text, edges):
         (work / "x.txt").write_text("".join(f"{chance.getrandbits(32):08x}\n" for _ in range(edges)))
         spec = {"ticks": {"K": edges}, "inputs": {"x": "x.txt"}, "outputs": {"y": "y.txt"}, "edges": edges}
         (work / "run.json").write_text(json.dumps(spec))
-        (work / "main.cpp").write_text(MAIN)
-        build = ["verilator", "--cc", "--exe", "--build", "-O3", "-CFLAGS", "-O3", "-Wno-fatal", "-Wno-lint", "--prefix", "Vtop"]
-        build += ["--top-module", "top$project", "--x-initial", "0", "text.v", "main.cpp"]
-        subprocess.run(build, cwd=work, check=True, capture_output=True)
-        theirs = best_of([str(work / "obj_dir/Vtop"), str(edges)], work)
-        ours = best_of([str(TOP / "crates/maxjc/out/maxjc"), "simulate", "text.v", "run.json"], work)
-        words = (work / "y.txt").read_text().lower().split()
-        same = [int(word, 16) for word in words] == [int(word, 16) for word in (work / "theirs.txt").read_text().split()]
+        theirs = verilated.best_of([*verilated.build(work), edges, edges], work)
+        ours = verilated.best_of([trials.PROGRAM, "simulate", "text.v", "run.json"], work)
+        words = verilated.numbers(work / "y.txt")
+        same = words == verilated.numbers(work / "theirs.txt")
         print(
             f"{kind}, {edges} edges: maxjc {ours:.2f} s, Verilator's program {theirs:.2f} s, {ours / theirs:.1f} times as long; "
             f"{len(words)} words, {'the same' if same else 'NOT the same'}"
@@ -193,7 +140,7 @@ def main():
         print("Verilator is not installed here, passed over")
         return 0
     edges = int(sys.argv[1]) if len(sys.argv) > 1 else 20000
-    subprocess.run([str(TOP / "maxjc")], stdout=subprocess.DEVNULL)
+    trials.build()
     good = [
         compared("2,000 assignments with storage", simulate_speed.layers(2000, True), edges),
         compared(f"{STAGES} stages with rings and FIFOs", plumbing(STAGES), 10 * edges),
