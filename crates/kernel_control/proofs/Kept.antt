@@ -2,11 +2,13 @@
 use Rattle.std.proofs.Common.{◌≡◌, ℕ, ◌+◌, ◌≤◌, List, length, ap, ◌∙◌, arith, length-append}
 use Rattle.std.specs.Prelude.{All}
 use Rattle.rtl_ir.specs.declared.design.Module.{Module}
+use Rattle.rtl_ir.specs.declared.design.Update.{Update}
 use Rattle.rtl_ir.specs.Grow.{Grows}
 use Rattle.rtl_ir.proofs.Grow.{width_kept}
 use Rattle.rtl_build.specs.declared.signal.Signal.{Signal}
 use Rattle.rtl_build.specs.Wires.{is_output}
-use Rattle.rtl_build.specs.Ports.{HasOutput}
+use Rattle.rtl_build.specs.Ports.{HasOutput, Drives}
+use Rattle.rtl_build.specs.Storage.{AddsUpdate}
 use Rattle.rtl_build.proofs.Growing.{signal_kept}
 use Rattle.kernel_control.specs.declared.handshakes.Handshake.{Handshake}
 use Rattle.kernel_control.specs.declared.serving.DuePort.{DuePort}
@@ -15,6 +17,14 @@ use Rattle.kernel_control.specs.Serving.{IsDuePort}
 
 pub more_nets : {m n : Module} → Grows m n → length m.nets ≤ length n.nets
 more_nets {m} {n} g = let size : length n.nets ≡ length m.nets + length g.more_nets = ap length g.nets ∙ length-append m.nets g.more_nets in omega (arith, size)
+
+-- an output that is given its value is no new net
+pub drive_nets : {m n : Module} {output source : Signal} → Drives m n output source → length n.nets ≡ length m.nets
+drive_nets d = ap (λ (x : Module). length x.nets) d.is
+
+-- nor is a register that is written
+pub update_nets : {m n : Module} {u : Update} → AddsUpdate m n u → length n.nets ≡ length m.nets
+update_nets a = ap (λ (x : Module). length x.nets) a.is
 
 output_kept : {m n : Module} {s : Signal} → Grows m n → HasOutput m s → HasOutput n s
 output_kept {m} {n} {s} g h = record {

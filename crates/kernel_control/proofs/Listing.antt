@@ -84,6 +84,13 @@ each_due_port m p t (h ∷ hs) [] a w i d lt = absurd a
 each_due_port m p t (h ∷ hs) (s ∷ ss) a w zero d lt = one_due_port m p t h s a.0 (w 0 h (omega arith))
 each_due_port m p t (h ∷ hs) (s ∷ ss) a w (suc i) d lt = each_due_port m p t hs ss a.1 (λ j e q. w (suc j) e (omega arith)) i d (omega arith)
 
+-- there are as many as handshakes
+pub due_ports_length : (m : Module) (p t : ℕ) (hs : List Handshake) (ss : List DuePort) → AreDuePorts m p t hs ss → length ss ≡ length hs
+due_ports_length m p t [] [] a = refl
+due_ports_length m p t [] (s ∷ ss) a = absurd a
+due_ports_length m p t (h ∷ hs) [] a = absurd a
+due_ports_length m p t (h ∷ hs) (s ∷ ss) a = ap suc (due_ports_length m p t hs ss a.1)
+
 -- they are told by the outputs of the handshakes
 pub same_answers : (m : Module) (p t : ℕ) (hs : List Handshake) (ss : List DuePort) → AreDuePorts m p t hs ss → answers_of ss ≡ told_ports hs
 same_answers m p t [] [] a = refl

@@ -3,6 +3,8 @@ use Rattle.std.specs.Prelude.{
   ◌≡◌,
   ℕ,
   ◌+◌,
+  ◌*◌,
+  ◌≤◌,
   ◌%◌,
   ◌^◌,
   Bool,
@@ -16,6 +18,7 @@ use Rattle.std.specs.Prelude.{
   List,
   [],
   ◌∷◌,
+  length,
 }
 use Rattle.rtl_ir.specs.declared.design.Module.{Module}
 use Rattle.rtl_ir.specs.Value.{Family, Contents, bit}
@@ -56,6 +59,7 @@ pub record AnswersOne (old new : Module) (run : ℕ) (port : DuePort) : Type 0 w
   pub leaves : LeavesUndriven old new port.answer.net
   pub driven : is_driven port.answer.net new.assigns ≡ true
   pub told : IsTold new run port
+  pub nets : length new.nets ≤ length old.nets + 1
 
 -- the outputs of these ports were given their values, and no register or memory
 pub record AnswersAll (old new : Module) (run : ℕ) (ports : List DuePort) : Type 0 where
@@ -65,6 +69,7 @@ pub record AnswersAll (old new : Module) (run : ℕ) (ports : List DuePort) : Ty
   pub leaves : DrivesAtMost old new (answers_of ports)
   pub driven : AreDriven new (answers_of ports)
   pub told : AreTold new run ports
+  pub nets : length new.nets ≤ length old.nets + length ports
 
 -- ---- edges
 
@@ -106,6 +111,7 @@ pub record HasControl (old new : Module) (nets : ControlNets) (hs : List Handsha
     pub stored : stored_bits new ≡ stored_bits old
     pub leaves : DrivesAtMost old new (told_nets nets hs)
     pub driven : AreDriven new (told_nets nets hs)
+    pub added : length new.nets ≤ length old.nets + 10 * length hs + 7
     pub shows :
         (c : Contents) (v : Family)
         → Holds new c v

@@ -1,5 +1,5 @@
 // The control of a kernel's module, from the handshakes of its ports.
-ghost use Rattle.std.specs.Prelude.{◌≡◌, ◌+◌, ◌*◌, ℕ, true, None, List, length, All, IfOk, OnOk};
+ghost use Rattle.std.specs.Prelude.{◌≡◌, ◌+◌, ◌*◌, ◌≤◌, ℕ, true, None, List, length, All, IfOk, OnOk};
 ghost use Rattle.rtl_ir.specs.Value.{bit};
 ghost use Rattle.rtl_build.specs.Signals.{Makes};
 ghost use Rattle.rtl_delays.specs.Steps.{IsSound, writes_reg};
@@ -125,6 +125,8 @@ pub fn add_control(
     ensures undriven { OnOk result
         (DrivesAtMost netlist.old netlist.new (told_nets nets ports.now)) }
     ensures driven { OnOk result (AreDriven netlist.new (told_nets nets ports.now)) }
+    ensures nets { OnOk result
+        (length netlist.new.nets ≤ length netlist.old.nets + 10 * length ports.now + 12) }
     ensures run { IfOk result (HasWidth netlist.new 1) }
     ensures control { IfOk result (λ run. (nodes : List Node) (times : ℕ → ℕ) (q : ModuleNets)
         → AreNetsOf nodes times q nets ports.now → IsControl netlist.new nodes times q run.net) }

@@ -1,5 +1,5 @@
 // The position of a kernel's module.
-ghost use Rattle.std.specs.Prelude.{◌≡◌, true, false, None, OnOk};
+ghost use Rattle.std.specs.Prelude.{◌≡◌, ◌+◌, ◌≤◌, true, false, None, length, OnOk};
 ghost use Rattle.rtl_delays.specs.Steps.{IsSound, writes_reg};
 ghost use Rattle.rtl_delays.specs.Extends.{Extends, KeepsStill, LeavesFree};
 ghost use Rattle.rtl_delays.specs.Driven.{KeepsUndriven};
@@ -31,6 +31,7 @@ pub(crate) fn close_position(
     ensures written { OnOk result (writes_reg position.net netlist.new.updates ≡ true) }
     ensures stored { OnOk result (stored_bits netlist.new ≡ stored_bits netlist.old) }
     ensures undriven { OnOk result (KeepsUndriven netlist.old netlist.new) }
+    ensures nets { OnOk result (length netlist.new.nets ≤ length netlist.old.nets + 5) }
     ensures position { OnOk result (IsPosition netlist.new position.net run.net reset.net) }
 {
     let zero = netlist.literal(Word::new(0, 48))?;

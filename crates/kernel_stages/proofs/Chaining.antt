@@ -1,5 +1,5 @@
 -- Chains of delays.
-use Rattle.std.proofs.Common.{◌≡◌, ℕ, zero, suc, ◌+◌, ◌<◌, List, [], ◌∷◌, ◌++◌, length, get_or, refl, sym, ap, subst, arith}
+use Rattle.std.proofs.Common.{◌≡◌, ℕ, zero, suc, ◌+◌, ◌<◌, List, [], ◌∷◌, ◌++◌, length, get_or, refl, sym, ap, subst, arith, length-append}
 use Rattle.std.specs.Prelude.{All}
 use Rattle.rtl_ir.specs.declared.design.Module.{Module}
 use Rattle.rtl_ir.specs.Grow.{Grows}
@@ -8,8 +8,8 @@ use Rattle.rtl_delays.specs.Steps.{IsSound}
 use Rattle.rtl_delays.specs.Delays.{IsDelay, IsTap}
 use Rattle.rtl_delays.specs.Elements.{shown, advances_of}
 use Rattle.rtl_delays.proofs.Chain.{delay_on, delay_kept}
-use Rattle.kernel_stages.specs.Numbers.{stages_at}
-use Rattle.kernel_stages.specs.Chains.{no_element, IsChain, AreChains, AreWide, chain_at}
+use Rattle.kernel_stages.specs.Numbers.{stages_at, stage_count}
+use Rattle.kernel_stages.specs.Chains.{no_element, joined, IsChain, AreChains, AreWide, chain_at}
 use Rattle.kernel_stages.specs.Closing.{Follows}
 
 -- ---- as many as stages
@@ -25,6 +25,18 @@ chains_length [] [] h = refl
 chains_length [] (c ∷ cs) h = absurd h
 chains_length (s ∷ ss) [] h = absurd h
 chains_length (s ∷ ss) (c ∷ cs) h = ap suc (chains_length ss cs h.1)
+
+-- all nodes together have a delay for each stage
+pub joined_length :
+    (stages : List (List ℕ)) (chains : List (List Element)) → AreChains stages chains → length (joined chains) ≡ stage_count stages
+joined_length [] [] h = refl
+joined_length [] (c ∷ cs) h = absurd h
+joined_length (s ∷ ss) [] h = absurd h
+joined_length (s ∷ ss) (c ∷ cs) h =
+    let both = length-append c (joined cs) in
+    let here = chain_length 0 s c h.0 in
+    let more = joined_length ss cs h.1 in
+    omega (arith, both, here, more)
 
 pub chain_of :
     (stages : List (List ℕ)) (chains : List (List Element)) (u : ℕ) → AreChains stages chains → u < length chains

@@ -9,7 +9,7 @@ use Rattle.rtl_delays.specs.declared.elements.Element.{Element}
 use Rattle.rtl_delays.specs.declared.elements.Element.TheVariants.{Register, Ring}
 use Rattle.rtl_delays.specs.Elements.{advances_of, HasElement, IsLean, pointer_bits}
 use Rattle.rtl_delays.proofs.Pointers.{pointer_is, pointer_only}
-use Rattle.kernel_stages.specs.Numbers.{differences, last_from, AreRising, place_bits, pointer_bits as stage_bits, all_word_bits, all_pointer_bits}
+use Rattle.kernel_stages.specs.Numbers.{differences, last_from, stage_count, AreRising, place_bits, pointer_bits as stage_bits, all_word_bits, all_pointer_bits}
 
 -- each of these numbers is above the one before it, by at most 2^28, and the first one above `prior`
 abbrev pub Climbs : ℕ → List ℕ → Type 0
@@ -81,3 +81,16 @@ nodes_from now total ws ss w more s rest e f h = subst (λ xs. NodesLeft now tot
 
 pub no_nodes : (now total : ℕ) (ws : List ℕ) (ss : List (List ℕ)) → ws ≡ [] → ss ≡ [] → NodesLeft now total ws ss → now ≡ total
 no_nodes now total ws ss e f h = let q = subst (λ xs. NodesLeft now total xs []) e (subst (NodesLeft now total ws) f h) in omega (arith, q)
+
+-- ---- nets
+
+-- the nets of the delays that are left, one delay further
+pub nets_left :
+    (now next total s : ℕ) (ss rest : List ℕ) → ss ≡ s ∷ rest → next ≤ now + 2 → now + 2 * length ss ≤ total → next + 2 * length rest ≤ total
+nets_left now next total s ss rest e f h = let size = ap length e in omega (arith, size, f, h)
+
+-- the nets of the delays of the nodes that are left, one node further
+pub nodes_nets_left :
+    (now next total : ℕ) (s : List ℕ) (ss rest : List (List ℕ)) → ss ≡ s ∷ rest → next ≤ now + 2 * length s → now + 2 * stage_count ss ≤ total
+    → next + 2 * stage_count rest ≤ total
+nodes_nets_left now next total s ss rest e f h = let size = ap stage_count e in omega (arith, size, f, h)

@@ -10,6 +10,7 @@ use Rattle.std.specs.Prelude.{
   List,
   [],
   ◌∷◌,
+  length,
   slice_index_or,
   sum_by,
   All,
@@ -46,6 +47,11 @@ place_bits words = 32 - count_leading_zeros 32 (words - 1)
 -- words
 abbrev pub pointer_bits : List ℕ → ℕ
 pointer_bits stages = sum_by place_bits (differences 0 stages)
+
+-- how many stages all nodes have together
+abbrev pub stage_count : List (List ℕ) → ℕ
+stage_count [] = 0
+stage_count (stages ∷ rest) = length stages + stage_count rest
 
 -- the bits of the pointers of all nodes
 abbrev pub all_pointer_bits : List (List ℕ) → ℕ

@@ -1,12 +1,18 @@
 -- Delays of nodes that are added to a module.
-use Rattle.std.specs.Prelude.{◌≡◌, ℕ, ◌+◌, ◌*◌, List, length, All}
+use Rattle.std.specs.Prelude.{◌≡◌, ℕ, ◌+◌, ◌*◌, ◌≤◌, List, length, All}
 use Rattle.rtl_ir.specs.declared.design.Module.{Module}
 use Rattle.rtl_delays.specs.declared.elements.Element.{Element}
 use Rattle.rtl_delays.specs.Extends.{Extends}
 use Rattle.rtl_delays.specs.Driven.{KeepsUndriven}
 use Rattle.rtl_delays.specs.Stored.{stored_bits}
 use Rattle.rtl_delays.specs.Elements.{shown, AreFree}
-use Rattle.kernel_stages.specs.Numbers.{last_from, pointer_bits, all_pointer_bits, all_word_bits}
+use Rattle.kernel_stages.specs.Numbers.{
+  last_from,
+  stage_count,
+  pointer_bits,
+  all_pointer_bits,
+  all_word_bits,
+}
 use Rattle.kernel_stages.specs.Chains.{joined, IsChain, AreChains, AreWide, AddsRegistersOf}
 
 -- the delays stand in the new module, nothing writes them yet, and their registers and memories
@@ -29,6 +35,7 @@ pub record AddsChain (old new : Module) (width : ℕ) (stages : List ℕ) (chain
     pub undriven : KeepsUndriven old new
     pub stored :
         stored_bits new ≡ stored_bits old + width * last_from 0 stages + pointer_bits stages
+    pub nets : length new.nets ≤ length old.nets + 2 * length stages
 
 -- The delays of all nodes were added, which nothing writes yet. Their registers and memories come
 -- after all that stood.
@@ -45,3 +52,4 @@ pub record AddsChains (old new : Module) (widths : List ℕ) (stages : List (Lis
     pub stored :
         stored_bits new
         ≡ stored_bits old + all_word_bits widths stages + all_pointer_bits stages
+    pub nets : length new.nets ≤ length old.nets + 2 * stage_count stages

@@ -1,5 +1,5 @@
 // Delays that follow words.
-ghost use Rattle.std.specs.Prelude.{◌≡◌, length, All, OnOk};
+ghost use Rattle.std.specs.Prelude.{◌≡◌, ◌+◌, ◌*◌, ◌≤◌, length, All, OnOk};
 ghost use Rattle.rtl_build.specs.Signals.{HasSignal};
 ghost use Rattle.rtl_delays.specs.Steps.{IsSound};
 ghost use Rattle.rtl_delays.specs.Extends.{Extends, AddsNoRegister, KeepsStill};
@@ -34,6 +34,8 @@ fn close_chain(
     ensures registers { OnOk result (AddsNoRegister netlist.old netlist.new) }
     ensures undriven { OnOk result (KeepsUndriven netlist.old netlist.new) }
     ensures stored { OnOk result (stored_bits netlist.new ≡ stored_bits netlist.old) }
+    ensures nets { OnOk result
+        (length netlist.new.nets ≤ length netlist.old.nets + 8 * length chain.now) }
     ensures follows { OnOk result (Follows netlist.new run.net reset.net word.net chain.now) }
 {
     let mut from = word;
@@ -70,6 +72,8 @@ pub fn close_stages(
     ensures registers { OnOk result (AddsNoRegister netlist.old netlist.new) }
     ensures undriven { OnOk result (KeepsUndriven netlist.old netlist.new) }
     ensures stored { OnOk result (stored_bits netlist.new ≡ stored_bits netlist.old) }
+    ensures nets { OnOk result
+        (length netlist.new.nets ≤ length netlist.old.nets + 8 * length (joined elements.now)) }
     ensures delays { OnOk result
         (AreDelays netlist.new run.net reset.net words.now elements.now) }
 {

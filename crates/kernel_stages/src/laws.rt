@@ -1,12 +1,12 @@
 // Laws of delays, each the contract of a function that does nothing.
-ghost use Rattle.std.specs.Prelude.{◌≡◌, ◌≤◌, ◌^◌, ℕ, List};
+ghost use Rattle.std.specs.Prelude.{◌≡◌, ◌≤◌, ◌^◌, ℕ, List, length};
 ghost use Rattle.rtl_ir.specs.declared.design.Module.{Module};
 ghost use Rattle.rtl_build.specs.declared.signal.Signal.{Signal};
 ghost use Rattle.rtl_delays.specs.declared.elements.Element.{Element};
 ghost use Rattle.rtl_delays.specs.Delays.{IsDelay};
 ghost use Rattle.rtl_delays.specs.Rings.{IsPointerWidth};
-ghost use Rattle.kernel_stages.specs.Numbers.{place_bits};
-ghost use Rattle.kernel_stages.specs.Chains.{word_at, AreChains, AreWide, IsStage};
+ghost use Rattle.kernel_stages.specs.Numbers.{place_bits, stage_count};
+ghost use Rattle.kernel_stages.specs.Chains.{word_at, joined, AreChains, AreWide, IsStage};
 ghost use Rattle.kernel_stages.specs.Closing.{AreWords, MayFollowWords, AreDelays};
 
 /// A pointer has the fewest bits that hold each number below that of its words, and a delay of one
@@ -15,6 +15,12 @@ pub fn pointer_sizes()
     ensures one { place_bits 1 ≡ 0 }
     ensures fewest { (words : ℕ) → 2 ≤ words → words ≤ 2 ^ 32
         → IsPointerWidth words (place_bits words) }
+{}
+
+/// There is one delay for each stage.
+pub fn delay_counts()
+    ensures { (stages : List (List ℕ)) (chains : List (List Element))
+        → AreChains stages chains → length (joined chains) ≡ stage_count stages }
 {}
 
 /// The delays of `start_stages` may follow words of the widths for which they were started.

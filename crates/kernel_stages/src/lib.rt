@@ -13,5 +13,5 @@ mod starting;
 
 pub use closing::close_stages;
 pub use finding::stage_of;
-pub use laws::{followed_words, kept_words, pointer_sizes};
+pub use laws::{delay_counts, followed_words, kept_words, pointer_sizes};
 pub use starting::start_stages;

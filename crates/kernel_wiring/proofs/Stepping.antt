@@ -372,7 +372,7 @@ module _ (nodes : List Node) (o : IsOrderly nodes) (t : AreTyped nodes) (layout 
   all_wired m words k e w = record {
     wires =
         let few = few_apart (length nodes) layout.order (λ i h. node_in nodes o t layout laid i h) (λ i j l h q. apart i j l h (sym q)) in
-        only_less old m (1024 * k) (2048 * length nodes) (omega (arith, e, few)) w.wires;
+        only_less old m (1024 * k) (1024 * length nodes) (omega (arith, e, few)) w.wires;
     counted = w.size;
     given = w.given;
     words = λ u h has. word_there m words k w u h has

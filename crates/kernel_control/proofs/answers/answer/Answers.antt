@@ -4,7 +4,7 @@ use Rattle.rtl_ir.specs.declared.design.Module.{Module}
 use Rattle.rtl_delays.proofs.Extends.{makes_extends, drive_extends, extends_on}
 use Rattle.rtl_delays.proofs.Undriven.{wires_undriven, drive_undriven}
 use Rattle.rtl_delays.proofs.Stored.{wires_stored, drive_stored}
-use Rattle.kernel_control.proofs.Kept.{more_nets, bit_output_kept}
+use Rattle.kernel_control.proofs.Kept.{more_nets, drive_nets, bit_output_kept}
 use Rattle.kernel_control.proofs.Outs.{driven_last}
 use Rattle.kernel_control.proofs.answers.answer.Goals as goal
 
@@ -31,4 +31,5 @@ returns c =
       leaves = λ k lt h apart. drive_undriven d k (let a = more_nets g in omega (arith, a, lt)) (wires_undriven told.adds k lt h) apart;
       driven = driven_last d;
       told = λ s v h. d.value s v h ∙ told.value s v (d.before s v h);
+      nets = let same = drive_nets d in let one = told.adds.count in omega (arith, same, one);
     }) c.drive.ensures

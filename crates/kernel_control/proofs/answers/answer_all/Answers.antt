@@ -1,4 +1,4 @@
-use Rattle.std.proofs.Common.{◌+◌, drop, get_or, refl, sym, subst, ◌∙◌, length, arith}
+use Rattle.std.proofs.Common.{◌+◌, drop, get_or, refl, sym, ap, subst, ◌∙◌, length, arith}
 use Rattle.rtl_delays.proofs.Extends.{extends_same, extends_on}
 use Rattle.kernel_control.specs.Outputs.{AreUndriven, AreDriven}
 use Rattle.kernel_control.specs.Answers.{answers_of, AreTold}
@@ -18,6 +18,7 @@ loop-port-init c =
       undriven = q.undriven;
       driven = λ m e h. h;
       told = λ m e h. h;
+      nets = omega arith;
     }
 
 pub answer-requires-clause-sound : goal.answer-requires-clause-sound
@@ -59,6 +60,7 @@ loop-port-preserved c =
           (subst (λ ss. AreDriven x (answers_of ss)) (sym front) (driven_kept e.grows port.answer.net d.driven, h));
       told = λ x e h. i.told x (extends_on d.extends e)
           (subst (AreTold x run) (sym front) ((λ a v q. d.told a v (e.before a v q)), h));
+      nets = let size = ap length front in let left = i.nets in let one = d.nets in omega (arith, size, left, one);
     }
 
 pub returns : goal.returns
@@ -75,4 +77,5 @@ returns c =
       leaves = i.leaves;
       driven = i.driven m same (driven_left m k ports c.loop-port-test.false);
       told = i.told m same (told_left m c.args.run.net k ports c.loop-port-test.false);
+      nets = let left = i.nets in omega (arith, left);
     }

@@ -1,4 +1,4 @@
-use Rattle.std.proofs.Common.{◌≡◌, drop}
+use Rattle.std.proofs.Common.{◌≡◌, ◌+◌, ◌≤◌, length, drop}
 use Rattle.rtl_ir.specs.declared.design.Module.{Module}
 use Rattle.rtl_delays.specs.Extends.{Extends}
 use Rattle.rtl_delays.specs.Stored.{stored_bits}
@@ -16,4 +16,5 @@ invariant-loop-port l = record {
   undriven : AreUndriven l.netlist (answers_of (drop l.port-index l.ports));
   driven : (m : Module) → Extends l.netlist m → AreDriven m (answers_of (drop l.port-index l.ports)) → AreDriven m (answers_of l.ports);
   told : (m : Module) → Extends l.netlist m → AreTold m l.run.net (drop l.port-index l.ports) → AreTold m l.run.net l.ports;
+  nets : length l.netlist.nets + length (drop l.port-index l.ports) ≤ length l.fn.netlist.nets + length l.ports;
 }

@@ -47,6 +47,7 @@ returns c =
       stored = p.stored ∙ has.stored;
       undriven = λ k lt h o. p.undriven k (let a = more_nets has.extends.grows in omega (arith, a, lt)) (has.leaves k lt h o);
       driven = all_driven_kept e.grows (told_nets nets hs) has.driven;
+      nets = let a = has.added in let b = p.nets in omega (arith, a, b);
       run = has_width_kept e.grows has.run;
       control = control_built m l n nets hs r (are_small m hs c.requires.ports) has e p.position;
     }

@@ -1,4 +1,4 @@
-use Rattle.std.proofs.Common.{◌≡◌, ℕ, ◌+◌, ◌%◌, ◌^◌, List, ltb, eqb, not, length, sym, ap, ◌∙◌, subst, arith}
+use Rattle.std.proofs.Common.{◌≡◌, ℕ, ◌+◌, ◌*◌, ◌≤◌, ◌%◌, ◌^◌, List, ltb, eqb, not, length, sym, ap, ◌∙◌, subst, arith}
 use Rattle.std.specs.Prelude.{All}
 use Rattle.rtl_ir.specs.declared.design.Module.{Module}
 use Rattle.rtl_ir.specs.Value.{bit}
@@ -21,8 +21,9 @@ use Rattle.kernel_control.specs.Nets.{IsHandshake, AreControlNets, told_ports, t
 use Rattle.kernel_control.specs.Outputs.{is_one_of, AreUndriven, AreDriven}
 use Rattle.kernel_control.specs.Due.{AreDuePorts}
 use Rattle.kernel_control.specs.Serving.{IsDuePort}
-use Rattle.kernel_control.proofs.Kept.{more_nets, has_width_kept, bit_output_kept, due_ports_kept, handshakes_kept}
-use Rattle.kernel_control.proofs.Listing.{due_ports_on, each_due_port, same_answers}
+use Rattle.kernel_control.specs.Answers.{AnswersAll}
+use Rattle.kernel_control.proofs.Kept.{more_nets, drive_nets, has_width_kept, bit_output_kept, due_ports_kept, handshakes_kept}
+use Rattle.kernel_control.proofs.Listing.{due_ports_on, each_due_port, due_ports_length, same_answers}
 use Rattle.kernel_control.proofs.Outs.{told_under, under_more, undriven_kept, undriven_left, driven_kept, driven_last, or_front, or_rest}
 use Rattle.kernel_control.proofs.Built.{are_small, latest_small}
 use Rattle.kernel_control.proofs.Telling.{controls}
@@ -64,6 +65,16 @@ told_free {l} {m} {n} {k} {nets} hs adds q w free d =
     let f = told_of hs adds q w free in
     undriven_left m n nets.ended.net (drive_undriven d) (told_ports hs) f.1
     (under_more (length l.nets) (length m.nets) (told_ports hs) (more_nets adds.grows) (told_under l hs w)) f.2
+
+-- the wires of the control, for so many ports, and one for each port's answer
+told_nets_count :
+    {l m n o : Module} {output s : Signal} {run : ℕ} (k : ℕ) (ss : List DuePort) → AddsWires l m (6 * k + (4 + (3 * length ss + 3))) → Drives m n output s
+    → AnswersAll n o run ss → length ss ≡ k → length o.nets ≤ length l.nets + 10 * k + 7
+told_nets_count k ss adds d a size =
+    let wires = adds.count in
+    let drives = drive_nets d in
+    let answers = a.nets in
+    omega (arith, wires, drives, answers, size)
 
 pub due_ports-requires-clause-position : goal.due_ports-requires-clause-position
 due_ports-requires-clause-position c = record { signal = c.requires.nets.position.signal; width = c.requires.nets.position.width }
@@ -174,6 +185,7 @@ returns c =
           (drive_undriven d k (omega (arith, lt, n3)) (wires_undriven adds k lt h) (or_front (eqb nets.ended.net k) (is_one_of (told_ports hs) k) o))
           (ap (λ ns. is_one_of ns k) same ∙ or_rest (eqb nets.ended.net k) (is_one_of (told_ports hs) k) o);
       driven = (driven_kept a.extends.grows nets.ended.net (driven_last d), subst (AreDriven m5) same a.driven);
+      added = told_nets_count (length hs) ss adds d a (due_ports_length m1 p t hs ss due);
       shows = λ k v h.
           let h4 = a.extends.before k v h in
           let h3 = d.before k v h4 in

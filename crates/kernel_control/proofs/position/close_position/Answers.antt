@@ -1,4 +1,4 @@
-use Rattle.std.proofs.Common.{◌++◌, ◌∷◌, [], List, ap, sym, ◌∙◌}
+use Rattle.std.proofs.Common.{◌++◌, ◌∷◌, [], List, ap, sym, ◌∙◌, arith}
 use Rattle.std.proofs.lemmas.Result.{on_ok_weaker}
 use Rattle.rtl_ir.specs.declared.design.Module.{Module}
 use Rattle.rtl_ir.specs.declared.design.Update.{Update}
@@ -20,6 +20,7 @@ use Rattle.rtl_delays.proofs.Undriven.{wires_undriven, update_undriven, undriven
 use Rattle.rtl_delays.proofs.Stored.{wires_stored, update_stored}
 use Rattle.rtl_delays.proofs.Delaying.{update_moves}
 use Rattle.kernel_control.proofs.Bits.{after, bit_fits}
+use Rattle.kernel_control.proofs.Kept.{update_nets}
 use Rattle.kernel_control.proofs.Counting.{writes_last, is_cleared, is_raised}
 use Rattle.kernel_control.proofs.position.close_position.Goals as goal
 
@@ -64,6 +65,7 @@ returns c =
       undriven = on_ok_weaker c.update.result
           (λ a. undriven_on c.args.netlist.now c.binary-2.new.self c.update.new.self all.adds.grows (wires_undriven all.adds)
           (update_undriven a)) c.update.ensures;
+      nets = on_ok_weaker c.update.result (λ a. let same = update_nets a in let five = all.adds.count in omega (arith, same, five)) c.update.ensures;
       position = on_ok_weaker c.update.result (λ a.
           let e = update_extends wires.sound may a in
           record {

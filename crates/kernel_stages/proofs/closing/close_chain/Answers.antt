@@ -1,4 +1,4 @@
-use Rattle.std.proofs.Common.{◌≡◌, ◌+◌, ◌∷◌, drop, get_or, refl, sym, ap, ◌∙◌, subst, arith}
+use Rattle.std.proofs.Common.{◌≡◌, ◌+◌, ◌∷◌, length, drop, get_or, refl, sym, ap, ◌∙◌, subst, arith}
 use Rattle.rtl_build.specs.declared.signal.Signal.{Signal}
 use Rattle.rtl_build.specs.Signals.{HasSignal}
 use Rattle.rtl_delays.specs.Elements.{shown, advances_of, reg_of, mem_of, past, AreFree}
@@ -24,6 +24,7 @@ loop-element-init c =
       registers = λ n h. h;
       undriven = same_undriven m m refl;
       stored = refl;
+      nets = omega arith;
       free = q.free;
       may = λ j d le lt. q.word j d lt;
       follows = λ p e h. h;
@@ -59,6 +60,7 @@ loop-element-preserved c =
       registers = no_register_on l m n i.registers x.registers;
       undriven = undriven_on l m n i.extends.grows i.undriven x.undriven;
       stored = x.stored ∙ i.stored;
+      nets = let size = ap length front in let was = i.nets in let grown = x.nets in omega (arith, size, was, grown);
       free = record {
         reg = reg_of e + 1;
         mem = past f.mem (mem_of e);
@@ -95,3 +97,6 @@ returns-clause-follows c =
     let i = c.loop-element.invariant in
     let end = drop_all c.args.chain.now c.loop-element.element-index c.loop-element-test.false in
     i.follows m (extends_same i.extends.sound) (subst (Follows m c.args.run.net c.args.reset.net c.loop-element.from.net) (sym end) tt)
+
+pub returns-clause-nets : goal.returns-clause-nets
+returns-clause-nets c = let was = c.loop-element.invariant.nets in omega (arith, was)

@@ -1,4 +1,4 @@
-use Rattle.std.proofs.Common.{◌≡◌, ℕ, ◌<◌, ◌≤◌, length, drop, get_or}
+use Rattle.std.proofs.Common.{◌≡◌, ℕ, ◌+◌, ◌*◌, ◌<◌, ◌≤◌, length, drop, get_or}
 use Rattle.rtl_ir.specs.declared.design.Module.{Module}
 use Rattle.rtl_delays.specs.declared.elements.Element.{Element}
 use Rattle.rtl_delays.specs.Extends.{Extends, AddsNoRegister, KeepsStill}
@@ -18,6 +18,7 @@ invariant-loop-element l = record {
   registers : AddsNoRegister l.fn.netlist l.netlist;
   undriven : KeepsUndriven l.fn.netlist l.netlist;
   stored : stored_bits l.netlist ≡ stored_bits l.fn.netlist;
+  nets : length l.netlist.nets + 8 * length (drop l.element-index l.chain) ≤ length l.fn.netlist.nets + 8 * length l.chain;
   free : AreFreeIn l.netlist (drop l.element-index l.chain);
   may : (j : ℕ) (d : Element) → l.element-index ≤ j → j < length l.chain → MayFollow l.netlist l.from (get_or l.chain j d);
   follows :

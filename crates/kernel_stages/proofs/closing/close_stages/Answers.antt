@@ -1,4 +1,4 @@
-use Rattle.std.proofs.Common.{◌≡◌, ◌+◌, ◌++◌, ◌∷◌, [], drop, get_or, refl, sym, ◌∙◌, subst, arith}
+use Rattle.std.proofs.Common.{◌≡◌, ◌+◌, ◌++◌, ◌∷◌, [], length, drop, get_or, refl, sym, ap, ◌∙◌, subst, arith, length-append}
 use Rattle.std.specs.Prelude.{All}
 use Rattle.rtl_delays.specs.Elements.{AreFree}
 use Rattle.rtl_delays.proofs.Extends.{extends_same, extends_on, still_same, still_on}
@@ -23,6 +23,7 @@ loop-node-init c =
       registers = λ n h. h;
       undriven = same_undriven m m refl;
       stored = refl;
+      nets = omega arith;
       free = q.free;
       linked = λ u lt. absurd (omega arith);
     }
@@ -97,6 +98,13 @@ loop-node-preserved c =
       registers = no_register_on l m n i.registers x.registers;
       undriven = undriven_on l m n i.extends.grows i.undriven x.undriven;
       stored = x.stored ∙ i.stored;
+      nets =
+          let size = ap (λ cs. length (joined cs)) front in
+          let both = length-append chain (joined rest) in
+          let long = ap length given in
+          let was = i.nets in
+          let grown = x.nets in
+          omega (arith, size, both, long, was, grown);
       free = record {
         reg = a;
         mem = b;
@@ -129,3 +137,6 @@ returns-clause-delays c = λ stages h u j lu lj.
     let linked = c.loop-node.invariant.linked u (omega (arith, le, lu)) in
     delays_behind m c.args.run.net c.args.reset.net word word 0 (get_or stages u []) (chain_at chains u) refl linked.follows
     (chain_of stages chains u h lu) linked.some j lj
+
+pub returns-clause-nets : goal.returns-clause-nets
+returns-clause-nets c = let was = c.loop-node.invariant.nets in omega (arith, was)

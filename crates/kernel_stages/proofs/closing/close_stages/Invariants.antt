@@ -1,4 +1,4 @@
-use Rattle.std.proofs.Common.{◌≡◌, ℕ, ◌<◌, drop}
+use Rattle.std.proofs.Common.{◌≡◌, ℕ, ◌+◌, ◌*◌, ◌<◌, ◌≤◌, length, drop}
 use Rattle.rtl_ir.specs.declared.design.Module.{Module}
 use Rattle.rtl_delays.specs.Extends.{Extends, AddsNoRegister, KeepsStill}
 use Rattle.rtl_delays.specs.Driven.{KeepsUndriven}
@@ -18,6 +18,7 @@ invariant-loop-node l = record {
   registers : AddsNoRegister l.fn.netlist l.netlist;
   undriven : KeepsUndriven l.fn.netlist l.netlist;
   stored : stored_bits l.netlist ≡ stored_bits l.fn.netlist;
+  nets : length l.netlist.nets + 8 * length (joined (drop l.node l.elements)) ≤ length l.fn.netlist.nets + 8 * length (joined l.elements);
   free : AreFreeIn l.netlist (joined (drop l.node l.elements));
   linked : (u : ℕ) → u < l.node → Linked l.netlist l.run.net l.reset.net (word_at l.words u).net (chain_at l.elements u);
 }

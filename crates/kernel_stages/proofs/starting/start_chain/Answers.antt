@@ -10,7 +10,7 @@ use Rattle.rtl_delays.proofs.Extends.{more_mems}
 use Rattle.kernel_stages.specs.Numbers.{differences, last_from, place_bits, pointer_bits}
 use Rattle.kernel_stages.specs.Chains.{IsChain, AddsRegistersOf}
 use Rattle.kernel_stages.proofs.Lists.{drop_front, drop_all, all_more}
-use Rattle.kernel_stages.proofs.Climbing.{Climbs, climbs, lean_bits, left_from, bits_left, none_left}
+use Rattle.kernel_stages.proofs.Climbing.{Climbs, climbs, lean_bits, left_from, bits_left, none_left, nets_left}
 use Rattle.kernel_stages.proofs.Chaining.{chain_end, chain_next}
 use Rattle.kernel_stages.proofs.Freeing.{registers_more}
 use Rattle.kernel_stages.proofs.starting.start_chain.Goals as goal
@@ -30,6 +30,7 @@ loop-stage-init c =
       only = λ n h o. h;
       undriven = same_undriven m m refl;
       stored = omega arith;
+      nets = omega arith;
     }
 
 pub loop-stage-preserved : goal.loop-stage-preserved
@@ -76,6 +77,7 @@ loop-stage-preserved c =
       undriven = undriven_on l m n i.extends.grows i.undriven x.undriven;
       stored = bits_left (stored_bits m) (stored_bits n) (stored_bits l) c.args.width prior (s - prior) s (place_bits (s - prior)) (last_from s rest)
           (c.args.width * last_from 0 stages + pointer_bits stages) (sum_by place_bits (differences s rest)) (omega (arith, above)) bits left;
+      nets = nets_left (length m.nets) (length n.nets) (length l.nets + 2 * length stages) s (drop k stages) rest front x.nets i.nets;
     }
 
 pub returns : goal.returns
@@ -94,4 +96,5 @@ returns c =
       only = i.only;
       undriven = i.undriven;
       stored = none_left (stored_bits c.loop-stage.netlist) (stored_bits c.args.netlist.now) c.args.width prior stages rest end i.stored;
+      nets = let left = i.nets in omega (arith, left);
     }

@@ -1,4 +1,4 @@
-use Rattle.std.proofs.Common.{◌≡◌, ◌+◌, ◌*◌, ◌++◌, List, length, drop}
+use Rattle.std.proofs.Common.{◌≡◌, ◌+◌, ◌*◌, ◌≤◌, ◌++◌, List, length, drop}
 use Rattle.std.specs.Prelude.{All, sum_by}
 use Rattle.rtl_delays.specs.declared.elements.Element.{Element}
 use Rattle.rtl_delays.specs.Extends.{Extends}
@@ -24,4 +24,5 @@ invariant-loop-stage l = record {
   stored :
       stored_bits l.netlist + l.width * last_from l.prior (drop l.stage-index l.stages) + sum_by place_bits (differences l.prior (drop l.stage-index l.stages))
       ≡ stored_bits l.fn.netlist + l.width * l.prior + (l.width * last_from 0 l.stages + pointer_bits l.stages);
+  nets : length l.netlist.nets + 2 * length (drop l.stage-index l.stages) ≤ length l.fn.netlist.nets + 2 * length l.stages;
 }
