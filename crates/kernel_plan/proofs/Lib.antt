@@ -1,4 +1,6 @@
 mod Bits
+mod Counted
 pub mod Facts
 mod Rising
 mod Stored
+mod Sums

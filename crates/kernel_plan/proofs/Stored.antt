@@ -17,6 +17,7 @@ use Rattle.kernel_layout.specs.Layouts.{AreAllStages}
 use Rattle.kernel_stages.specs.Numbers.{last_from, all_word_bits}
 use Rattle.kernel_rtl.specs.Planned.{widths_of}
 use Rattle.kernel_plan.specs.Stored.{latency_bits_below, latency_bits}
+use Rattle.kernel_plan.proofs.Sums.{sum_below, sum_front}
 use Rattle.kernel_plan.proofs.Bits.{has_greatest, none_below}
 use Rattle.kernel_plan.proofs.Rising.{rest_rises, first_at_most}
 
@@ -161,16 +162,6 @@ node_bits nodes u latency None start = omega (arith, ints, mul-add (width_at nod
 node_bits nodes u latency (Some d) start = product_is (width_at nodes u) latency d (start d refl)
 
 -- ---- sums
-
--- the sum of the first so many numbers
-abbrev sum_below : (ℕ → ℕ) → ℕ → ℕ
-sum_below f zero = 0
-sum_below f (suc n) = sum_below f n + f n
-
--- the first one and those behind it
-sum_front : (f : ℕ → ℕ) (n : ℕ) → sum_below f (suc n) ≡ f 0 + sum_below (λ k. f (suc k)) n
-sum_front f zero = omega arith
-sum_front f (suc n) = omega (arith, sum_front f n)
 
 -- the bits of the words that are kept of a node
 abbrev kept_at : List Node → List (List ℕ) → ℕ → ℕ

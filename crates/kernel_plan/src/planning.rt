@@ -1,12 +1,13 @@
 // The layout of a kernel's module at its least schedule.
-ghost use Rattle.std.specs.Prelude.{◌≡◌, ◌+◌, ◌^◌, ◌≤◌, ◌≤ℤ◌, ℕ, pos, slice_index, IfOk, IfErr};
+ghost use Rattle.std.specs.Prelude.{◌≡◌, ◌+◌, ◌*◌, ◌^◌, ◌≤◌, ◌≤ℤ◌, ℕ, pos, length, slice_index, IfOk, IfErr};
 ghost use Rattle.cycle_find.specs.Constraints.{numbers_of, IsSolvable};
 ghost use Rattle.kernel_layout.specs.Layouts.{IsLayout};
-ghost use Rattle.kernel_stages.specs.Numbers.{all_word_bits};
+ghost use Rattle.kernel_stages.specs.Numbers.{stage_count, all_word_bits};
 ghost use Rattle.kernel_rtl.specs.Planned.{IsPlanned, widths_of};
 ghost use Rattle.kernel_plan.specs.Planned.{IsScheduled};
 ghost use Rattle.kernel_plan.specs.Refused.{bits_in, IsRefused};
 ghost use Rattle.kernel_plan.specs.Stored.{latency_bits};
+ghost use Rattle.kernel_plan.specs.Stages.{operand_count};
 
 use crate::{Plan, PlanError};
 use fifo_sharing::share;
@@ -21,7 +22,8 @@ const MOST_BITS: i128 = 1 << 28;
 
 /// The layout of a kernel's module at its least schedule by some table of latencies, whose times
 /// are at most 2^46, with the bits of the schedule's FIFOs: the stages of the layout keep the words
-/// of these FIFOs and those of the registers behind its nodes. Errors: `TooManyBits`, with the
+/// of these FIFOs and those of the registers behind its nodes. They are at most 64 for a node, its
+/// latency, and one for an operand. Errors: `TooManyBits`, with the
 /// bits, exactly where the FIFOs hold more than 2^28 bits; else want of memory.
 pub fn plan(alloc: Global, kernel: &Kernel, schedule: &Schedule) -> Result<Plan, PlanError>
     requires least { IsScheduled kernel.now.nodes schedule.now }
@@ -36,6 +38,8 @@ pub fn plan(alloc: Global, kernel: &Kernel, schedule: &Schedule) -> Result<Plan,
     ensures stored { IfOk result (λ made.
         all_word_bits (widths_of kernel.now.nodes) made.layout.stages
         ≡ made.bits + latency_bits (slice_index schedule.now.latencies) kernel.now.nodes) }
+    ensures stages { IfOk result (λ made. stage_count made.layout.stages
+        ≤ 64 * length kernel.now.nodes + operand_count kernel.now.nodes) }
     ensures refused { IfErr result (IsRefused (bits_in kernel.now.nodes schedule.now)) }
 {
     let times = schedule.answer.times.as_slice();

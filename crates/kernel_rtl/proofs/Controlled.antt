@@ -1,5 +1,5 @@
 -- The control, as it is added.
-use Rattle.std.proofs.Common.{◌≡◌, ℕ, true, List, subst}
+use Rattle.std.proofs.Common.{◌≡◌, ℕ, ◌+◌, ◌*◌, ◌≤◌, true, List, length, subst}
 use Rattle.std.specs.Prelude.{Result, Ok, Err, IfOk, OnOk, None}
 use Rattle.rtl_ir.specs.declared.design.Module.{Module}
 use Rattle.rtl_build.specs.declared.signal.Signal.{Signal}
@@ -19,10 +19,11 @@ made : {E : Type 0} (r : Result Signal E) (old new : Module) (nets : ControlNets
     → IfOk r (λ run. KeepsStill old new run.net nets.reset.net) → OnOk r (LeavesFree old new nets.position.net None)
     → OnOk r (writes_reg nets.position.net new.updates ≡ true)
     → OnOk r (stored_bits new ≡ stored_bits old) → OnOk r (DrivesAtMost old new (told_nets nets hs)) → OnOk r (AreDriven new (told_nets nets hs))
+    → OnOk r (length new.nets ≤ length old.nets + 10 * length hs + 12)
     → IfOk r (HasWidth new 1)
     → IfOk r (λ run. (nodes : List Node) (times : ℕ → ℕ) (q : ModuleNets) → AreNetsOf nodes times q nets hs → IsControl new nodes times q run.net)
     → IfOk r (AddsControl old new nets hs)
-made (Ok run) old new nets hs extends still others written stored leaves driven one control = record {
+made (Ok run) old new nets hs extends still others written stored leaves driven count one control = record {
   extends = extends;
   still = still;
   others = others;
@@ -30,17 +31,19 @@ made (Ok run) old new nets hs extends still others written stored leaves driven 
   stored = stored;
   leaves = leaves;
   driven = driven;
+  added = count;
   one = one;
   control = control;
 }
-made (Err e) old new nets hs extends still others written stored leaves driven one control = tt
+made (Err e) old new nets hs extends still others written stored leaves driven count one control = tt
 
 pub control_added : {E : Type 0} (r : Result Signal E) (old new : Module) (nets : ControlNets) (hs to : List Handshake) → hs ≡ to → OnOk r (Extends old new)
     → IfOk r (λ run. KeepsStill old new run.net nets.reset.net) → OnOk r (LeavesFree old new nets.position.net None)
     → OnOk r (writes_reg nets.position.net new.updates ≡ true)
     → OnOk r (stored_bits new ≡ stored_bits old) → OnOk r (DrivesAtMost old new (told_nets nets hs)) → OnOk r (AreDriven new (told_nets nets hs))
+    → OnOk r (length new.nets ≤ length old.nets + 10 * length hs + 12)
     → IfOk r (HasWidth new 1)
     → IfOk r (λ run. (nodes : List Node) (times : ℕ → ℕ) (q : ModuleNets) → AreNetsOf nodes times q nets hs → IsControl new nodes times q run.net)
     → IfOk r (AddsControl old new nets to)
-control_added r old new nets hs to same extends still others written stored leaves driven one control =
-    subst (λ l. IfOk r (AddsControl old new nets l)) same (made r old new nets hs extends still others written stored leaves driven one control)
+control_added r old new nets hs to same extends still others written stored leaves driven count one control =
+    subst (λ l. IfOk r (AddsControl old new nets l)) same (made r old new nets hs extends still others written stored leaves driven count one control)

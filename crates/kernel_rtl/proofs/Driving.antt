@@ -51,6 +51,7 @@ pub record AreDrivenSo (old now : Module) (words : List Signal) (k : ℕ) (outpu
   pub extends : Extends old now
   pub updates : now.updates ≡ old.updates
   pub stored : stored_bits now ≡ stored_bits old
+  pub nets : now.nets ≡ old.nets
   pub registers : AddsNoRegister old now
   pub leaves : DrivesAtMost old now (data_nets outputs)
   pub undriven : AreUndriven now (data_nets (drop k outputs))
@@ -78,6 +79,7 @@ one_driven old now new words k outputs h lt may d =
       extends = extends_on h.extends e;
       updates = ap (λ (x : Module). x.updates) d.is ∙ h.updates;
       stored = drive_stored d ∙ h.stored;
+      nets = ap (λ (x : Module). x.nets) d.is ∙ h.nets;
       registers = no_register_on old now new h.registers (drive_no_register d);
       leaves = λ x lx free_x none. drive_undriven d x (let a = more_nets h.extends.grows in omega (arith, a, lx)) (h.leaves x lx free_x none)
           (data_among outputs k x no_stream lt none);

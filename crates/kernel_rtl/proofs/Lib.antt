@@ -12,3 +12,4 @@ pub mod Controlled
 pub mod Giving
 pub mod Joining
 pub mod Whole
+pub mod Sizes

@@ -49,6 +49,7 @@ position_added m n name s alone named a =
           ∙ ap (λ l. net_name (slice_get l (length m.nets))) nets
           ∙ ap net_name (get_last m.nets added)
           ∙ named;
+      nets = let y = ap length nets in let z = length-append m.nets (added ∷ []) in omega (arith, y, z);
       last = let x = a.net in let y = ap length nets in let z = length-append m.nets (added ∷ []) in omega (arith, x, y, z);
       updates = ap (λ (x : Module). x.updates) a.is;
       only = register_one a;
@@ -81,6 +82,7 @@ storage_added l m n nodes widths stages s same p h =
       only = λ k reg other none. p.only k (c.only k reg none) other;
       undriven = undriven_on l m n p.extends.grows p.undriven c.undriven;
       stored = let a = p.stored in let b = c.stored in omega (arith, a, b);
+      nets = let a = p.nets in let b = c.nets in omega (arith, a, b);
     }
 
 pub all_stand : (m : Module) (a b : ℕ) (es : List Element) (nets mems : ℕ) → AreFree m a b es nets mems → All (HasElement m) es

@@ -192,6 +192,7 @@ words_added l m n nodes layout ports delays before after streams given a d =
       extends = extends_on w.extends e;
       updates = d.updates ∙ w.updates;
       stored = d.stored ∙ w.stored;
+      nets = let x = ap length d.nets in let y = w.nets in omega (arith, x, y);
       registers = no_register_on l m n w.registers d.registers;
       leaves = λ k lt free none. d.leaves k (let q = more_nets w.extends.grows in omega (arith, q, lt)) (w.undriven k lt free) none;
       driven = d.driven;

@@ -1,5 +1,5 @@
 -- The handshakes of a kernel's ports, and the control that is made of them.
-use Rattle.std.specs.Prelude.{◌≡◌, ℕ, ◌<◌, true, None, ℤ, pos, ◌≤ℤ◌, List, map, ◌++◌, length}
+use Rattle.std.specs.Prelude.{◌≡◌, ℕ, ◌+◌, ◌*◌, ◌<◌, ◌≤◌, true, None, ℤ, pos, ◌≤ℤ◌, List, map, ◌++◌, length}
 use Rattle.cycle_find.specs.Constraints.{numbers_of}
 use Rattle.rtl_ir.specs.declared.design.Module.{Module}
 use Rattle.rtl_build.specs.declared.signal.Signal.{Signal}
@@ -58,6 +58,7 @@ pub record AddsControl (old new : Module) (nets : ControlNets) (ports : List Han
     pub stored : stored_bits new ≡ stored_bits old
     pub leaves : DrivesAtMost old new (told_nets nets ports)
     pub driven : AreDriven new (told_nets nets ports)
+    pub added : length new.nets ≤ length old.nets + 10 * length ports + 12
     pub one : HasWidth new 1 run
     pub control :
         (nodes : List Node) (times : ℕ → ℕ) (q : ModuleNets)

@@ -2,6 +2,8 @@
 use Rattle.std.specs.Prelude.{
   ◌≡◌,
   ℕ,
+  ◌+◌,
+  ◌*◌,
   ◌<◌,
   ◌≤◌,
   ◌^◌,
@@ -29,9 +31,10 @@ use Rattle.stream_graph.specs.declared.node.Node.{Node}
 use Rattle.offset_edges.specs.Edges.{kind_at, operands_at, is_offset, edges_of}
 use Rattle.offset_edges.specs.Schedules.{IsLegal}
 use Rattle.stream_equations.specs.Equations.{control_of}
+use Rattle.kernel_control.specs.Ports.{inputs_of, outputs_of, ended_port}
 use Rattle.kernel_layout.specs.declared.layout.Layout.{Layout}
 use Rattle.kernel_layout.specs.Layouts.{IsLayout}
-use Rattle.kernel_stages.specs.Numbers.{differences}
+use Rattle.kernel_stages.specs.Numbers.{differences, stage_count}
 
 -- whether a node of this kind gets its hardware here: inputs, outputs, constants, operations,
 -- offsets and feeds do
@@ -81,6 +84,15 @@ pub record IsPlanned (nodes : List Node) (times : Numbers) (layout : Layout) : T
 -- the times of nodes, none of which is below 0, as natural numbers
 abbrev pub times_of : List ℤ → ℕ → ℕ
 times_of times = λ n. unsigned_abs (numbers_of times n)
+
+-- The most nets that the module of a kernel with these stages has: those of its ports and of its
+-- position, at most 1,024 for the wires of a node, 10 for a stage, and 10 for a port's handshake
+-- and 12 beside for the control.
+abbrev pub most_nets : List Node → List (List ℕ) → ℕ
+most_nets nodes stages =
+    (ended_port nodes + 2) + 1024 * length nodes + 10 * stage_count stages
+    + 10 * (length (inputs_of nodes) + length (outputs_of nodes))
+    + 12
 
 -- the bits of each node's words, in node order
 abbrev pub widths_of : List Node → List ℕ

@@ -2,7 +2,10 @@
 use Rattle.std.specs.Prelude.{
   ◌≡◌,
   ℕ,
+  ◌+◌,
+  ◌*◌,
   ◌<◌,
+  ◌≤◌,
   true,
   List,
   map,
@@ -86,6 +89,7 @@ pub record DrivesWords (old new : Module) (words : List Signal) (outputs : List 
     pub registers : AddsNoRegister old new
     pub leaves : DrivesAtMost old new (data_nets outputs)
     pub driven : AreDriven new (data_nets outputs)
+    pub nets : new.nets ≡ old.nets
     pub shows : All (IsDriven new words) outputs
 
 -- ---- nodes
@@ -109,6 +113,7 @@ pub record AddsWords (old new : Module) (nodes : List Node) (layout : Layout)
     pub registers : AddsNoRegister old new
     pub leaves : DrivesAtMost old new (data_nets ports.outputs)
     pub driven : AreDriven new (data_nets ports.outputs)
+    pub nets : length new.nets ≤ length old.nets + 1024 * length nodes
     pub shows : All (IsDriven new words) ports.outputs
     pub counted : length words ≡ length nodes
     pub given :

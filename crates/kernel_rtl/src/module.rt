@@ -6,7 +6,7 @@ ghost use Rattle.rtl_delays.specs.Stored.{stored_bits};
 ghost use Rattle.rtl_reading.specs.Reads.{IsPortsFirst};
 ghost use Rattle.kernel_control.specs.Refines.{Refines};
 ghost use Rattle.kernel_stages.specs.Numbers.{all_word_bits, all_pointer_bits};
-ghost use Rattle.kernel_rtl.specs.Planned.{IsPlain, IsPlanned, times_of, widths_of};
+ghost use Rattle.kernel_rtl.specs.Planned.{IsPlain, IsPlanned, times_of, widths_of, most_nets};
 
 use crate::control::control;
 use crate::storage::start_storage;
@@ -34,7 +34,8 @@ fn finished(netlist: Netlist) -> Module
 
 /// The module of a kernel at these times, by a layout at them: it refines the kernel, its ports are
 /// its first nets, in their order, and it stores the 48 bits of its position, the words that its
-/// nodes' stages keep, and the pointers of those that are kept in memories.
+/// nodes' stages keep, and the pointers of those that are kept in memories. Its nets are at most
+/// `most_nets`.
 ///
 /// The kernel's name is a letter and then letters, digits and `_`. Times are in advances, from 0 to
 /// 2^46, in node order. The only error is `NoMemory`, also where the module has 2^32 nets.
@@ -53,6 +54,8 @@ pub fn kernel_module(
     ensures stored { IfOk result (λ built. stored_bits built
         ≡ 48 + all_word_bits (widths_of kernel.now.nodes) layout.now.stages
         + all_pointer_bits layout.now.stages) }
+    ensures nets { IfOk result (λ built.
+        length built.nets ≤ most_nets kernel.now.nodes layout.now.stages) }
 {
     let (mut netlist, ports) = kernel_ports(alloc, kernel)?;
     let storage = start_storage(alloc, &mut netlist, kernel, layout)?;

@@ -1,4 +1,4 @@
-use Rattle.std.proofs.Common.{◌+◌, ◌<◌, ◌^◌, ◌∙◌, length, sym, ap, subst, arith}
+use Rattle.std.proofs.Common.{◌+◌, ◌*◌, ◌<◌, ◌≤◌, ◌^◌, ◌∙◌, length, sym, ap, subst, arith}
 use Rattle.std.specs.Prelude.{All}
 use Rattle.cycle_find.specs.Constraints.{numbers_of}
 use Rattle.rtl_ir.specs.declared.design.Module.{Module}
@@ -12,11 +12,12 @@ use Rattle.kernel_control.specs.Refines.{Refines}
 use Rattle.kernel_stages.specs.Chains.{joined, AreFreeIn}
 use Rattle.kernel_stages.specs.Closing.{MayFollowWords}
 use Rattle.kernel_stages.proofs.Chaining.{chains_length}
-use Rattle.kernel_rtl.specs.Planned.{times_of}
+use Rattle.kernel_rtl.specs.Planned.{times_of, most_nets}
 use Rattle.kernel_rtl.proofs.Starting.{all_stand, are_rising}
 use Rattle.kernel_rtl.proofs.Joining.{words_named, streams_on, data_undriven, told_undriven, control_nets_stand, handshakes_stand, delays_free, inputs_timed, outputs_timed, words_follow}
 use Rattle.kernel_rtl.proofs.PortsFirst.{ports_first}
 use Rattle.kernel_rtl.proofs.Whole.{ClosesDelays, closed_named, stored, refines}
+use Rattle.kernel_rtl.proofs.Sizes.{net_count}
 use Rattle.kernel_rtl.proofs.module.kernel_module.Goals as goal
 
 pub start_storage-requires-clause-stages : goal.start_storage-requires-clause-stages
@@ -175,3 +176,18 @@ returns-clause-stored c =
     ∙ stored a b w t e kernel.nodes c.args.layout.now.stages storage c.in_ok-netlist.ensures.alone c.in_ok-storage.ensures c.in_ok-words.ensures.stored
     c.in_ok-run.ensures.stored
     z.stored
+
+pub returns-clause-nets : goal.returns-clause-nets
+returns-clause-nets c =
+    let kernel = c.args.kernel.now in
+    let layout = c.args.layout.now in
+    let storage = c.in_ok-storage.storage in
+    let a = c.in_ok-netlist.netlist in
+    let b = c.start_storage.new.netlist in
+    let w = c.add_words.new.netlist in
+    let t = c.control.new.netlist in
+    let e = c.close_stages.new.netlist in
+    let closed = subst (λ es. length e.nets ≤ length t.nets + 8 * length (joined es)) c.as_slice-delays.ensures c.in_ok-close_stages.ensures.nets in
+    subst (λ (x : Module). length x.nets ≤ most_nets kernel.nodes layout.stages) (sym c.finished.ensures.whole)
+    (net_count kernel (times_of c.args.times.now) layout a b w t e c.in_ok-netlist.ports storage c.in_ok-netlist.ensures c.in_ok-storage.ensures
+    c.in_ok-words.ensures.nets c.in_ok-run.ensures.added closed)

@@ -1,0 +1,66 @@
+-- How many nets the module of a kernel has.
+use Rattle.std.proofs.Common.{◌≡◌, ℕ, ◌+◌, ◌*◌, ◌≤◌, List, [], ◌∷◌, ◌++◌, map, length, ap, arith, length-append}
+use Rattle.rtl_ir.specs.declared.design.Module.{Module}
+use Rattle.rtl_ir.specs.Ports.{PortView, output_port, host_input_ports, host_output_ports, port_view}
+use Rattle.std.specs.Prelude.{codes}
+use Rattle.stream_graph.specs.declared.kernel.Kernel.{Kernel}
+use Rattle.stream_graph.specs.declared.node.Node.{Node}
+use Rattle.kernel_control.specs.Ports.{scalars_of, inputs_of, outputs_of, port_shape, scalar_ports, module_ports, ended_port}
+use Rattle.kernel_ports.specs.declared.signals.StreamSignals.{StreamSignals}
+use Rattle.kernel_ports.specs.declared.signals.KernelSignals.{KernelSignals}
+use Rattle.kernel_ports.specs.HasKernelPorts.{HasKernelPorts}
+use Rattle.kernel_ports.proofs.Whole.{count_scalars, count_inputs, count_outputs}
+use Rattle.kernel_stages.specs.Chains.{joined}
+use Rattle.kernel_stages.proofs.Chaining.{joined_length}
+use Rattle.kernel_layout.specs.declared.layout.Layout.{Layout}
+use Rattle.kernel_rtl.specs.declared.storage.Storage.{Storage}
+use Rattle.kernel_rtl.specs.Planned.{most_nets}
+use Rattle.kernel_rtl.specs.Storage.{AddsStorage}
+use Rattle.kernel_rtl.specs.Handshakes.{input_handshake, output_handshake, handshakes_of}
+use Rattle.kernel_rtl.proofs.Numbers.{map_length}
+use Rattle.kernel_rtl.proofs.Joining.{input_nodes, output_nodes}
+
+-- the ports of the module are numbered up to the one that says whether it has ended
+ports_count : (nodes : List Node) → length (module_ports nodes) ≡ ended_port nodes + 1
+ports_count nodes =
+    let scalars = scalar_ports (map (port_shape nodes) (scalars_of nodes)) in
+    let inputs = host_input_ports (map (port_shape nodes) (inputs_of nodes)) in
+    let outputs = host_output_ports (map (port_shape nodes) (outputs_of nodes)) in
+    let last : List PortView = output_port (codes "ended$") 1 ∷ [] in
+    let a = length-append (scalars ++ inputs ++ outputs) last in
+    let b = length-append (scalars ++ inputs) outputs in
+    let c = length-append scalars inputs in
+    let i = count_scalars nodes (scalars_of nodes) in
+    let j = count_inputs nodes (inputs_of nodes) in
+    let k = count_outputs nodes (outputs_of nodes) in
+    omega (arith, a, b, c, i, j, k)
+
+-- a control has a handshake for each input and output
+handshake_count : (kernel : Kernel) (times : ℕ → ℕ) (m : Module) (ports : KernelSignals) → HasKernelPorts kernel m ports
+    → length (handshakes_of times ports) ≡ length (inputs_of kernel.nodes) + length (outputs_of kernel.nodes)
+handshake_count kernel times m ports p =
+    let a = length-append (map (input_handshake times) ports.inputs) (map (output_handshake times) ports.outputs) in
+    let b = map_length (input_handshake times) ports.inputs in
+    let c = map_length (output_handshake times) ports.outputs in
+    let d = map_length (λ (s : StreamSignals). s.node) ports.inputs in
+    let e = map_length (λ (s : StreamSignals). s.node) ports.outputs in
+    let i = ap length (input_nodes kernel m ports p) in
+    let j = ap length (output_nodes kernel m ports p) in
+    omega (arith, a, b, c, d, e, i, j)
+
+-- the nets after each step together
+pub net_count : (kernel : Kernel) (times : ℕ → ℕ) (layout : Layout) (a b c d e : Module) (ports : KernelSignals) (storage : Storage)
+    → HasKernelPorts kernel a ports → AddsStorage a b kernel.nodes layout.stages storage
+    → length c.nets ≤ length b.nets + 1024 * length kernel.nodes
+    → length d.nets ≤ length c.nets + 10 * length (handshakes_of times ports) + 12
+    → length e.nets ≤ length d.nets + 8 * length (joined storage.delays)
+    → length e.nets ≤ most_nets kernel.nodes layout.stages
+net_count kernel times layout a b c d e ports storage p s w t z =
+    let own = p.alone.nets in
+    let views = map_length (port_view a) a.ports in
+    let named = ap length p.ports in
+    let count = ports_count kernel.nodes in
+    let first = s.nets in
+    let delays = joined_length layout.stages storage.delays s.late in
+    let shakes = handshake_count kernel times a ports p in
+    omega (arith, own, views, named, count, first, delays, shakes, w, t, z)
