@@ -23,7 +23,7 @@ use Rattle.link_rtl.specs.Projects.{AreFifos, IsProjectOf}
 use Rattle.link_rtl.specs.Words.{RunsAsEquations}
 use Rattle.link_rtl.specs.Designs.{StoresParts, IsDesignOf}
 use Rattle.link_rtl.proofs.Lookups.{get_left, get_behind, length_map, length_ports, length_fifos}
-use Rattle.link_rtl.proofs.Storage.{bits}
+use Rattle.link_rtl.proofs.Storage.{bits, wires}
 
 -- ---- the ports
 
@@ -219,4 +219,5 @@ whole kernel m d project alone first runs accepted =
       stored = parts;
       bits = bits kernel m d (top_module kernel) parts alone;
       nets = few_nets kernel;
+      wires = wires kernel m d (top_module kernel) parts alone;
     }

@@ -28,7 +28,7 @@ use Rattle.kernel_control.specs.Ports.{scalars_of}
 use Rattle.link_rtl.specs.Shapes.{shape_of, streams_of}
 use Rattle.link_rtl.specs.Tops.{range}
 use Rattle.link_rtl.specs.Projects.{AreFifos}
-use Rattle.link_rtl.specs.Storage.{all_bits, host_bits}
+use Rattle.link_rtl.specs.Storage.{all_bits, all_nets, host_bits}
 use Rattle.link_rtl.specs.Words.{RunsAsEquations}
 
 -- What the design stores stands in these modules: the FIFOs, which store two words each, and the
@@ -43,8 +43,9 @@ pub record StoresParts (kernel : Kernel) (m : Module) (d : Design) (top : Module
   pub no_updates : top.updates ≡ []
 
 -- The design of a kernel whose module is this one: it keeps all rules of designs; the ports of its
--- top module are those of the kernel's shape; it runs as the stream equations; and all its registers
--- and memories are those of the kernel's module and of the FIFOs.
+-- top module are those of the kernel's shape; it runs as the stream equations; all its registers
+-- and memories are those of the kernel's module and of the FIFOs; and its wires are those of the
+-- kernel's module and of the top module, and at most 64 for a FIFO.
 pub record IsDesignOf (kernel : Kernel) (m : Module) (d : Design) : Type 0 where
   pub accepted : IsAccepted d
   pub top : Module
@@ -57,3 +58,5 @@ pub record IsDesignOf (kernel : Kernel) (m : Module) (d : Design) : Type 0 where
   pub nets :
       length top.nets
       ≤ 16 + 8 * (length (scalars_of kernel.nodes) + length (streams_of kernel.nodes))
+  pub wires :
+      all_nets d ≤ length m.nets + length top.nets + 64 * length (streams_of kernel.nodes)
