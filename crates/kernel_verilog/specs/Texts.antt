@@ -3,6 +3,7 @@ use Rattle.std.specs.Prelude.{
   ◌≡◌,
   ℕ,
   ◌+◌,
+  ◌*◌,
   ◌<◌,
   ◌≤◌,
   ◌^◌,
@@ -26,11 +27,12 @@ use Rattle.kernel_layout.specs.declared.layout.Layout.{Layout}
 use Rattle.kernel_layout.specs.Layouts.{IsLayout}
 use Rattle.kernel_stages.specs.Numbers.{all_word_bits, all_pointer_bits}
 use Rattle.kernel_control.specs.Refines.{Refines}
-use Rattle.kernel_rtl.specs.Planned.{IsPlain, times_of, widths_of}
+use Rattle.kernel_rtl.specs.Planned.{IsPlain, times_of, widths_of, most_nets}
 use Rattle.kernel_plan.specs.Stored.{latency_bits}
 use Rattle.link_rtl.specs.Designs.{IsDesignOf}
-use Rattle.link_rtl.specs.Storage.{all_bits, host_bits}
+use Rattle.link_rtl.specs.Storage.{all_bits, all_nets, host_bits}
 use Rattle.kernel_verilog.specs.Bits.{NeedsBits}
+use Rattle.kernel_verilog.specs.Parts.{part_count}
 
 -- a design of a kernel, whose module refines it at these times and stores what a layout says
 pub record IsDesigned (kernel : Kernel) (times : List ℤ) (layout : Layout) (d : Design) : Type 0
@@ -42,6 +44,7 @@ pub record IsDesigned (kernel : Kernel) (times : List ℤ) (layout : Layout) (d 
         stored_bits inner
         ≡ 48 + all_word_bits (widths_of kernel.nodes) layout.stages
         + all_pointer_bits layout.stages
+    pub nets : length inner.nets ≤ most_nets kernel.nodes layout.stages
 
 -- a text of a design, which reading it gives back
 pub record IsPrinted (d : Design) (text : List ℕ) : Type 0 where
@@ -52,7 +55,8 @@ pub record IsPrinted (d : Design) (text : List ℕ) : Type 0 where
 -- and at most 2^28. It is one of a design of the kernel, whose module refines the kernel at the
 -- times of a least schedule from 0 on. All registers and memories of the design are these: the
 -- FIFOs of the schedule; for each node its width times its latency; the position of 48 bits; the
--- pointers of the words that are kept in memories; and the FIFOs of the inputs and outputs.
+-- pointers of the words that are kept in memories; and the FIFOs of the inputs and outputs. The
+-- design has at most 2^11 wires for each part of the kernel.
 pub record IsTextOf (table : Table) (kernel : Kernel) (text : List ℕ) (bits : ℕ) : Type 0 where
   pub schedulable : IsSchedulable table kernel.nodes
   pub plain : IsPlain kernel.nodes
@@ -71,3 +75,4 @@ pub record IsTextOf (table : Table) (kernel : Kernel) (text : List ℕ) (bits : 
       ≡ bits + latency_bits (ticks_of table kernel.nodes) kernel.nodes + 48
       + all_pointer_bits layout.stages
       + host_bits kernel.nodes
+  pub wires : all_nets design ≤ 2 ^ 11 * part_count kernel

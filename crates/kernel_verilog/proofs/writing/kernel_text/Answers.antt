@@ -17,4 +17,4 @@ returns-clause-made c =
     let designed = subst (λ xs. IsDesigned kernel xs plan.layout c.in_ok-design.design) c.as_slice-times.ensures c.in_ok-design.ensures in
     text_is c.args.table.now kernel schedule c.in_ok-schedule.ensures.schedulable c.in_ok-schedule.ensures.least
     (c.is_plain.ensures.0 c.if-not-is_plain.false) plan.bits plan.layout c.in_ok-plan.ensures.bits c.in_ok-plan.ensures.fits
-    c.in_ok-plan.ensures.laid c.in_ok-plan.ensures.stored c.in_ok-design.design designed c.in_ok-text.text.items c.in_ok-text.ensures
+    c.in_ok-plan.ensures.laid c.in_ok-plan.ensures.stored c.in_ok-plan.ensures.stages c.in_ok-design.design designed c.in_ok-text.text.items c.in_ok-text.ensures
