@@ -1,0 +1,9 @@
+pub mod Printed
+pub mod Fronts
+pub mod FieldLemmas
+pub mod Feeds
+pub mod Runs
+pub mod Stages
+pub mod Completing
+pub mod Reached
+pub mod OneReport

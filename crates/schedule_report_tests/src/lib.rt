@@ -1,0 +1,8 @@
+//! Tests of the crate `schedule_report`, apart from it, so that a change of a test proves no function
+//! of it again.
+#![tactic(auto)]
+
+#[cfg(test)]
+mod tests;
+#[cfg(test)]
+mod texts;
