@@ -1,0 +1,5 @@
+mod Kept
+mod Part
+mod Ranges
+mod Shown
+mod Verdicts

@@ -1,0 +1,75 @@
+-- The problem of a kernel: how many arcs it has, and that its ends are nodes.
+use Rattle.std.proofs.Common.{◌≡◌, ℕ, zero, suc, ◌+◌, ◌*◌, ◌≤◌, ◌<◌, List, [], ◌∷◌, length, refl, arith}
+use Rattle.std.specs.Prelude.{All, pos, ◌+ℤ◌, ◌-ℤ◌, Option, Some, None}
+use Rattle.std.proofs.lemmas.List.Elements.{All-nil, All-cons, All-append}
+use Rattle.cycle_find.specs.declared.arcs.Arc.{Arc}
+use Rattle.cycle_find.specs.Constraints.{EndsInRange}
+use Rattle.schedule_problem.specs.declared.problem.Term.{Term}
+use Rattle.schedule_problem.specs.Flow.{TermsInRange}
+use Rattle.stream_graph.specs.declared.node.Node.{Node}
+use Rattle.offset_edges.specs.declared.edge.Edge.{Edge}
+use Rattle.offset_edges.specs.Edges.{edge_at, width_at, IsSmall}
+use Rattle.offset_edges.specs.Problems.{arcs_over, term_of, terms_below}
+
+-- two arcs an edge
+pub arcs_length : (nodes : ℕ) (ticks : ℕ → ℕ) (edges : List Edge)
+    → length (arcs_over nodes ticks edges) ≡ 2 * length edges
+arcs_length nodes ticks [] = refl
+arcs_length nodes ticks (e ∷ es) = let r = arcs_length nodes ticks es in omega arith
+
+-- the ends of an arc are two of twice so many nodes
+record IsArc (nodes : ℕ) (arc : Arc) : Type 0 where
+  from : arc.from < 2 * nodes
+  to : arc.to < 2 * nodes
+
+-- those of all arcs of edges between so many nodes are
+arcs_fine : (nodes : ℕ) (ticks : ℕ → ℕ) (edges : List Edge) → ((j : ℕ) → j < length edges
+    → IsSmall nodes (edge_at edges j)) → All (IsArc nodes) (arcs_over nodes ticks edges)
+arcs_fine nodes ticks [] s = All-nil (IsArc nodes)
+arcs_fine nodes ticks (e ∷ es) s =
+    let r = arcs_fine nodes ticks es (λ j h. s (suc j) (omega arith)) in
+    let q = s 0 (omega arith) in
+    let from = q.from in
+    let to = q.to in
+    let there : Arc = record { from = e.from; to = e.to; need = pos (ticks e.from) +ℤ e.offset } in
+    let back : Arc = record { from = e.to; to = nodes + e.from; need = pos 0 -ℤ e.offset } in
+    All-cons (IsArc nodes) there (back ∷ arcs_over nodes ticks es)
+    (record { from = omega arith; to = omega arith })
+    (All-cons (IsArc nodes) back (arcs_over nodes ticks es)
+    (record { from = omega arith; to = omega arith }) r)
+
+-- the ends of the arcs are nodes of the problem
+pub ends_within : (nodes : ℕ) (ticks : ℕ → ℕ) (edges : List Edge) → ((j : ℕ) → j < length edges
+    → IsSmall nodes (edge_at edges j)) → EndsInRange (2 * nodes) (arcs_over nodes ticks edges)
+ends_within nodes ticks edges s = λ j h.
+    let a = arcs_fine nodes ticks edges s j (record { from = 0; to = 0; need = pos 0 }) h in
+    (a.from, a.to)
+
+-- the ends of a term are two of twice so many nodes
+record IsTerm (nodes : ℕ) (term : Term) : Type 0 where
+  from : term.from < 2 * nodes
+  to : term.to < 2 * nodes
+
+-- those of a node's term are
+term_fine : (nodes : List Node) (u : ℕ) (reader : Option ℕ) → u < length nodes
+    → All (IsTerm (length nodes)) (term_of nodes u reader)
+term_fine nodes u None h = All-nil (IsTerm (length nodes))
+term_fine nodes u (Some r) h =
+    All-cons (IsTerm (length nodes)) (record { from = u; to = length nodes + u; weight = width_at nodes u; mid = r }) []
+    (record { from = omega arith; to = omega arith }) (All-nil (IsTerm (length nodes)))
+
+-- those of the terms of the nodes below a number are
+terms_fine : (nodes : List Node) (readers : ℕ → Option ℕ) (n : ℕ) → n ≤ length nodes
+    → All (IsTerm (length nodes)) (terms_below nodes readers n)
+terms_fine nodes readers zero h = All-nil (IsTerm (length nodes))
+terms_fine nodes readers (suc n) h =
+    All-append (IsTerm (length nodes)) (terms_below nodes readers n) (term_of nodes n (readers n))
+    (terms_fine nodes readers n (omega arith)) (term_fine nodes n (readers n) (omega arith))
+
+-- the ends of the terms are nodes of the problem
+pub terms_within : (nodes : List Node) (readers : ℕ → Option ℕ)
+    → TermsInRange (2 * length nodes) (terms_below nodes readers (length nodes))
+terms_within nodes readers = λ j h.
+    let whole : length nodes ≤ length nodes = omega arith in
+    let t = terms_fine nodes readers (length nodes) whole j (record { from = 0; to = 0; weight = 0; mid = 0 }) h in
+    (t.from, t.to)
