@@ -1,0 +1,5 @@
+pub mod Slices
+pub mod Numerals
+pub mod Slots
+pub mod Bytes
+pub mod Whole
