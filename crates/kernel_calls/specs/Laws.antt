@@ -1,5 +1,5 @@
 -- When a call is lawful after others, and what lists of calls need of a builder.
-use Rattle.std.specs.Prelude.{◌≡◌, ◌⊎◌, ◌≤◌, ◌<◌, ◌^◌, ℕ, ◌+◌, ◌&&◌, Bool, true, false, List, [], ◌∷◌, Option, Some, None, unsigned_abs, IsTrue}
+use Rattle.std.specs.Prelude.{◌≡◌, ◌⊎◌, ◌≤◌, ◌<◌, ◌^◌, ℕ, ◌+◌, ◌&&◌, Bool, true, false, List, [], ◌∷◌, Option, Some, None, length, unsigned_abs, IsTrue}
 use Rattle.std.specs.List.{list_all}
 use Rattle.grammar.specs.Bytes.{is_letter}
 use Rattle.maxj_tokens.specs.Tokens.{is_name_byte}
@@ -16,6 +16,10 @@ use Rattle.kernel_calls.specs.Calls.{Makes, stream_of, bits_in}
 abbrev pub is_port_name : List ℕ → Bool
 is_port_name [] = false
 is_port_name (b ∷ bs) = is_letter b && list_all is_name_byte bs
+
+-- what a port may be called: a name of at most 64 bytes
+abbrev pub IsPortName : List ℕ → Type 0
+IsPortName name = IsTrue (is_port_name name) × (length name ≤ 64)
 
 -- the node is a stream of this type
 abbrev pub IsStream : List Call → ℕ → StreamType → Type 0
@@ -37,10 +41,10 @@ MayControl so_far (Some n) = IsControl so_far n
 
 -- the call may come after those so far, of which the newest is first
 abbrev pub IsLawful : List Call → Call → Type 0
-IsLawful so_far (C.Input name t control) = IsTrue (is_port_name name) × HasWidth t × MayControl so_far control
-IsLawful so_far (C.Output name value control t) = IsTrue (is_port_name name) × IsStream so_far value t × MayControl
+IsLawful so_far (C.Input name t control) = IsPortName name × HasWidth t × MayControl so_far control
+IsLawful so_far (C.Output name value control t) = IsPortName name × IsStream so_far value t × MayControl
     so_far control × HasWidth t
-IsLawful so_far (C.Scalar name t) = IsTrue (is_port_name name) × HasWidth t
+IsLawful so_far (C.Scalar name t) = IsPortName name × HasWidth t
 IsLawful so_far (C.Constant bits t) = HasWidth t × (bits < 2 ^ width_of t)
 IsLawful so_far (C.Operation op mode amount args t) = (types : List StreamType) × AreStreams so_far args types ×
     GivesType op types amount t × HasWidth t

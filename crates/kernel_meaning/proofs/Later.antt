@@ -60,6 +60,7 @@ sound_later so_far later (V.Stream n t feed) l h =
     (h.0, stream_later so_far later n t l h.1, λ e. makes_later so_far later n (C.Feed t) l (h.2 e))
 sound_later so_far later (V.«Type» t) l h = h
 sound_later so_far later (V.Chain n) l h = makes_later so_far later n C.Chain l h
+sound_later so_far later (V.Str text) l h = h
 sound_later so_far later _ l h = tt
 
 pub all_later : (so_far later : List Call) (values : List Value) → Later so_far later

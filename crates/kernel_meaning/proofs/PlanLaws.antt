@@ -1,5 +1,8 @@
 -- What a plan gives without operands is sound.
 use Rattle.std.proofs.Common.{
+  ◌≡◌,
+  ◌≤◌,
+  refl,
   ℕ,
   ◌==◌,
   ◌++◌,
@@ -17,6 +20,7 @@ use Rattle.std.proofs.Common.{
 use Rattle.std.specs.Prelude.{Option, Bool, Result, codes, if◌then◌else◌, nat_le, nat_lt, ◌||◌}
 use Rattle.std.specs.Str.{bytes_eq}
 use Rattle.std.specs.List.{list_any}
+use Rattle.std.proofs.lemmas.Bool.Decides.{nat_tests}
 use Rattle.maxj_tokens.specs.Tokens.{is_suffix}
 use Rattle.maxj_tokens.specs.Faults.{integer_value}
 use Rattle.fix_arith.specs.declared.types.StreamType.TheVariants as T
@@ -30,6 +34,7 @@ use Rattle.kernel_meaning.specs.declared.value.Value.TheVariants as V
 use Rattle.kernel_meaning.specs.declared.value.Spot.TheVariants.{Variable}
 use Rattle.kernel_meaning.specs.declared.state.Binding.{Binding}
 use Rattle.kernel_meaning.specs.declared.state.State.{State}
+use Rattle.kernel_meaning.specs.declared.error.EvalError.TheVariants as E
 use Rattle.kernel_meaning.specs.declared.row.Row.{Row}
 use Rattle.kernel_meaning.specs.declared.row.Row.TheVariants as R
 use Rattle.kernel_meaning.specs.declared.row.Sign.{Sign}
@@ -63,6 +68,7 @@ use Rattle.kernel_meaning.specs.Plans.{
   value_plan,
   read_plan,
   array_plan,
+  text_plan,
   part,
   path_at,
   fix_plan,
@@ -146,6 +152,16 @@ module _ (so_far : List Call) where
   array_good : (of : Result Declared ℕ) (count : ℕ) → PlanOk so_far (array_plan of count)
   array_good (Err at) count = (record { sound = tt {0} })
   array_good (Ok of) count = (record { sound = tt {0} })
+
+  -- strings have at most 64 bytes
+  text_good : (text : List ℕ) (at : ℕ) → PlanOk so_far (text_plan text at)
+  text_good text at = by_length (nat_le (length text) 64) (λ e. grind (arith, nat_tests))
+    where
+      by_length : (few : Bool) → (few ≡ true → length text ≤ 64)
+          → PlanOk so_far (if few then Reads (R.Gives (V.Str text)) 0 0
+          else Fault (E.TextTooLong at))
+      by_length true bound = record { sound = bound refl }
+      by_length false bound = record { sound = tt {0} }
 
   fix_good : (path : List ℕ) → PlanOk so_far (fix_plan path)
   fix_good path = either (bytes_eq path (codes "SignMode.TWOSCOMPLEMENT")) _ _
@@ -280,8 +296,7 @@ unfolding plan_of
 plan_good scope state N.Whole word at trees so_far s = record { sound = whole_sound so_far word }
 plan_good scope state N.Decimal word at trees so_far s = (record { sound = tt {0} })
 plan_good scope state N.Str word at trees so_far s =
-    either so_far (nat_le (length (quoted word)) 64) _ _ (record { sound = tt {0} })
-    (record { sound = tt {0} })
+    text_good so_far (quoted word) at
 plan_good scope state N.Name word at trees so_far s =
     either so_far (bytes_eq word (codes "true")) _ _ (record { sound = tt {0} })
     (either so_far (bytes_eq word (codes "false")) _ _ (record { sound = tt {0} })

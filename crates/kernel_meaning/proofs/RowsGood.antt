@@ -128,6 +128,12 @@ use Rattle.kernel_meaning.proofs.ManagerLaws.{
 no_more : (n : ℕ) → n + 0 ≡ n
 no_more n = omega arith
 
+at_least : (n m : ℕ) → nat_le n m ≡ true → n ≤ m
+at_least n m e = grind (arith, nat_tests)
+
+below : (n m : ℕ) → nat_lt n m ≡ true → n < m
+below n m e = grind (arith, nat_tests)
+
 module _ (so_far : List Call) (state : State) (s : Sound so_far state) where
   given : (value : Value) → IsSound so_far value → GoodOutcome so_far (Outcomes.gives value state)
   given value v = record { holds = (tt, v, s) }
@@ -162,7 +168,8 @@ module _ (so_far : List Call) (state : State) (s : Sound so_far state) where
   flag_good _ at a b = record { holds = tt }
 
   text_good : (at : ℕ) (text : List ℕ) → GoodOutcome so_far (HostRows.text_of at text state)
-  text_good at text = good_if _ _ so_far _ (λ e. given (V.Str text) tt)
+  text_good at text =
+      good_if _ _ so_far _ (λ e. given (V.Str text) (at_least (length text) 64 e))
 
   texts_good : (sign : Sign) (at : ℕ) (a b : List ℕ)
       → GoodOutcome so_far (HostRows.texts_between sign at a b state)
@@ -429,12 +436,6 @@ module _ (so_far : List Call) (state : State) (s : Sound so_far state) where
 
   -- Types.
 
-  at_least : (n m : ℕ) → nat_le n m ≡ true → n ≤ m
-  at_least n m e = grind (arith, nat_tests)
-
-  below : (n m : ℕ) → nat_lt n m ≡ true → n < m
-  below n m e = grind (arith, nat_tests)
-
   of_width_good : (at : ℕ) (n : ℤ) (type : ℕ → StreamType) → ((n : ℕ) → width_of (type n) ≡ n)
       → GoodOutcome so_far (TypeRows.of_width at n type state)
   of_width_good at (pos zero) type h = record { holds = tt }
@@ -497,12 +498,13 @@ module _ (so_far : List Call) (state : State) (s : Sound so_far state) where
       → GoodOutcome so_far (LibraryRows.input at values state)
   input_good at (V.Str name ∷ V.«Type» t ∷ []) v =
       good_if _ _ so_far _ (λ e. good_makes (C.Input name t None) t so_far state
-      (record { one = refl; no_bits = λ chain. refl }) refl v.1.0 (e, v.1.0, tt) s)
+      (record { one = refl; no_bits = λ chain. refl }) refl v.1.0
+      ((e, v.0), v.1.0, tt) s)
   input_good at (V.Str name ∷ V.«Type» t ∷ V.Stream c u feed ∷ []) v =
       good_if _ _ so_far _ (λ b. good_if _ _ so_far _
       (λ e. good_makes (C.Input name t (Some c)) t so_far state
       (record { one = refl; no_bits = λ chain. refl }) refl v.1.0
-      (e, v.1.0, is_bit_good c u v.1.1.0.1 b) s))
+      ((e, v.0), v.1.0, is_bit_good c u v.1.1.0.1 b) s))
   input_good at _ v = record { holds = tt }
 
   ends_good : (call : Call) → MakesOne call → IsLawful so_far call
@@ -514,18 +516,18 @@ module _ (so_far : List Call) (state : State) (s : Sound so_far state) where
   output_good at (V.Str name ∷ V.Stream n t feed ∷ V.«Type» u ∷ []) v =
       good_if _ _ so_far _ (λ p. good_if _ _ so_far _
       (λ e. ends_good (C.Output name n None t) (record { one = refl; no_bits = λ chain. refl })
-      (e, v.1.0.1, tt, v.1.0.0)))
+      ((e, v.0), v.1.0.1, tt, v.1.0.0)))
   output_good at (V.Str name ∷ V.Stream n t feed ∷ V.«Type» u ∷ V.Stream c w other ∷ []) v =
       good_if _ _ so_far _ (λ p. good_if _ _ so_far _ (λ b. good_if _ _ so_far _ (λ e.
       ends_good (C.Output name n (Some c) t) (record { one = refl; no_bits = λ chain. refl })
-      (e, v.1.0.1, is_bit_good c w v.1.1.1.0.1 b, v.1.0.0))))
+      ((e, v.0), v.1.0.1, is_bit_good c w v.1.1.1.0.1 b, v.1.0.0))))
   output_good at _ v = record { holds = tt }
 
   scalar_good : (at : ℕ) (values : List Value) → AreSound so_far values
       → GoodOutcome so_far (LibraryRows.scalar at values state)
   scalar_good at (V.Str name ∷ V.«Type» t ∷ []) v =
       good_if _ _ so_far _ (λ e. good_makes (C.Scalar name t) t so_far state
-      (record { one = refl; no_bits = λ chain. refl }) refl v.1.0 (e, v.1.0) s)
+      (record { one = refl; no_bits = λ chain. refl }) refl v.1.0 ((e, v.0), v.1.0) s)
   scalar_good at _ v = record { holds = tt }
 
   constant_by_good : (at : ℕ) (t : StreamType) (r : Result ℕ TypeError) → HasWidth t

@@ -1,5 +1,6 @@
--- Values and states that speak only of nodes that were made, by calls of which the newest is first.
-use Rattle.std.specs.Prelude.{◌≡◌, ℕ, List, [], ◌∷◌, true}
+-- Values and states that speak only of nodes that were made, by calls of which the newest is first,
+-- and whose strings have at most 64 bytes.
+use Rattle.std.specs.Prelude.{◌≡◌, ◌≤◌, ℕ, List, [], ◌∷◌, length, true}
 use Rattle.fix_arith.specs.Types.{HasWidth}
 use Rattle.kernel_calls.specs.Laws.{IsStream, AreLawful}
 use Rattle.kernel_calls.specs.declared.call.Call.{Call}
@@ -17,6 +18,7 @@ IsSound so_far (V.Stream n t feed) =
     HasWidth t × IsStream so_far n t × (feed ≡ true → Makes so_far n (C.Feed t))
 IsSound so_far (V.«Type» t) = HasWidth t
 IsSound so_far (V.Chain n) = Makes so_far n C.Chain
+IsSound so_far (V.Str text) = length text ≤ 64
 IsSound so_far _ = Unit {0}
 
 abbrev pub AreSound : List Call → List Value → Type 0

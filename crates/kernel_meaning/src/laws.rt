@@ -7,7 +7,8 @@ ghost use Rattle.kernel_meaning.specs.Constructors.{building_run};
 ghost use Rattle.kernel_meaning.specs.Sound.{AreSound};
 ghost use Rattle.kernel_meaning.specs.declared.value.Value.{Value};
 
-/// Each call of a building run may come after those before it: it speaks of nodes that were made, of the right types.
+/// Each call of a building run may come after those before it: it speaks of nodes that were made, of
+/// the right types, and what a port is called has at most 64 bytes.
 #[tactic(auto, using(crate::proofs::WholeRun::all_lawful))]
 pub fn lawful()
     ensures { (class : ClassTree) (args : List Value) → AreSound [] args → AreLawful [] (calls_of (building_run class args)) }

@@ -1,6 +1,6 @@
 -- What a kernel keeps of its ports: names that are plain and differ within a kind, and widths.
-use Rattle.std.proofs.Common.{◌≡◌, ℕ, zero, suc, ◌<◌, Bool, true, false, ◌||◌, List, [], ◌∷◌, length, refl, sym, ap, ◌∙◌, subst, arith, inl, inr}
-use Rattle.std.specs.Prelude.{◌⊎◌, bytes_eq, Some, slice_get, get_or}
+use Rattle.std.proofs.Common.{◌≡◌, ℕ, ◌<◌, Bool, true, false, ◌||◌, List, [], ◌∷◌, length, refl, sym, ap, ◌∙◌, arith, inl, inr}
+use Rattle.std.specs.Prelude.{◌⊎◌, bytes_eq}
 use Rattle.std.proofs.Math.Bool.{Bool-set}
 use Rattle.std.proofs.Math.Logic.{∥∥₁_elim}
 use Rattle.kernel_calls.specs.declared.call.Call.{Call}
@@ -11,11 +11,12 @@ use Rattle.stream_graph.specs.declared.node.Kind.{Kind}
 use Rattle.stream_graph.specs.declared.node.Kind.TheVariants as K
 use Rattle.stream_graph.specs.declared.node.Node.{Node}
 use Rattle.stream_graph.specs.Kernels.{AreKernel}
-use Rattle.stream_graph.specs.Nodes.{later, name_by, IsKind, IsNode, AreNodes}
+use Rattle.stream_graph.specs.Nodes.{later, name_by, IsKind, AreNodes}
 use Rattle.stream_graph.specs.Ports.{is_again, AllDiffer}
 use Rattle.stream_graph.specs.Steps.{WereLawful}
-use Rattle.offset_edges.specs.Edges.{node_at, kind_at, no_node}
-use Rattle.offset_edges.proofs.CallLemmas.{made, made_below, makes_cases, WasLawful, was_lawful, were_later}
+use Rattle.offset_edges.specs.Edges.{node_at, kind_at}
+use Rattle.offset_edges.proofs.CallLemmas.{made_below, makes_cases, were_later}
+use Rattle.offset_edges.proofs.NodeLemmas.{of_node}
 
 -- ---- which port a call makes: 1 an input, 2 an output, 3 a scalar, and 0 none
 
@@ -107,35 +108,12 @@ calls_differ (newest ∷ older) w n m a b h k lt e some = by_newest (makes_cases
 
 -- the name of a port is a letter, and then letters, digits and `_`
 call_named : (so_far : List Call) (call : Call) → IsLawful so_far call → 0 < role_by call → is_port_name (name_by call) ≡ true
-call_named so_far (C.Input name t control) l lt = l.0
-call_named so_far (C.Output name value control t) l lt = l.0
-call_named so_far (C.Scalar name t) l lt = l.0
+call_named so_far (C.Input name t control) l lt = l.0.0
+call_named so_far (C.Output name value control t) l lt = l.0.0
+call_named so_far (C.Scalar name t) l lt = l.0.0
 call_named so_far _ l lt = absurd (omega arith)
 
 -- ---- nodes
-
-record IsOf (so_far : List Call) (nodes : List Node) (n : ℕ) : Type 0 where
-  call : Call
-  makes : Makes so_far n call
-  was : WasLawful n call
-  is : IsNode so_far n call (node_at nodes n)
-
-got : {X : Type 0} (xs : List X) (n : ℕ) (x d : X) → slice_get xs n ≡ Some x → x ≡ get_or xs n d
-got [] n x d e = absurd (cc)
-got (y ∷ ys) zero x d e = cc
-got (y ∷ ys) (suc n) x d e = got ys n x d e
-
-of_node : (so_far : List Call) (nodes : List Node) (n : ℕ) → WereLawful so_far → AreNodes so_far nodes → n < length nodes → IsOf so_far nodes n
-of_node so_far nodes n w a h =
-    let e = a.count in
-    let m = made so_far n (omega arith) in
-    let p = a.each n m.0 m.1 in
-    record {
-      call = m.0;
-      makes = m.1;
-      was = was_lawful so_far n m.0 w m.1;
-      is = subst (λ q. IsNode so_far n m.0 q) (got nodes n p.0 no_node p.1) p.2;
-    }
 
 -- ports of a kind have names that are plain and differ
 pub record AreNamed (nodes : List Node) : Type 0 where

@@ -42,7 +42,7 @@ use Rattle.kernel_calls.specs.declared.call.Call.{Call}
 use Rattle.kernel_calls.specs.declared.call.Call.TheVariants as C
 use Rattle.kernel_calls.specs.Calls.{count_of, nodes_of, bits_in, Makes}
 use Rattle.kernel_calls.specs.Laws.{IsLawful, AreLawful, IsStream}
-use Rattle.stream_graph.specs.Nodes.{later, connected_to, digits_to}
+use Rattle.stream_graph.specs.Nodes.{later, connected_to, digits_to, name_by}
 use Rattle.stream_graph.specs.Steps.{WereLawful}
 
 -- ---- which calls make nodes
@@ -160,6 +160,14 @@ was_lawful (newest ∷ older) n call w h = by_newest (makes_cases newest older n
           count = sym p.1;
         }
     by_newest (inr g) rest l = rest g
+
+-- the name that a call gives has at most 64 bytes
+pub short_name : (so_far : List Call) (call : Call) → IsLawful so_far call
+    → length (name_by call) ≤ 64
+short_name so_far (C.Input name t control) l = l.0.1
+short_name so_far (C.Output name value control t) l = l.0.1
+short_name so_far (C.Scalar name t) l = l.0.1
+short_name so_far _ l = omega arith
 
 pub made_below : (so_far : List Call) (n : ℕ) (call : Call) → Makes so_far n call
     → n < count_of so_far

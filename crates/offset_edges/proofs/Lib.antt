@@ -2,12 +2,12 @@ pub mod CallLemmas
 pub mod CoveredLemmas
 pub mod EdgeLemmas
 mod KernelLemmas
-mod LatencyLemmas
+pub mod LatencyLemmas
 pub mod NodeLemmas
-mod ProblemFacts
+pub mod ProblemFacts
 mod ProblemLemmas
 pub mod Reading
-mod ScheduleLemmas
+pub mod ScheduleLemmas
 mod ShownLemmas
 pub mod SourceLemmas
 mod WalkLemmas

@@ -26,6 +26,7 @@ use Rattle.std.proofs.Math.Bridge.{le_prop}
 use Rattle.std.proofs.Math.Logic.{∥∥₁_elim}
 use Rattle.std.specs.Prelude.{All, ℤ, unsigned_abs, Option, Some, None, slice_get}
 use Rattle.std.proofs.lemmas.List.Elements.{All-nil, All-cons}
+use Rattle.std.proofs.lemmas.List.{get_or_past}
 use Rattle.std.proofs.lemmas.Bool.{cases_lt}
 use Rattle.mx_bits.specs.declared.op.Op.{Op}
 use Rattle.mx_bits.specs.declared.op.Op.TheVariants.{
@@ -94,6 +95,7 @@ use Rattle.offset_edges.proofs.CallLemmas.{
   chain_bits_most,
   chain_bits_least,
   connected_below,
+  short_name,
 }
 
 -- ---- operations
@@ -367,18 +369,18 @@ steady_call so_far n (C.ChainDigit chain d) kind i e = absurd (cc)
 -- ---- nodes
 
 -- the call of a node
-record IsOf (so_far : List Call) (nodes : List Node) (n : ℕ) : Type 0 where
-  call : Call
-  makes : Makes so_far n call
-  was : WasLawful n call
-  is : IsNode so_far n call (node_at nodes n)
+pub record IsOf (so_far : List Call) (nodes : List Node) (n : ℕ) : Type 0 where
+  pub call : Call
+  pub makes : Makes so_far n call
+  pub was : WasLawful n call
+  pub is : IsNode so_far n call (node_at nodes n)
 
 got : {X : Type 0} (xs : List X) (n : ℕ) (x d : X) → slice_get xs n ≡ Some x → x ≡ get_or xs n d
 got [] n x d e = absurd (cc)
 got (y ∷ ys) zero x d e = cc
 got (y ∷ ys) (suc n) x d e = got ys n x d e
 
-of_node : (so_far : List Call) (nodes : List Node) (n : ℕ) → WereLawful so_far
+pub of_node : (so_far : List Call) (nodes : List Node) (n : ℕ) → WereLawful so_far
     → AreNodes so_far nodes →
     n < length nodes → IsOf so_far nodes n
 of_node so_far nodes n w a h =
@@ -452,3 +454,26 @@ pub orderly : (nodes : List Node) → ∥ AreKernel nodes ∥₁ → IsOrderly n
 orderly nodes kernel =
     ∥∥₁_elim {P = IsOrderly nodes} kernel (hlevel le_prop)
     (λ k. orderly_so_far (later [] k.0) nodes (were_later [] k.0 tt k.1) k.2.chains k.2.once k.3)
+
+-- ---- the names of nodes
+
+short_so_far : (so_far : List Call) (nodes : List Node) → WereLawful so_far
+    → AreNodes so_far nodes → (n : ℕ) → length (node_at nodes n).name ≤ 64
+short_so_far so_far nodes w a n = ⊎_elim
+    (λ (h : n < length nodes).
+    let o = of_node so_far nodes n w a h in
+    let short = short_name o.was.older o.call o.was.lawful in
+    let same = ap length o.is.name in
+    omega arith)
+    (λ (h : length nodes ≤ n).
+    let none : length (node_at nodes n).name ≡ 0 =
+    ap (λ (node : Node). length node.name) (get_or_past nodes n no_node h) in
+    omega arith)
+    (cases_lt n (length nodes))
+
+-- the name of a node has at most 64 bytes; one that is no port has none
+pub short_names : (nodes : List Node) → ∥ AreKernel nodes ∥₁ → (n : ℕ)
+    → length (node_at nodes n).name ≤ 64
+short_names nodes kernel =
+    ∥∥₁_elim {P = (n : ℕ) → length (node_at nodes n).name ≤ 64} kernel (hlevel le_prop)
+    (λ k. short_so_far (later [] k.0) nodes (were_later [] k.0 tt k.1) k.3)

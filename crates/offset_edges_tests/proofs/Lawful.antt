@@ -32,11 +32,11 @@ twice = C.Operation Add ToNearEven 0 (0 ∷ 0 ∷ []) (UInt 8)
 
 pub double_lawful : AreLawful [] double
 double_lawful = (
-  (search rules, byte, tt),
+  ((search rules, omega arith), byte, tt),
   (
     (UInt 8 ∷ UInt 8 ∷ [], ((x8, inl (refl, refl), refl), ((x8, inl (refl, refl), refl), tt)), adds_bytes, byte),
     (
-      (search rules, (twice, inl (refl, refl), refl), tt, byte),
+      ((search rules, omega arith), (twice, inl (refl, refl), refl), tt, byte),
       tt,
     ),
   ),
@@ -48,7 +48,7 @@ self_fed_lawful = (
   (
     (UInt 8, inl (refl, refl), (C.Feed (UInt 8), inl (refl, refl), refl)),
     (
-      (search rules, (C.Feed (UInt 8), inl (refl, refl), refl), tt, byte),
+      ((search rules, omega arith), (C.Feed (UInt 8), inl (refl, refl), refl), tt, byte),
       tt,
     ),
   ),
@@ -71,7 +71,7 @@ three = C.Operation Add ToNearEven 0 (2 ∷ 3 ∷ []) (UInt 32)
 
 pub sum3_lawful : AreLawful [] sum3
 sum3_lawful = (
-  (search rules, wide, tt),
+  ((search rules, omega arith), wide, tt),
   (
     ((x, inl (refl, refl), refl), omega arith, wide),
     (
@@ -81,7 +81,7 @@ sum3_lawful = (
         (
           (UInt 32 ∷ UInt 32 ∷ [], ((two, inr (inl (refl, refl)), refl), ((after, inl (refl, refl), refl), tt)), adds, wide),
           (
-            (search rules, (three, inl (refl, refl), refl), tt, wide),
+            ((search rules, omega arith), (three, inl (refl, refl), refl), tt, wide),
             tt,
           ),
         ),

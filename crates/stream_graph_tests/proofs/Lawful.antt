@@ -28,7 +28,7 @@ adds = search rules
 
 pub lawful : AreLawful [] sum3
 lawful = (
-  (search rules, wide, tt),
+  ((search rules, omega arith), wide, tt),
   (
     ((x, inl (refl, refl), refl), omega arith, wide),
     (
@@ -38,7 +38,7 @@ lawful = (
         (
           (UInt 32 ∷ UInt 32 ∷ [], ((sum 1 0, inr (inl (refl, refl)), refl), ((after, inl (refl, refl), refl), tt)), adds, wide),
           (
-            (search rules, (sum 2 3, inl (refl, refl), refl), tt, wide),
+            ((search rules, omega arith), (sum 2 3, inl (refl, refl), refl), tt, wide),
             tt,
           ),
         ),
