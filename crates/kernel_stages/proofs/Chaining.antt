@@ -6,11 +6,12 @@ use Rattle.rtl_ir.specs.Grow.{Grows}
 use Rattle.rtl_delays.specs.declared.elements.Element.{Element}
 use Rattle.rtl_delays.specs.Steps.{IsSound}
 use Rattle.rtl_delays.specs.Delays.{IsDelay, IsTap}
-use Rattle.rtl_delays.specs.Elements.{shown, advances_of}
+use Rattle.rtl_delays.specs.Elements.{shown, advances_of, HasElement}
 use Rattle.rtl_delays.proofs.Chain.{delay_on, delay_kept}
-use Rattle.kernel_stages.specs.Numbers.{stages_at, stage_count}
-use Rattle.kernel_stages.specs.Chains.{no_element, joined, IsChain, AreChains, AreWide, chain_at}
+use Rattle.kernel_stages.specs.Numbers.{stages_at, stage_count, rings_from, ring_count}
+use Rattle.kernel_stages.specs.Chains.{no_element, joined, ring_delays, IsChain, AreChains, AreWide, chain_at}
 use Rattle.kernel_stages.specs.Closing.{Follows}
+use Rattle.kernel_stages.proofs.Climbing.{element_mems, element_rings, rings_both}
 
 -- ---- as many as stages
 
@@ -36,6 +37,43 @@ joined_length (s ∷ ss) (c ∷ cs) h =
     let both = length-append c (joined cs) in
     let here = chain_length 0 s c h.0 in
     let more = joined_length ss cs h.1 in
+    omega (arith, both, here, more)
+
+-- of a chain whose delays stand in a module the rings are those of the stages that come more than
+-- one advance after the one before
+chain_rings :
+    (m : Module) (prior : ℕ) (stages : List ℕ) (chain : List Element) → IsChain prior stages chain → All (HasElement m) chain
+    → ring_delays chain ≡ rings_from prior stages
+chain_rings m prior [] [] h a = refl
+chain_rings m prior [] (e ∷ es) h a = absurd h
+chain_rings m prior (s ∷ ss) [] h a = absurd h
+chain_rings m prior (s ∷ ss) (e ∷ es) h a =
+    let all = element_rings e es in
+    let first = element_mems m e prior s (a 0 e (omega arith)) h.0 in
+    let rest = chain_rings m s ss es h.1 (λ k d l. a (suc k) d (omega (arith, l))) in
+    omega (arith, all, first, rest)
+
+-- what holds of two lists of delays holds of each
+all_first : (P : Element → Type 0) (xs ys : List Element) → All P (xs ++ ys) → All P xs
+all_first P [] ys a k d lt = absurd (omega arith)
+all_first P (x ∷ xs) ys a zero d lt = a zero d (omega arith)
+all_first P (x ∷ xs) ys a (suc k) d lt = all_first P xs ys (λ j e l. a (suc j) e (omega (arith, l))) k d (omega arith)
+
+all_last : (P : Element → Type 0) (xs ys : List Element) → All P (xs ++ ys) → All P ys
+all_last P [] ys a = a
+all_last P (x ∷ xs) ys a = all_last P xs ys (λ j e l. a (suc j) e (omega (arith, l)))
+
+-- all nodes together have a ring for each of those stages
+pub joined_rings :
+    (m : Module) (stages : List (List ℕ)) (chains : List (List Element)) → AreChains stages chains → All (HasElement m) (joined chains)
+    → ring_delays (joined chains) ≡ ring_count stages
+joined_rings m [] [] h a = refl
+joined_rings m [] (c ∷ cs) h a = absurd h
+joined_rings m (s ∷ ss) [] h a = absurd h
+joined_rings m (s ∷ ss) (c ∷ cs) h a =
+    let both = rings_both c (joined cs) in
+    let here = chain_rings m 0 s c h.0 (all_first (HasElement m) c (joined cs) a) in
+    let more = joined_rings m ss cs h.1 (all_last (HasElement m) c (joined cs) a) in
     omega (arith, both, here, more)
 
 pub chain_of :

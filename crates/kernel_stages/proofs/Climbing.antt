@@ -1,15 +1,17 @@
 -- Stages that rise, one after another.
-use Rattle.std.proofs.Common.{◌≡◌, ℕ, suc, ◌+◌, ◌-◌, ◌*◌, ◌<◌, ◌≤◌, ◌^◌, List, [], ◌∷◌, length, get_or, sym, ap, ◌∙◌, subst, arith}
+use Rattle.std.proofs.Common.{◌≡◌, ℕ, suc, ◌+◌, ◌-◌, ◌*◌, ◌<◌, ◌≤◌, ◌^◌, List, [], ◌∷◌, ◌++◌, length, get_or, nat_lt, if◌then◌else◌, refl, sym, ap, ◌∙◌, subst, arith}
 use Rattle.std.specs.Prelude.{All, sum_by}
 use Rattle.std.specs.List.Sorted.{IsStrictlyIncreasing}
 use Rattle.std.specs.Int.Count.{leading_of_zero}
+use Rattle.std.proofs.lemmas.Bool.Decides.{nat_tests}
 use Rattle.std.proofs.lemmas.List.Sums.{sum_by-cons}
 use Rattle.rtl_ir.specs.declared.design.Module.{Module}
 use Rattle.rtl_delays.specs.declared.elements.Element.{Element}
 use Rattle.rtl_delays.specs.declared.elements.Element.TheVariants.{Register, Ring}
-use Rattle.rtl_delays.specs.Elements.{advances_of, HasElement, IsLean, pointer_bits}
+use Rattle.rtl_delays.specs.Elements.{advances_of, starting_nets, starting_mems, closing_nets, HasElement, IsLean, pointer_bits}
 use Rattle.rtl_delays.proofs.Pointers.{pointer_is, pointer_only}
-use Rattle.kernel_stages.specs.Numbers.{differences, last_from, stage_count, AreRising, place_bits, pointer_bits as stage_bits, all_word_bits, all_pointer_bits}
+use Rattle.kernel_stages.specs.Numbers.{differences, last_from, rings_from, ring_count, stage_count, AreRising, place_bits, pointer_bits as stage_bits, all_word_bits, all_pointer_bits}
+use Rattle.kernel_stages.specs.Chains.{ring_delays}
 
 -- each of these numbers is above the one before it, by at most 2^28, and the first one above `prior`
 abbrev pub Climbs : ℕ → List ℕ → Type 0
@@ -82,15 +84,93 @@ nodes_from now total ws ss w more s rest e f h = subst (λ xs. NodesLeft now tot
 pub no_nodes : (now total : ℕ) (ws : List ℕ) (ss : List (List ℕ)) → ws ≡ [] → ss ≡ [] → NodesLeft now total ws ss → now ≡ total
 no_nodes now total ws ss e f h = let q = subst (λ xs. NodesLeft now total xs []) e (subst (NodesLeft now total ws) f h) in omega (arith, q)
 
--- ---- nets
+-- ---- nets and memories
 
--- the nets of the delays that are left, one delay further
+-- 1 where a stage comes more than one advance after `prior`, and else 0
+abbrev ring_at : ℕ → ℕ → ℕ
+ring_at prior s = if nat_lt (prior + 1) s then 1 else 0
+
+-- a delay of one advance is no ring
+no_ring : (prior s : ℕ) → prior + 1 ≡ s → ring_at prior s ≡ 0
+no_ring prior s e = grind (arith, nat_tests)
+
+-- one of more advances is a ring
+one_ring : (prior words s : ℕ) → 2 ≤ words → prior + words ≡ s → ring_at prior s ≡ 1
+one_ring prior words s some e = grind (arith, nat_tests)
+
+-- a delay has a memory where its stage comes more than one advance after `prior`
+pub element_mems :
+    (m : Module) (e : Element) (prior s : ℕ) → HasElement m e → prior + advances_of e ≡ s
+    → starting_mems e ≡ ring_at prior s
+element_mems m (Register r) prior s h e = sym (no_ring prior s e)
+element_mems m (Ring r) prior s h e = sym (one_ring prior r.words s h.some e)
+
+-- it has one net more than memories
+pub element_nets : (e : Element) → starting_nets e ≡ 1 + starting_mems e
+element_nets (Register r) = refl
+element_nets (Ring r) = refl
+
+-- it is a ring where it has a memory
+pub element_rings : (e : Element) (es : List Element) → ring_delays (e ∷ es) ≡ starting_mems e + ring_delays es
+element_rings (Register r) es = omega arith
+element_rings (Ring r) es = refl
+
+-- closing it adds at most 8 nets for its memory
+pub element_closing : (e : Element) → closing_nets e ≡ 8 * starting_mems e
+element_closing (Register r) = refl
+element_closing (Ring r) = refl
+
+-- the rings of one list of delays and of another
+pub rings_both : (xs ys : List Element) → ring_delays (xs ++ ys) ≡ ring_delays xs + ring_delays ys
+rings_both [] ys = omega arith
+rings_both (e ∷ xs) ys =
+    let all = element_rings e (xs ++ ys) in
+    let some = element_rings e xs in
+    let rest = rings_both xs ys in
+    omega (arith, all, some, rest)
+
+-- the memories of the delays that are left, one delay further
+pub mems_left :
+    (now next total prior s added : ℕ) (ss rest : List ℕ) → ss ≡ s ∷ rest → added ≡ ring_at prior s → next ≡ now + added
+    → now + rings_from prior ss ≡ total → next + rings_from s rest ≡ total
+mems_left now next total prior s added ss rest e f g h =
+    let size : rings_from prior ss ≡ ring_at prior s + rings_from s rest = ap (rings_from prior) e in
+    omega (arith, size, f, g, h)
+
+-- their nets
 pub nets_left :
-    (now next total s : ℕ) (ss rest : List ℕ) → ss ≡ s ∷ rest → next ≤ now + 2 → now + 2 * length ss ≤ total → next + 2 * length rest ≤ total
-nets_left now next total s ss rest e f h = let size = ap length e in omega (arith, size, f, h)
+    (now next total prior s added : ℕ) (ss rest : List ℕ) → ss ≡ s ∷ rest → added ≡ ring_at prior s → next ≡ now + (1 + added)
+    → now + (length ss + rings_from prior ss) ≡ total → next + (length rest + rings_from s rest) ≡ total
+nets_left now next total prior s added ss rest e f g h =
+    let long = ap length e in
+    let size : rings_from prior ss ≡ ring_at prior s + rings_from s rest = ap (rings_from prior) e in
+    omega (arith, long, size, f, g, h)
+
+-- no delays are left
+pub no_mems_left : (now total prior : ℕ) (ss : List ℕ) → ss ≡ [] → now + rings_from prior ss ≡ total → now ≡ total
+no_mems_left now total prior ss e h = let size : rings_from prior ss ≡ 0 = ap (rings_from prior) e in omega (arith, size, h)
+
+pub no_nets_left : (now total prior : ℕ) (ss : List ℕ) → ss ≡ [] → now + (length ss + rings_from prior ss) ≡ total → now ≡ total
+no_nets_left now total prior ss e h =
+    let long = ap length e in
+    let size : rings_from prior ss ≡ 0 = ap (rings_from prior) e in
+    omega (arith, long, size, h)
 
 -- the nets of the delays of the nodes that are left, one node further
 pub nodes_nets_left :
-    (now next total : ℕ) (s : List ℕ) (ss rest : List (List ℕ)) → ss ≡ s ∷ rest → next ≤ now + 2 * length s → now + 2 * stage_count ss ≤ total
-    → next + 2 * stage_count rest ≤ total
-nodes_nets_left now next total s ss rest e f h = let size = ap stage_count e in omega (arith, size, f, h)
+    (now next total : ℕ) (s : List ℕ) (ss rest : List (List ℕ)) → ss ≡ s ∷ rest → next ≡ now + length s + rings_from 0 s
+    → now + (stage_count ss + ring_count ss) ≡ total → next + (stage_count rest + ring_count rest) ≡ total
+nodes_nets_left now next total s ss rest e f h = let long = ap stage_count e in let size = ap ring_count e in omega (arith, long, size, f, h)
+
+-- their memories
+pub nodes_mems_left :
+    (now next total : ℕ) (s : List ℕ) (ss rest : List (List ℕ)) → ss ≡ s ∷ rest → next ≡ now + rings_from 0 s → now + ring_count ss ≡ total
+    → next + ring_count rest ≡ total
+nodes_mems_left now next total s ss rest e f h = let size = ap ring_count e in omega (arith, size, f, h)
+
+-- no nodes are left
+pub no_nodes_nets : (now total : ℕ) (ss : List (List ℕ)) → ss ≡ [] → now + (stage_count ss + ring_count ss) ≡ total → now ≡ total
+no_nodes_nets now total ss e h = let long = ap stage_count e in let size = ap ring_count e in omega (arith, long, size, h)
+
+pub no_nodes_mems : (now total : ℕ) (ss : List (List ℕ)) → ss ≡ [] → now + ring_count ss ≡ total → now ≡ total
+no_nodes_mems now total ss e h = let size = ap ring_count e in omega (arith, size, h)

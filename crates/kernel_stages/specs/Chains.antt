@@ -23,7 +23,7 @@ use Rattle.rtl_ir.specs.declared.design.Module.{Module}
 use Rattle.rtl_ir.specs.Value.{is_reg}
 use Rattle.rtl_build.specs.declared.signal.Signal.{Signal}
 use Rattle.rtl_delays.specs.declared.elements.Element.{Element}
-use Rattle.rtl_delays.specs.declared.elements.Element.TheVariants.{Register}
+use Rattle.rtl_delays.specs.declared.elements.Element.TheVariants.{Register, Ring}
 use Rattle.rtl_delays.specs.Extends.{is_number}
 use Rattle.rtl_delays.specs.Elements.{shown, advances_of, reg_of, mem_of, AreFree}
 use Rattle.kernel_stages.specs.Numbers.{stages_at}
@@ -76,6 +76,12 @@ AreWide [] (chain ∷ chains) = ⊥
 AreWide (width ∷ widths) [] = ⊥
 AreWide (width ∷ widths) (chain ∷ chains) =
     All (λ e. (shown e).width ≡ width) chain × AreWide widths chains
+
+-- how many of these delays are rings
+abbrev pub ring_delays : List Element → ℕ
+ring_delays [] = 0
+ring_delays (Register s ∷ es) = ring_delays es
+ring_delays (Ring r ∷ es) = 1 + ring_delays es
 
 -- whether net n is the register of one of these delays
 abbrev pub is_register_of : List Element → ℕ → Bool

@@ -12,6 +12,8 @@ use Rattle.std.specs.Prelude.{
   ◌∷◌,
   length,
   slice_index_or,
+  nat_lt,
+  if◌then◌else◌,
   sum_by,
   All,
 }
@@ -47,6 +49,18 @@ place_bits words = 32 - count_leading_zeros 32 (words - 1)
 -- words
 abbrev pub pointer_bits : List ℕ → ℕ
 pointer_bits stages = sum_by place_bits (differences 0 stages)
+
+-- how many of these stages come more than one advance after the one before, and the first one after
+-- `prior`: their delays are rings
+abbrev pub rings_from : ℕ → List ℕ → ℕ
+rings_from prior [] = 0
+rings_from prior (stage ∷ stages) =
+    (if nat_lt (prior + 1) stage then 1 else 0) + rings_from stage stages
+
+-- how many of the stages of all nodes do
+abbrev pub ring_count : List (List ℕ) → ℕ
+ring_count [] = 0
+ring_count (stages ∷ rest) = rings_from 0 stages + ring_count rest
 
 -- how many stages all nodes have together
 abbrev pub stage_count : List (List ℕ) → ℕ

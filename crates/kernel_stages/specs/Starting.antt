@@ -1,5 +1,5 @@
 -- Delays of nodes that are added to a module.
-use Rattle.std.specs.Prelude.{◌≡◌, ℕ, ◌+◌, ◌*◌, ◌≤◌, List, length, All}
+use Rattle.std.specs.Prelude.{◌≡◌, ℕ, ◌+◌, ◌*◌, List, length, All}
 use Rattle.rtl_ir.specs.declared.design.Module.{Module}
 use Rattle.rtl_delays.specs.declared.elements.Element.{Element}
 use Rattle.rtl_delays.specs.Extends.{Extends}
@@ -9,6 +9,8 @@ use Rattle.rtl_delays.specs.Elements.{shown, AreFree}
 use Rattle.kernel_stages.specs.Numbers.{
   last_from,
   stage_count,
+  rings_from,
+  ring_count,
   pointer_bits,
   all_pointer_bits,
   all_word_bits,
@@ -35,7 +37,8 @@ pub record AddsChain (old new : Module) (width : ℕ) (stages : List ℕ) (chain
     pub undriven : KeepsUndriven old new
     pub stored :
         stored_bits new ≡ stored_bits old + width * last_from 0 stages + pointer_bits stages
-    pub nets : length new.nets ≤ length old.nets + 2 * length stages
+    pub nets : length new.nets ≡ length old.nets + length stages + rings_from 0 stages
+    pub mems : length new.mems ≡ length old.mems + rings_from 0 stages
 
 -- The delays of all nodes were added, which nothing writes yet. Their registers and memories come
 -- after all that stood.
@@ -52,4 +55,5 @@ pub record AddsChains (old new : Module) (widths : List ℕ) (stages : List (Lis
     pub stored :
         stored_bits new
         ≡ stored_bits old + all_word_bits widths stages + all_pointer_bits stages
-    pub nets : length new.nets ≤ length old.nets + 2 * stage_count stages
+    pub nets : length new.nets ≡ length old.nets + stage_count stages + ring_count stages
+    pub mems : length new.mems ≡ length old.mems + ring_count stages

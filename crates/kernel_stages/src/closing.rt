@@ -5,7 +5,7 @@ ghost use Rattle.rtl_delays.specs.Steps.{IsSound};
 ghost use Rattle.rtl_delays.specs.Extends.{Extends, AddsNoRegister, KeepsStill};
 ghost use Rattle.rtl_delays.specs.Driven.{KeepsUndriven};
 ghost use Rattle.rtl_delays.specs.Stored.{stored_bits};
-ghost use Rattle.kernel_stages.specs.Chains.{joined, AreFreeIn};
+ghost use Rattle.kernel_stages.specs.Chains.{joined, ring_delays, AreFreeIn};
 ghost use Rattle.kernel_stages.specs.Closing.{MayFollow, MayFollowWords, LeavesOthers, AreWritten, Follows, AreDelays};
 
 use mx_base::{List, NoMemory};
@@ -35,7 +35,7 @@ fn close_chain(
     ensures undriven { OnOk result (KeepsUndriven netlist.old netlist.new) }
     ensures stored { OnOk result (stored_bits netlist.new ≡ stored_bits netlist.old) }
     ensures nets { OnOk result
-        (length netlist.new.nets ≤ length netlist.old.nets + 8 * length chain.now) }
+        (length netlist.new.nets ≤ length netlist.old.nets + 8 * ring_delays chain.now) }
     ensures follows { OnOk result (Follows netlist.new run.net reset.net word.net chain.now) }
 {
     let mut from = word;
@@ -73,7 +73,7 @@ pub fn close_stages(
     ensures undriven { OnOk result (KeepsUndriven netlist.old netlist.new) }
     ensures stored { OnOk result (stored_bits netlist.new ≡ stored_bits netlist.old) }
     ensures nets { OnOk result
-        (length netlist.new.nets ≤ length netlist.old.nets + 8 * length (joined elements.now)) }
+        (length netlist.new.nets ≤ length netlist.old.nets + 8 * ring_delays (joined elements.now)) }
     ensures delays { OnOk result
         (AreDelays netlist.new run.net reset.net words.now elements.now) }
 {

@@ -1,12 +1,13 @@
 // Laws of delays, each the contract of a function that does nothing.
-ghost use Rattle.std.specs.Prelude.{◌≡◌, ◌≤◌, ◌^◌, ℕ, List, length};
+ghost use Rattle.std.specs.Prelude.{◌≡◌, ◌≤◌, ◌^◌, ℕ, List, length, All};
 ghost use Rattle.rtl_ir.specs.declared.design.Module.{Module};
 ghost use Rattle.rtl_build.specs.declared.signal.Signal.{Signal};
 ghost use Rattle.rtl_delays.specs.declared.elements.Element.{Element};
 ghost use Rattle.rtl_delays.specs.Delays.{IsDelay};
 ghost use Rattle.rtl_delays.specs.Rings.{IsPointerWidth};
-ghost use Rattle.kernel_stages.specs.Numbers.{place_bits, stage_count};
-ghost use Rattle.kernel_stages.specs.Chains.{word_at, joined, AreChains, AreWide, IsStage};
+ghost use Rattle.rtl_delays.specs.Elements.{HasElement};
+ghost use Rattle.kernel_stages.specs.Numbers.{place_bits, stage_count, ring_count};
+ghost use Rattle.kernel_stages.specs.Chains.{word_at, joined, ring_delays, AreChains, AreWide, IsStage};
 ghost use Rattle.kernel_stages.specs.Closing.{AreWords, MayFollowWords, AreDelays};
 
 /// A pointer has the fewest bits that hold each number below that of its words, and a delay of one
@@ -17,10 +18,13 @@ pub fn pointer_sizes()
         → IsPointerWidth words (place_bits words) }
 {}
 
-/// There is one delay for each stage.
+/// There is one delay for each stage, and of delays that stand in a module the rings are those of
+/// the stages that come more than one advance after the one before.
 pub fn delay_counts()
-    ensures { (stages : List (List ℕ)) (chains : List (List Element))
-        → AreChains stages chains → length (joined chains) ≡ stage_count stages }
+    ensures { (m : Module) (stages : List (List ℕ)) (chains : List (List Element))
+        → AreChains stages chains → All (HasElement m) (joined chains)
+        → (length (joined chains) ≡ stage_count stages)
+        × (ring_delays (joined chains) ≡ ring_count stages) }
 {}
 
 /// The delays of `start_stages` may follow words of the widths for which they were started.

@@ -1,5 +1,5 @@
 -- The wires of one node: what they are made of.
-use Rattle.std.proofs.Common.{◌≡◌, ◌∙◌, ℕ, suc, ◌<◌, true, false, List, [], ◌∷◌, map, length, get_or, Some, None, refl, ap, sym, subst, arith}
+use Rattle.std.proofs.Common.{◌≡◌, ◌∙◌, ℕ, suc, ◌+◌, ◌*◌, ◌<◌, true, false, List, [], ◌∷◌, map, length, get_or, Some, None, refl, ap, sym, subst, arith}
 use Rattle.std.specs.Prelude.{All, slice_get}
 use Rattle.std.proofs.lemmas.List.Elements.{All-nil, All-cons}
 use Rattle.std.proofs.lemmas.Option.{get_or_from_slice_get}
@@ -91,12 +91,12 @@ module _ (nodes : List Node) (layout : Layout) (late : List (List Signal)) (word
   map_length [] = refl
   map_length (r ∷ reads) = ap suc (map_length reads)
 
-  pub operation_added : (old new : Module) → IsOrderly nodes → n < length nodes → IsReadable old nodes layout late words n
+  pub operation_added : (old new : Module) → IsReadable old nodes layout late words n
       → (op : Op) (mode : RoundMode) (amount : ℕ) → kind_at nodes n ≡ K.Operation op mode amount
       → (types : List StreamType) (nets : List ℕ) (out : StreamType) → types ≡ map (type_at nodes) (operands_at nodes n) → nets
       ≡ taps_at layout late words n → out ≡ type_at nodes n
       → (s : Signal) → IsFragment old new op mode types nets amount out s → AddsWord old new nodes layout late words n (Some s)
-  operation_added old new o h r op mode amount e types nets out t a u s f =
+  operation_added old new r op mode amount e types nets out t a u s f =
       let taps = taps_at layout late words n in
       let own = map (type_at nodes) (operands_at nodes n) in
       let g : IsFragment old new op mode own taps amount (type_at nodes n) s =
@@ -105,9 +105,8 @@ module _ (nodes : List Node) (layout : Layout) (late : List (List Signal)) (word
       let wired : IsWired new nodes taps s.net n (K.Operation op mode amount) = g.value in
       let count = map_length (reads_at layout n) in
       let same = r.counted (wired_operation (kind_at nodes n) op mode amount e) in
-      let few = o.few n h in
       record {
-        adds = adds_more 1024 g.adds (omega (arith, count, same, few));
+        adds = adds_more (1 + 15 * length (operands_at nodes n)) g.adds (omega (arith, count, same));
         some = sym (wired_operation (kind_at nodes n) op mode amount e);
         shows = (record { signal = g.signal; bits = g.width }, subst (λ k. IsWired new nodes taps s.net n k) (sym e) wired);
       }
@@ -117,7 +116,7 @@ module _ (nodes : List Node) (layout : Layout) (late : List (List Signal)) (word
   constant_added old new t h word e s made =
       let wired : IsWired new nodes (taps_at layout late words n) s.net n (K.Constant word) = made.value in
       record {
-        adds = adds_more 1024 made.adds (omega arith);
+        adds = adds_more (1 + 15 * length (operands_at nodes n)) made.adds (omega arith);
         some = sym (ap is_wired e);
         shows = (
           record { signal = made.signal; bits = made.width ∙ t.constants n word h e },
@@ -186,7 +185,7 @@ module _ (nodes : List Node) (layout : Layout) (late : List (List Signal)) (word
       let read = read_signal layout.stages late words (read_at (reads_at layout n) 0) in
       let net : read.net ≡ s.net = ap (λ (x : Signal). x.net) (sym is) in
       record {
-        adds = adds_none m 1024;
+        adds = adds_none m (1 + 15 * length (operands_at nodes n));
         some = sym (copy_wired (kind_at nodes n) e);
         shows = (
           subst (λ x. IsWordOf m nodes n x) (sym is) (record { signal = one.signal; bits = one.bits ∙ first.width }),
@@ -195,7 +194,7 @@ module _ (nodes : List Node) (layout : Layout) (late : List (List Signal)) (word
       }
 
   pub none_added : (m : Module) → is_wired (kind_at nodes n) ≡ false → AddsWord m m nodes layout late words n None
-  none_added m e = record { adds = adds_none m 1024; some = sym e; shows = tt }
+  none_added m e = record { adds = adds_none m (1 + 15 * length (operands_at nodes n)); some = sym e; shows = tt }
 
 pub not_wired : (k : Kind) → (k ≡ K.Output → ⊥) → ((word : Word) → k ≡ K.Constant word → ⊥)
     → ((op : Op) (mode : RoundMode) (amount : ℕ) → k ≡ K.Operation op mode amount → ⊥) → (k ≡ K.Feed → ⊥) → is_wired k ≡ false

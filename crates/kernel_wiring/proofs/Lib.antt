@@ -1,4 +1,5 @@
 pub mod Typing
+pub mod Sums
 mod Stages
 mod Building
 pub mod Readable

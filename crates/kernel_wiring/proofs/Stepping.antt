@@ -1,10 +1,8 @@
 -- Nodes that have their wires, one after another.
-use Rattle.std.proofs.Common.{◌≡◌, ◌∙◌, ℕ, zero, suc, ◌+◌, ◌*◌, ◌≤◌, ◌<◌, Bool, true, false, cond, eqb, ◌||◌, List, [], ◌∷◌, map, length, get_or, slice_set, Some, None, refl, ap, sym, subst, arith, ⊎_elim}
-use Rattle.std.specs.Prelude.{All, Contains}
-use Rattle.std.specs.List.{list_any}
-use Rattle.std.proofs.lemmas.Map.Keys.{IsDistinct-from_apart}
-use Rattle.std.proofs.lemmas.Map.Steps.{length-le_from_distinct_below}
-use Rattle.std.proofs.lemmas.Bool.{false≢true, cases_Bool, cases_eq, eqb-true}
+use Rattle.std.proofs.Common.{◌≡◌, ◌∙◌, ℕ, zero, suc, ◌+◌, ◌*◌, ◌≤◌, ◌<◌, Bool, true, false, cond, eqb, List, [], ◌∷◌, map, length, get_or, slice_set, Some, None, refl, ap, sym, subst, arith, ⊎_elim}
+use Rattle.std.specs.Prelude.{All, Contains, sum_by}
+use Rattle.std.proofs.lemmas.List.Sums.{sum_by-cons}
+use Rattle.std.proofs.lemmas.Bool.{false≢true, cases_Bool, cases_eq}
 use Rattle.std.proofs.lemmas.List.{get_or_default}
 use Rattle.rtl_ir.specs.declared.design.Module.{Module}
 use Rattle.rtl_ir.specs.Value.{Family, Contents}
@@ -20,16 +18,17 @@ use Rattle.rtl_delays.proofs.Kept.{wires_no_register, no_register_on}
 use Rattle.stream_graph.specs.declared.node.Kind.{Kind}
 use Rattle.stream_graph.specs.declared.node.Kind.TheVariants as K
 use Rattle.stream_graph.specs.declared.node.Node.{Node}
-use Rattle.offset_edges.specs.Edges.{kind_at, operand_at}
+use Rattle.offset_edges.specs.Edges.{no_node, kind_at, operands_at, operand_at}
 use Rattle.offset_edges.proofs.NodeLemmas.{IsOrderly}
 use Rattle.kernel_layout.specs.declared.layout.Layout.{Layout}
 use Rattle.kernel_layout.specs.declared.reads.Read.{Read}
 use Rattle.kernel_layout.specs.Reads.{no_read, read_at}
 use Rattle.kernel_wiring.specs.Words.{has_word, is_wired, no_signal, signal_at, stages_at, late_at, late_of, read_signal, read_net, reads_at, taps_at, IsWordOf, AreGiven, AreLate, IsLaidOut, IsReadIn}
-use Rattle.kernel_wiring.specs.OneNode.{IsWired, takes, IsReadable, AddsWord}
+use Rattle.kernel_wiring.specs.OneNode.{IsWired, takes, IsReadable, operand_count, AddsWord}
 use Rattle.kernel_wiring.specs.AllNodes.{AddsOnlyWires, AddsNodes}
 use Rattle.kernel_wiring.proofs.Typing.{AreTyped}
-use Rattle.kernel_wiring.proofs.Stages.{not_equal, is_zero, not_zero}
+use Rattle.kernel_wiring.proofs.Sums.{sum_below, sum_of_list, sum_apart}
+use Rattle.kernel_wiring.proofs.Stages.{is_zero, not_zero}
 use Rattle.kernel_wiring.proofs.Readable.{takes_wired, read_of, reads_all, node_in, place_of}
 
 -- ---- lists
@@ -86,24 +85,6 @@ same_nets stages late words after (r ∷ reads) same =
     one true e = same 0 (omega arith) (grind (arith, e))
     one false e = refl
 
--- numbers below n that all differ are at most n
-any_below : (n q : ℕ) (xs : List ℕ) → ((i : ℕ) → i < length xs → get_or xs i 0 < n) → list_any (eqb q) xs ≡ true → q < n
-any_below n q [] a e = absurd (false≢true e)
-any_below n q (x ∷ xs) a e = by_test (eqb q x) (λ t. eqb-true q x t) (λ r. any_below n q xs (λ i h. a (suc i) (omega (arith, h))) r) (a 0 (omega arith)) e
-  where
-    by_test : (b : Bool) → (b ≡ true → q ≡ x) → (list_any (eqb q) xs ≡ true → q < n) → x < n → (b || list_any (eqb q) xs) ≡ true → q < n
-    by_test true same rest l e = let t = same refl in omega (arith, l, t)
-    by_test false same rest l e = rest e
-
-few_apart : (n : ℕ) (xs : List ℕ) → ((i : ℕ) → i < length xs → get_or xs i 0 < n)
-    → ((i j : ℕ) → i < j → j < length xs → get_or xs i 0 ≡ get_or xs j 0 → ⊥) → length xs ≤ n
-few_apart n xs below apart = length-le_from_distinct_below xs n
-    (IsDistinct-from_apart eqb xs (λ i k d l h.
-    let a : get_or xs i d ≡ get_or xs i 0 = get_or_default xs i d 0 (omega (arith, l, h)) in
-    let b : get_or xs k d ≡ get_or xs k 0 = get_or_default xs k d 0 h in
-    not_equal (get_or xs i d) (get_or xs k d) (λ e. apart i k l h (sym a ∙ e ∙ b))))
-    (λ q t. any_below n q xs below t)
-
 -- ---- what a module keeps
 
 pub wired_kept : (m n : Module) → ((c : Contents) (f : Family) → Holds n c f → Holds m c f)
@@ -158,12 +139,12 @@ only_less old m a b le w = record {
   registers = w.registers;
 }
 
-only_more : (old m n : Module) (k : ℕ) → AddsOnlyWires old m (1024 * k) → AddsWires m n 1024 → AddsOnlyWires old n (1024 * (k + 1))
-only_more old m n k w adds = record {
+only_more : (old m n : Module) (a b : ℕ) → AddsOnlyWires old m a → AddsWires m n b → AddsOnlyWires old n (a + b)
+only_more old m n a b w adds = record {
   extends = extends_on w.extends (wires_extends w.extends.sound adds);
   updates = adds.updates ∙ w.updates;
   mems = adds.mems ∙ w.mems;
-  nets = let a = w.nets in let b = adds.count in omega (arith, a, b);
+  nets = let was = w.nets in let more = adds.count in omega (arith, was, more);
   stored = wires_stored adds ∙ w.stored;
   undriven = undriven_on old m n w.extends.grows w.undriven (wires_undriven adds);
   registers = no_register_on old m n w.registers (wires_no_register adds);
@@ -174,8 +155,33 @@ only_more old m n k w adds = record {
 abbrev node_of : Layout → ℕ → ℕ
 node_of layout j = get_or layout.order j 0
 
+-- the most wires of node n
+abbrev node_wires : List Node → ℕ → ℕ
+node_wires nodes n = 1 + 15 * length (operands_at nodes n)
+
+-- the most wires of the first so many nodes of the order
+abbrev first_wires : List Node → Layout → ℕ → ℕ
+first_wires nodes layout k = sum_below (λ j. node_wires nodes (node_of layout j)) k
+
+-- those of all nodes are one a node and 15 an operand
+all_wires : (nodes : List Node) → sum_by (λ (node : Node). 1 + 15 * length node.operands) nodes ≡ length nodes + 15 * operand_count nodes
+all_wires [] = refl
+all_wires (x ∷ xs) =
+    let whole = sum_by-cons (λ (node : Node). 1 + 15 * length node.operands) x xs in
+    let operands = sum_by-cons (λ (node : Node). length node.operands) x xs in
+    let rest = all_wires xs in
+    omega (arith, whole, operands, rest)
+
+-- one node more of the order
+first_more : (nodes : List Node) (layout : Layout) (old m n : Module) (k : ℕ) → AddsOnlyWires old m (first_wires nodes layout k)
+    → AddsWires m n (node_wires nodes (node_of layout k)) → AddsOnlyWires old n (first_wires nodes layout (k + 1))
+first_more nodes layout old m n k w adds =
+    let next : suc k ≡ k + 1 = omega arith in
+    subst (λ i. AddsOnlyWires old n (first_wires nodes layout i)) next
+    (only_more old m n (first_wires nodes layout k) (node_wires nodes (node_of layout k)) w adds)
+
 pub record AreWired (nodes : List Node) (layout : Layout) (late : List (List Signal)) (old m : Module) (before words : List Signal) (k : ℕ) : Type 0 where
-  pub wires : AddsOnlyWires old m (1024 * k)
+  pub wires : AddsOnlyWires old m (first_wires nodes layout k)
   pub size : length words ≡ length before
   pub given : (u : ℕ) → is_wired (kind_at nodes u) ≡ false → signal_at words u ≡ signal_at before u
   pub done : (j : ℕ) → j < k → is_wired (kind_at nodes (node_of layout j)) ≡ true
@@ -324,7 +330,7 @@ module _ (nodes : List Node) (o : IsOrderly nodes) (t : AreTyped nodes) (layout 
           let others : (j : ℕ) → j < k → signal_at after (node_of layout j) ≡ signal_at words (node_of layout j) = λ j l. set_other words u
           (node_of layout j) s (apart j k l lt) in
           record {
-            wires = only_more old m n k w.wires a.adds;
+            wires = first_more nodes layout old m n k w.wires a.adds;
             size = set_length words u s ∙ w.size;
             given = λ z q. set_other words u z s (λ y. false≢true (sym q ∙ ap (λ i. is_wired (kind_at nodes i)) (sym y) ∙ sym a.some)) ∙ w.given z q;
             done = each_more (λ j. is_wired (kind_at nodes (node_of layout j)) ≡ true → IsWordOf n nodes (node_of layout j)
@@ -352,7 +358,7 @@ module _ (nodes : List Node) (o : IsOrderly nodes) (t : AreTyped nodes) (layout 
       let none : is_wired (kind_at nodes u) ≡ false = ap (λ z. is_wired (kind_at nodes z)) (sym e) ∙ sym a.some in
       let x = wires_extends w.wires.extends.sound a.adds in
       record {
-        wires = only_more old m n k w.wires a.adds;
+        wires = first_more nodes layout old m n k w.wires (subst (λ z. AddsWires m n (node_wires nodes z)) e a.adds);
         size = w.size;
         given = w.given;
         done = each_more (λ j. is_wired (kind_at nodes (node_of layout j)) ≡ true → IsWordOf n nodes (node_of layout j)
@@ -371,8 +377,14 @@ module _ (nodes : List Node) (o : IsOrderly nodes) (t : AreTyped nodes) (layout 
       → AddsNodes old m nodes layout late before words
   all_wired m words k e w = record {
     wires =
-        let few = few_apart (length nodes) layout.order (λ i h. node_in nodes o t layout laid i h) (λ i j l h q. apart i j l h (sym q)) in
-        only_less old m (1024 * k) (1024 * length nodes) (omega (arith, e, few)) w.wires;
+        let few : first_wires nodes layout (length layout.order) ≤ sum_below (node_wires nodes) (length nodes) =
+        sum_apart (node_wires nodes) (node_of layout) (length nodes) (length layout.order) (λ i h. node_in nodes o t layout laid i h)
+        (λ i j l h q. apart i j l h (sym q)) in
+        let each : sum_below (node_wires nodes) (length nodes) ≡ sum_by (λ (node : Node). 1 + 15 * length node.operands) nodes =
+        sum_of_list (λ (node : Node). 1 + 15 * length node.operands) no_node nodes in
+        let all = all_wires nodes in
+        let end : first_wires nodes layout k ≡ first_wires nodes layout (length layout.order) = ap (first_wires nodes layout) e in
+        only_less old m (first_wires nodes layout k) (length nodes + 15 * operand_count nodes) (omega (arith, few, each, all, end)) w.wires;
     counted = w.size;
     given = w.given;
     words = λ u h has. word_there m words k w u h has

@@ -37,6 +37,22 @@ abbrev pub pointer_bits : Element → ℕ
 pointer_bits (Register s) = 0
 pointer_bits (Ring r) = r.pointer.width
 
+-- the nets that it adds when it is started: a register is one, and a ring's are its pointer and the
+-- wire of its word
+abbrev pub starting_nets : Element → ℕ
+starting_nets (Register s) = 1
+starting_nets (Ring r) = 2
+
+-- the memories that it adds
+abbrev pub starting_mems : Element → ℕ
+starting_mems (Register s) = 0
+starting_mems (Ring r) = 1
+
+-- the most nets that are added when it is closed
+abbrev pub closing_nets : Element → ℕ
+closing_nets (Register s) = 0
+closing_nets (Ring r) = 8
+
 -- a ring's pointer is as wide as it has to be
 abbrev pub IsLean : Element → Type 0
 IsLean (Register s) = Unit {0}
@@ -68,8 +84,8 @@ pub record AddsElement (old new : Module) (width advances : ℕ) (e : Element) :
   pub lean : IsLean e
   pub reg : reg_of e ≡ length old.nets
   pub mem : IsNewMemory (length old.mems) (mem_of e)
-  pub nets : length new.nets ≤ length old.nets + 2
-  pub mems : length new.mems ≤ length old.mems + 1
+  pub nets : length new.nets ≡ length old.nets + starting_nets e
+  pub mems : length new.mems ≡ length old.mems + starting_mems e
   pub updates : new.updates ≡ old.updates
   pub only : AddsOneRegister old new (reg_of e)
   pub undriven : KeepsUndriven old new

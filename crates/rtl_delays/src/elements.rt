@@ -6,7 +6,7 @@ ghost use Rattle.rtl_delays.specs.Extends.{Extends, AddsNoRegister, KeepsStill, 
 ghost use Rattle.rtl_delays.specs.Delays.{IsDelay};
 ghost use Rattle.rtl_delays.specs.Driven.{KeepsUndriven};
 ghost use Rattle.rtl_delays.specs.Stored.{stored_bits};
-ghost use Rattle.rtl_delays.specs.Elements.{shown, reg_of, mem_of, advances_of, HasElement, IsFreeElement, AddsElement};
+ghost use Rattle.rtl_delays.specs.Elements.{shown, reg_of, mem_of, advances_of, HasElement, IsFreeElement, closing_nets, AddsElement};
 
 use crate::registers::{follow, start_register};
 use crate::rings::{Ring, close_ring, start_ring};
@@ -79,7 +79,8 @@ pub fn close_element(
     ensures written { OnOk result (writes_reg (reg_of element) netlist.new.updates ≡ true) }
     ensures registers { OnOk result (AddsNoRegister netlist.old netlist.new) }
     ensures undriven { OnOk result (KeepsUndriven netlist.old netlist.new) }
-    ensures nets { OnOk result (length netlist.new.nets ≤ length netlist.old.nets + 8) }
+    ensures nets { OnOk result
+        (length netlist.new.nets ≤ length netlist.old.nets + closing_nets element) }
     ensures stored { OnOk result (stored_bits netlist.new ≡ stored_bits netlist.old) }
     ensures delay { OnOk result (IsDelay netlist.new run.net reset.net from.net
         (shown element).net (advances_of element)) }

@@ -1,4 +1,4 @@
-use Rattle.std.proofs.Common.{◌≡◌, ◌+◌, ◌∷◌, length, drop, get_or, refl, sym, ap, ◌∙◌, subst, arith}
+use Rattle.std.proofs.Common.{◌≡◌, ◌+◌, ◌∷◌, drop, get_or, refl, sym, ap, ◌∙◌, subst, arith}
 use Rattle.rtl_build.specs.declared.signal.Signal.{Signal}
 use Rattle.rtl_build.specs.Signals.{HasSignal}
 use Rattle.rtl_delays.specs.Elements.{shown, advances_of, reg_of, mem_of, past, AreFree}
@@ -8,7 +8,9 @@ use Rattle.rtl_delays.proofs.Kept.{no_register_on, written_kept}
 use Rattle.rtl_delays.proofs.Chain.{delay_kept}
 use Rattle.rtl_delays.proofs.Started.{element_kept, shown_signal, frees_left, others}
 use Rattle.kernel_stages.specs.Closing.{AreWritten, Follows}
+use Rattle.kernel_stages.specs.Chains.{ring_delays}
 use Rattle.kernel_stages.proofs.Lists.{drop_front, drop_all}
+use Rattle.kernel_stages.proofs.Climbing.{element_rings, element_closing}
 use Rattle.kernel_stages.proofs.Freeing.{leaves_same, leaves_element, none_written, written_more}
 use Rattle.kernel_stages.proofs.closing.close_chain.Goals as goal
 
@@ -60,7 +62,12 @@ loop-element-preserved c =
       registers = no_register_on l m n i.registers x.registers;
       undriven = undriven_on l m n i.extends.grows i.undriven x.undriven;
       stored = x.stored ∙ i.stored;
-      nets = let size = ap length front in let was = i.nets in let grown = x.nets in omega (arith, size, was, grown);
+      nets =
+          let size = ap ring_delays front ∙ element_rings e rest in
+          let most = element_closing e in
+          let was = i.nets in
+          let grown = x.nets in
+          omega (arith, size, most, was, grown);
       free = record {
         reg = reg_of e + 1;
         mem = past f.mem (mem_of e);

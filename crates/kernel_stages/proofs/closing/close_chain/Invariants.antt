@@ -4,7 +4,7 @@ use Rattle.rtl_delays.specs.declared.elements.Element.{Element}
 use Rattle.rtl_delays.specs.Extends.{Extends, AddsNoRegister, KeepsStill}
 use Rattle.rtl_delays.specs.Driven.{KeepsUndriven}
 use Rattle.rtl_delays.specs.Stored.{stored_bits}
-use Rattle.kernel_stages.specs.Chains.{AreFreeIn}
+use Rattle.kernel_stages.specs.Chains.{ring_delays, AreFreeIn}
 use Rattle.kernel_stages.specs.Closing.{MayFollow, LeavesOthers, AreWritten, Follows}
 use Rattle.kernel_stages.proofs.closing.close_chain.Given as goal
 
@@ -18,7 +18,7 @@ invariant-loop-element l = record {
   registers : AddsNoRegister l.fn.netlist l.netlist;
   undriven : KeepsUndriven l.fn.netlist l.netlist;
   stored : stored_bits l.netlist ≡ stored_bits l.fn.netlist;
-  nets : length l.netlist.nets + 8 * length (drop l.element-index l.chain) ≤ length l.fn.netlist.nets + 8 * length l.chain;
+  nets : length l.netlist.nets + 8 * ring_delays (drop l.element-index l.chain) ≤ length l.fn.netlist.nets + 8 * ring_delays l.chain;
   free : AreFreeIn l.netlist (drop l.element-index l.chain);
   may : (j : ℕ) (d : Element) → l.element-index ≤ j → j < length l.chain → MayFollow l.netlist l.from (get_or l.chain j d);
   follows :

@@ -1,12 +1,13 @@
-use Rattle.std.proofs.Common.{◌≡◌, ◌+◌, ◌++◌, ◌∷◌, [], length, drop, get_or, refl, sym, ap, ◌∙◌, subst, arith, length-append}
+use Rattle.std.proofs.Common.{◌≡◌, ◌+◌, ◌++◌, ◌∷◌, [], drop, get_or, refl, sym, ap, ◌∙◌, subst, arith}
 use Rattle.std.specs.Prelude.{All}
 use Rattle.rtl_delays.specs.Elements.{AreFree}
 use Rattle.rtl_delays.proofs.Extends.{extends_same, extends_on, still_same, still_on}
 use Rattle.rtl_delays.proofs.Undriven.{same_undriven, undriven_on}
 use Rattle.rtl_delays.proofs.Kept.{no_register_on}
-use Rattle.kernel_stages.specs.Chains.{joined, word_at, chain_at, AreFreeIn}
+use Rattle.kernel_stages.specs.Chains.{joined, ring_delays, word_at, chain_at, AreFreeIn}
 use Rattle.kernel_stages.specs.Closing.{MayFollow, LeavesOthers, AreWritten, Follows}
 use Rattle.kernel_stages.proofs.Lists.{drop_front, drop_all, item_is, each_more}
+use Rattle.kernel_stages.proofs.Climbing.{rings_both}
 use Rattle.kernel_stages.proofs.Chaining.{Linked, linked_kept, delays_behind, chain_of}
 use Rattle.kernel_stages.proofs.Freeing.{reg_end, mem_end, frees_first, frees_last, frees_after, frees_some, no_register, no_memory, leaves_same, leaves_chain, none_written, written_both, written_on, may_kept}
 use Rattle.kernel_stages.proofs.closing.close_stages.Goals as goal
@@ -99,9 +100,9 @@ loop-node-preserved c =
       undriven = undriven_on l m n i.extends.grows i.undriven x.undriven;
       stored = x.stored ∙ i.stored;
       nets =
-          let size = ap (λ cs. length (joined cs)) front in
-          let both = length-append chain (joined rest) in
-          let long = ap length given in
+          let size = ap (λ cs. ring_delays (joined cs)) front in
+          let both = rings_both chain (joined rest) in
+          let long = ap ring_delays given in
           let was = i.nets in
           let grown = x.nets in
           omega (arith, size, both, long, was, grown);

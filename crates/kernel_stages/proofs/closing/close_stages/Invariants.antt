@@ -3,7 +3,7 @@ use Rattle.rtl_ir.specs.declared.design.Module.{Module}
 use Rattle.rtl_delays.specs.Extends.{Extends, AddsNoRegister, KeepsStill}
 use Rattle.rtl_delays.specs.Driven.{KeepsUndriven}
 use Rattle.rtl_delays.specs.Stored.{stored_bits}
-use Rattle.kernel_stages.specs.Chains.{joined, word_at, chain_at, AreFreeIn}
+use Rattle.kernel_stages.specs.Chains.{joined, ring_delays, word_at, chain_at, AreFreeIn}
 use Rattle.kernel_stages.specs.Closing.{LeavesOthers, AreWritten}
 use Rattle.kernel_stages.proofs.Chaining.{Linked}
 use Rattle.kernel_stages.proofs.closing.close_stages.Given as goal
@@ -18,7 +18,7 @@ invariant-loop-node l = record {
   registers : AddsNoRegister l.fn.netlist l.netlist;
   undriven : KeepsUndriven l.fn.netlist l.netlist;
   stored : stored_bits l.netlist ≡ stored_bits l.fn.netlist;
-  nets : length l.netlist.nets + 8 * length (joined (drop l.node l.elements)) ≤ length l.fn.netlist.nets + 8 * length (joined l.elements);
+  nets : length l.netlist.nets + 8 * ring_delays (joined (drop l.node l.elements)) ≤ length l.fn.netlist.nets + 8 * ring_delays (joined l.elements);
   free : AreFreeIn l.netlist (joined (drop l.node l.elements));
   linked : (u : ℕ) → u < l.node → Linked l.netlist l.run.net l.reset.net (word_at l.words u).net (chain_at l.elements u);
 }

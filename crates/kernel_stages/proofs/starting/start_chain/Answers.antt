@@ -2,15 +2,15 @@ use Rattle.std.proofs.Common.{◌≡◌, ◌+◌, ◌-◌, ◌*◌, ◌++◌, �
 use Rattle.std.specs.Prelude.{All, sum_by}
 use Rattle.rtl_delays.specs.declared.elements.Element.{Element}
 use Rattle.rtl_delays.specs.Stored.{stored_bits}
-use Rattle.rtl_delays.specs.Elements.{shown, advances_of, AreFree}
+use Rattle.rtl_delays.specs.Elements.{shown, advances_of, starting_mems, AreFree}
 use Rattle.rtl_delays.proofs.Extends.{extends_same, extends_on}
 use Rattle.rtl_delays.proofs.Undriven.{same_undriven, undriven_on}
 use Rattle.rtl_delays.proofs.Started.{frees_kept, frees_more, new_past, reg_within, mem_within}
 use Rattle.rtl_delays.proofs.Extends.{more_mems}
-use Rattle.kernel_stages.specs.Numbers.{differences, last_from, place_bits, pointer_bits}
+use Rattle.kernel_stages.specs.Numbers.{differences, last_from, rings_from, place_bits, pointer_bits}
 use Rattle.kernel_stages.specs.Chains.{IsChain, AddsRegistersOf}
 use Rattle.kernel_stages.proofs.Lists.{drop_front, drop_all, all_more}
-use Rattle.kernel_stages.proofs.Climbing.{Climbs, climbs, lean_bits, left_from, bits_left, none_left, nets_left}
+use Rattle.kernel_stages.proofs.Climbing.{Climbs, climbs, lean_bits, left_from, bits_left, none_left, element_mems, element_nets, nets_left, mems_left, no_nets_left, no_mems_left}
 use Rattle.kernel_stages.proofs.Chaining.{chain_end, chain_next}
 use Rattle.kernel_stages.proofs.Freeing.{registers_more}
 use Rattle.kernel_stages.proofs.starting.start_chain.Goals as goal
@@ -30,7 +30,8 @@ loop-stage-init c =
       only = λ n h o. h;
       undriven = same_undriven m m refl;
       stored = omega arith;
-      nets = omega arith;
+      nets = refl;
+      mems = refl;
     }
 
 pub loop-stage-preserved : goal.loop-stage-preserved
@@ -54,6 +55,7 @@ loop-stage-preserved c =
     let near = up.1 in
     let late = x.late in
     let gap : prior + advances_of e ≡ s = omega (arith, above, late) in
+    let ring = element_mems n e prior s x.has gap in
     let left = left_from (stored_bits m) (stored_bits l) c.args.width prior stages (drop k stages) s rest front i.stored in
     let bits : stored_bits n ≡ stored_bits m + c.args.width * (s - prior) + place_bits (s - prior) =
     x.stored ∙ ap (λ p. stored_bits m + c.args.width * (s - prior) + p) (lean_bits n e x.has x.lean (omega (arith, near, late)) ∙ ap place_bits late) in
@@ -77,7 +79,10 @@ loop-stage-preserved c =
       undriven = undriven_on l m n i.extends.grows i.undriven x.undriven;
       stored = bits_left (stored_bits m) (stored_bits n) (stored_bits l) c.args.width prior (s - prior) s (place_bits (s - prior)) (last_from s rest)
           (c.args.width * last_from 0 stages + pointer_bits stages) (sum_by place_bits (differences s rest)) (omega (arith, above)) bits left;
-      nets = nets_left (length m.nets) (length n.nets) (length l.nets + 2 * length stages) s (drop k stages) rest front x.nets i.nets;
+      nets = nets_left (length m.nets) (length n.nets) (length l.nets + (length stages + rings_from 0 stages)) prior s (starting_mems e) (drop k stages)
+          rest front ring (let grown = x.nets in let size = element_nets e in omega (arith, grown, size)) i.nets;
+      mems = mems_left (length m.mems) (length n.mems) (length l.mems + rings_from 0 stages) prior s (starting_mems e) (drop k stages)
+          rest front ring x.mems i.mems;
     }
 
 pub returns : goal.returns
@@ -96,5 +101,9 @@ returns c =
       only = i.only;
       undriven = i.undriven;
       stored = none_left (stored_bits c.loop-stage.netlist) (stored_bits c.args.netlist.now) c.args.width prior stages rest end i.stored;
-      nets = let left = i.nets in omega (arith, left);
+      nets =
+          let total = length c.args.netlist.now.nets + (length stages + rings_from 0 stages) in
+          let left = no_nets_left (length c.loop-stage.netlist.nets) total prior rest end i.nets in
+          omega (arith, left);
+      mems = no_mems_left (length c.loop-stage.netlist.mems) (length c.args.netlist.now.mems + rings_from 0 stages) prior rest end i.mems;
     }

@@ -5,11 +5,11 @@ use Rattle.rtl_delays.specs.Elements.{AreFree}
 use Rattle.rtl_delays.proofs.Extends.{extends_same, extends_on}
 use Rattle.rtl_delays.proofs.Undriven.{same_undriven, undriven_on}
 use Rattle.rtl_delays.proofs.Started.{frees_kept}
-use Rattle.kernel_stages.specs.Numbers.{AreRising, last_from, stage_count, pointer_bits, all_word_bits, all_pointer_bits}
+use Rattle.kernel_stages.specs.Numbers.{AreRising, last_from, stage_count, ring_count, pointer_bits, all_word_bits, all_pointer_bits}
 use Rattle.kernel_stages.specs.Chains.{joined, AreChains, AreWide, AddsRegistersOf}
 use Rattle.kernel_stages.specs.Starting.{AddsChain}
 use Rattle.kernel_stages.proofs.Lists.{drop_front, drop_all, item_is}
-use Rattle.kernel_stages.proofs.Climbing.{nodes_left, nodes_from, no_nodes, nodes_nets_left}
+use Rattle.kernel_stages.proofs.Climbing.{nodes_left, nodes_from, no_nodes, nodes_nets_left, nodes_mems_left, no_nodes_nets, no_nodes_mems}
 use Rattle.kernel_stages.proofs.Chaining.{chains_next, chains_end, wide_next, wide_end}
 use Rattle.kernel_stages.proofs.Freeing.{joined_more, registers_both, frees_both}
 use Rattle.kernel_stages.proofs.starting.start_stages.Goals as goal
@@ -29,7 +29,8 @@ loop-node-init c =
       only = λ n h o. h;
       undriven = same_undriven m m refl;
       stored = refl;
-      nets = omega arith;
+      nets = refl;
+      mems = refl;
     }
 
 pub start_chain-requires-clause-stages : goal.start_chain-requires-clause-stages
@@ -86,7 +87,9 @@ loop-node-preserved c =
       stored =
           nodes_left (stored_bits m) (stored_bits n) total (w * last_from 0 s) (pointer_bits s) (all_word_bits more rest) (all_pointer_bits rest) x.stored
           (nodes_from (stored_bits m) total (drop k widths) (drop k stages) w more s rest front_width front i.stored);
-      nets = nodes_nets_left (length m.nets) (length n.nets) (length l.nets + 2 * stage_count stages) s (drop k stages) rest front x.nets i.nets;
+      nets = nodes_nets_left (length m.nets) (length n.nets) (length l.nets + (stage_count stages + ring_count stages)) s (drop k stages)
+          rest front x.nets i.nets;
+      mems = nodes_mems_left (length m.mems) (length n.mems) (length l.mems + ring_count stages) s (drop k stages) rest front x.mems i.mems;
     }
 
 pub returns : goal.returns
@@ -112,5 +115,8 @@ returns c =
       stored =
           no_nodes (stored_bits m) (stored_bits l + all_word_bits widths stages + all_pointer_bits stages)
           (drop k widths) (drop k stages) end_width end i.stored;
-      nets = let left = i.nets in omega (arith, left);
+      nets =
+          let left = no_nodes_nets (length m.nets) (length l.nets + (stage_count stages + ring_count stages)) (drop k stages) end i.nets in
+          omega (arith, left);
+      mems = no_nodes_mems (length m.mems) (length l.mems + ring_count stages) (drop k stages) end i.mems;
     }

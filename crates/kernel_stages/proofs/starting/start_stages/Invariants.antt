@@ -1,10 +1,10 @@
-use Rattle.std.proofs.Common.{◌≡◌, ◌+◌, ◌*◌, ◌≤◌, ◌++◌, List, length, drop}
+use Rattle.std.proofs.Common.{◌≡◌, ◌+◌, ◌++◌, List, length, drop}
 use Rattle.rtl_delays.specs.declared.elements.Element.{Element}
 use Rattle.rtl_delays.specs.Extends.{Extends}
 use Rattle.rtl_delays.specs.Driven.{KeepsUndriven}
 use Rattle.rtl_delays.specs.Stored.{stored_bits}
 use Rattle.rtl_delays.specs.Elements.{AreFree}
-use Rattle.kernel_stages.specs.Numbers.{stage_count, all_word_bits, all_pointer_bits}
+use Rattle.kernel_stages.specs.Numbers.{stage_count, ring_count, all_word_bits, all_pointer_bits}
 use Rattle.kernel_stages.specs.Chains.{joined, AreChains, AreWide, AddsRegistersOf}
 use Rattle.kernel_stages.proofs.starting.start_stages.Given as goal
 
@@ -21,5 +21,8 @@ invariant-loop-node l = record {
   stored :
       stored_bits l.netlist + all_word_bits (drop l.node l.widths) (drop l.node l.stages) + all_pointer_bits (drop l.node l.stages)
       ≡ stored_bits l.fn.netlist + all_word_bits l.widths l.stages + all_pointer_bits l.stages;
-  nets : length l.netlist.nets + 2 * stage_count (drop l.node l.stages) ≤ length l.fn.netlist.nets + 2 * stage_count l.stages;
+  nets :
+      length l.netlist.nets + (stage_count (drop l.node l.stages) + ring_count (drop l.node l.stages))
+      ≡ length l.fn.netlist.nets + (stage_count l.stages + ring_count l.stages);
+  mems : length l.netlist.mems + ring_count (drop l.node l.stages) ≡ length l.fn.netlist.mems + ring_count l.stages;
 }
