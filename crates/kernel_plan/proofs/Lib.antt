@@ -3,4 +3,3 @@ mod Counted
 pub mod Facts
 mod Rising
 mod Stored
-mod Sums

@@ -17,7 +17,7 @@ rest_rises s ss r k lt =
     subst P e (r (suc k) (omega (arith, lt)))
 
 -- the first number is below all later ones
-first_least : (s : ℕ) (ss : List ℕ) → IsStrictlyIncreasing (s ∷ ss) → (x : ℕ) → Contains ss x → s < x
+pub first_least : (s : ℕ) (ss : List ℕ) → IsStrictlyIncreasing (s ∷ ss) → (x : ℕ) → Contains ss x → s < x
 first_least s ss up x h =
     let k = h.0 in
     let lt = h.1 in

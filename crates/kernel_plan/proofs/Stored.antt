@@ -17,7 +17,7 @@ use Rattle.kernel_layout.specs.Layouts.{AreAllStages}
 use Rattle.kernel_stages.specs.Numbers.{last_from, all_word_bits}
 use Rattle.kernel_rtl.specs.Planned.{widths_of}
 use Rattle.kernel_plan.specs.Stored.{latency_bits_below, latency_bits}
-use Rattle.kernel_plan.proofs.Sums.{sum_below, sum_front}
+use Rattle.kernel_wiring.proofs.Sums.{sum_below, sum_front}
 use Rattle.kernel_plan.proofs.Bits.{has_greatest, none_below}
 use Rattle.kernel_plan.proofs.Rising.{rest_rises, first_at_most}
 

@@ -1,4 +1,3 @@
 pub mod Planned
 pub mod Refused
 pub mod Stored
-pub mod Stages

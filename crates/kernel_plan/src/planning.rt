@@ -2,12 +2,12 @@
 ghost use Rattle.std.specs.Prelude.{◌≡◌, ◌+◌, ◌*◌, ◌^◌, ◌≤◌, ◌≤ℤ◌, ℕ, pos, length, slice_index, IfOk, IfErr};
 ghost use Rattle.cycle_find.specs.Constraints.{numbers_of, IsSolvable};
 ghost use Rattle.kernel_layout.specs.Layouts.{IsLayout};
-ghost use Rattle.kernel_stages.specs.Numbers.{stage_count, all_word_bits};
+ghost use Rattle.kernel_stages.specs.Numbers.{stage_count, ring_count, all_word_bits};
 ghost use Rattle.kernel_rtl.specs.Planned.{IsPlanned, widths_of};
 ghost use Rattle.kernel_plan.specs.Planned.{IsScheduled};
 ghost use Rattle.kernel_plan.specs.Refused.{bits_in, IsRefused};
 ghost use Rattle.kernel_plan.specs.Stored.{latency_bits};
-ghost use Rattle.kernel_plan.specs.Stages.{operand_count};
+ghost use Rattle.kernel_wiring.specs.OneNode.{operand_count};
 
 use crate::{Plan, PlanError};
 use fifo_sharing::share;
@@ -23,8 +23,9 @@ const MOST_BITS: i128 = 1 << 28;
 /// The layout of a kernel's module at its least schedule by some table of latencies, whose times
 /// are at most 2^46, with the bits of the schedule's FIFOs: the stages of the layout keep the words
 /// of these FIFOs and those of the registers behind its nodes. They are at most 64 for a node, its
-/// latency, and one for an operand. Errors: `TooManyBits`, with the
-/// bits, exactly where the FIFOs hold more than 2^28 bits; else want of memory.
+/// latency, and one for an operand, and no more than one for an operand come more than one advance
+/// after the one before. Errors: `TooManyBits`, with the bits, exactly where the FIFOs hold more
+/// than 2^28 bits; else want of memory.
 pub fn plan(alloc: Global, kernel: &Kernel, schedule: &Schedule) -> Result<Plan, PlanError>
     requires least { IsScheduled kernel.now.nodes schedule.now }
     requires arcs { IsSolvable schedule.now.problem.arcs }
@@ -40,6 +41,8 @@ pub fn plan(alloc: Global, kernel: &Kernel, schedule: &Schedule) -> Result<Plan,
         ≡ made.bits + latency_bits (slice_index schedule.now.latencies) kernel.now.nodes) }
     ensures stages { IfOk result (λ made. stage_count made.layout.stages
         ≤ 64 * length kernel.now.nodes + operand_count kernel.now.nodes) }
+    ensures rings { IfOk result (λ made. ring_count made.layout.stages
+        ≤ operand_count kernel.now.nodes) }
     ensures refused { IfErr result (IsRefused (bits_in kernel.now.nodes schedule.now)) }
 {
     let times = schedule.answer.times.as_slice();

@@ -39,11 +39,11 @@ use Rattle.kernel_rtl.proofs.Numbers.{map_get, map_length}
 
 -- ---- registers
 
-net_both : (xs ys : List Net) → net_bits (xs ++ ys) ≡ net_bits xs + net_bits ys
+pub net_both : (xs ys : List Net) → net_bits (xs ++ ys) ≡ net_bits xs + net_bits ys
 net_both [] ys = omega arith
 net_both (x ∷ xs) ys = let e = net_both xs ys in omega (arith, e)
 
-mem_both : (xs ys : List Mem) → mem_bits (xs ++ ys) ≡ mem_bits xs + mem_bits ys
+pub mem_both : (xs ys : List Mem) → mem_bits (xs ++ ys) ≡ mem_bits xs + mem_bits ys
 mem_both [] ys = omega arith
 mem_both (x ∷ xs) ys = let e = mem_both xs ys in omega (arith, e)
 
@@ -57,7 +57,7 @@ no_bits (y ∷ xs) z zero x e r =
     omega (arith, z, head, width)
 no_bits (y ∷ xs) z (suc i) x e r = no_bits xs (omega (arith, z)) i x e r
 
-reg_of_net : (n : Module) (k : ℕ) (x : Net) → slice_get n.nets k ≡ Some x → is_reg n k ≡ true → x.reg ≡ true
+pub reg_of_net : (n : Module) (k : ℕ) (x : Net) → slice_get n.nets k ≡ Some x → is_reg n k ≡ true → x.reg ≡ true
 reg_of_net n k x e r = sym (ap net_kept e) ∙ r
 
 -- a module that stores no more bits than before has no more registers

@@ -2,6 +2,7 @@ pub mod Numbers
 pub mod Taps
 pub mod Running
 pub mod Finishing
+pub mod Memories
 pub mod Starting
 pub mod Driving
 pub mod Wording

@@ -10,14 +10,16 @@ use Rattle.kernel_ports.specs.declared.signals.StreamSignals.{StreamSignals}
 use Rattle.kernel_ports.specs.declared.signals.KernelSignals.{KernelSignals}
 use Rattle.kernel_ports.specs.HasKernelPorts.{HasKernelPorts}
 use Rattle.kernel_ports.proofs.Whole.{count_scalars, count_inputs, count_outputs}
-use Rattle.kernel_stages.specs.Chains.{joined}
-use Rattle.kernel_stages.proofs.Chaining.{joined_length}
+use Rattle.kernel_stages.specs.Chains.{joined, ring_delays}
+use Rattle.kernel_stages.proofs.Chaining.{joined_rings}
+use Rattle.kernel_wiring.specs.OneNode.{operand_count}
 use Rattle.kernel_layout.specs.declared.layout.Layout.{Layout}
 use Rattle.kernel_rtl.specs.declared.storage.Storage.{Storage}
 use Rattle.kernel_rtl.specs.Planned.{most_nets}
 use Rattle.kernel_rtl.specs.Storage.{AddsStorage}
 use Rattle.kernel_rtl.specs.Handshakes.{input_handshake, output_handshake, handshakes_of}
 use Rattle.kernel_rtl.proofs.Numbers.{map_length}
+use Rattle.kernel_rtl.proofs.Starting.{all_stand}
 use Rattle.kernel_rtl.proofs.Joining.{input_nodes, output_nodes}
 
 -- the ports of the module are numbered up to the one that says whether it has ended
@@ -51,9 +53,9 @@ handshake_count kernel times m ports p =
 -- the nets after each step together
 pub net_count : (kernel : Kernel) (times : ℕ → ℕ) (layout : Layout) (a b c d e : Module) (ports : KernelSignals) (storage : Storage)
     → HasKernelPorts kernel a ports → AddsStorage a b kernel.nodes layout.stages storage
-    → length c.nets ≤ length b.nets + 1024 * length kernel.nodes
+    → length c.nets ≤ length b.nets + length kernel.nodes + 15 * operand_count kernel.nodes
     → length d.nets ≤ length c.nets + 10 * length (handshakes_of times ports) + 12
-    → length e.nets ≤ length d.nets + 8 * length (joined storage.delays)
+    → length e.nets ≤ length d.nets + 8 * ring_delays (joined storage.delays)
     → length e.nets ≤ most_nets kernel.nodes layout.stages
 net_count kernel times layout a b c d e ports storage p s w t z =
     let own = p.alone.nets in
@@ -61,6 +63,7 @@ net_count kernel times layout a b c d e ports storage p s w t z =
     let named = ap length p.ports in
     let count = ports_count kernel.nodes in
     let first = s.nets in
-    let delays = joined_length layout.stages storage.delays s.late in
+    let stand = all_stand b (storage.position.net + 1) s.memory (joined storage.delays) (length b.nets) (length b.mems) s.free in
+    let rings = joined_rings b layout.stages storage.delays s.late stand in
     let shakes = handshake_count kernel times a ports p in
-    omega (arith, own, views, named, count, first, delays, shakes, w, t, z)
+    omega (arith, own, views, named, count, first, rings, shakes, w, t, z)

@@ -36,6 +36,7 @@ use Rattle.kernel_stages.specs.Starting.{AddsChains}
 use Rattle.kernel_rtl.specs.declared.storage.Storage.{Storage}
 use Rattle.kernel_rtl.specs.Planned.{AreNear, IsPlanned, widths_of}
 use Rattle.kernel_rtl.specs.Storage.{AddsPosition, AddsStorage}
+use Rattle.kernel_rtl.proofs.Memories.{position_mems}
 
 pub position_added : (m n : Module) (name : List ℕ) (s : Signal) → HasPortsAlone m → name ≡ codes "position" → AddsRegister m n name 48 s → AddsPosition m n s
 position_added m n name s alone named a =
@@ -61,9 +62,9 @@ position_added m n name s alone named a =
 begins : (m : Module) (a b k : ℕ) (es : List Element) (nets mems : ℕ) → a ≡ b → AreFree m a k es nets mems → AreFree m b k es nets mems
 begins m a b k es nets mems e h = subst (λ x. AreFree m x k es nets mems) e h
 
-pub storage_added : (l m n : Module) (nodes : List Node) (widths : List ℕ) (stages : List (List ℕ)) (s : Storage) → widths ≡ widths_of nodes
+pub storage_added : (l m n : Module) (nodes : List Node) (widths : List ℕ) (stages : List (List ℕ)) (s : Storage) → HasPortsAlone l → widths ≡ widths_of nodes
     → AddsPosition l m s.position → AddsChains m n widths stages s.delays → AddsStorage l n nodes stages s
-storage_added l m n nodes widths stages s same p h =
+storage_added l m n nodes widths stages s alone same p h =
     let c = subst (λ ws. AddsChains m n ws stages s.delays) same h in
     let e = c.extends in
     record {
@@ -83,6 +84,7 @@ storage_added l m n nodes widths stages s same p h =
       undriven = undriven_on l m n p.extends.grows p.undriven c.undriven;
       stored = let a = p.stored in let b = c.stored in omega (arith, a, b);
       nets = let a = p.nets in let b = c.nets in omega (arith, a, b);
+      mems = let a = position_mems l m s.position alone p in let b = c.mems in omega (arith, a, b);
     }
 
 pub all_stand : (m : Module) (a b : ℕ) (es : List Element) (nets mems : ℕ) → AreFree m a b es nets mems → All (HasElement m) es

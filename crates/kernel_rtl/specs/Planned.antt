@@ -34,7 +34,8 @@ use Rattle.stream_equations.specs.Equations.{control_of}
 use Rattle.kernel_control.specs.Ports.{inputs_of, outputs_of, ended_port}
 use Rattle.kernel_layout.specs.declared.layout.Layout.{Layout}
 use Rattle.kernel_layout.specs.Layouts.{IsLayout}
-use Rattle.kernel_stages.specs.Numbers.{differences, stage_count}
+use Rattle.kernel_stages.specs.Numbers.{differences, stage_count, ring_count}
+use Rattle.kernel_wiring.specs.OneNode.{operand_count}
 
 -- whether a node of this kind gets its hardware here: inputs, outputs, constants, operations,
 -- offsets and feeds do
@@ -86,11 +87,12 @@ abbrev pub times_of : List ℤ → ℕ → ℕ
 times_of times = λ n. unsigned_abs (numbers_of times n)
 
 -- The most nets that the module of a kernel with these stages has: those of its ports and of its
--- position, at most 1,024 for the wires of a node, 10 for a stage, and 10 for a port's handshake
--- and 12 beside for the control.
+-- position, one and 15 an operand for the wires of a node, one for a stage and 9 more for one whose
+-- delay is a ring, and 10 for a port's handshake and 12 beside for the control.
 abbrev pub most_nets : List Node → List (List ℕ) → ℕ
 most_nets nodes stages =
-    (ended_port nodes + 2) + 1024 * length nodes + 10 * stage_count stages
+    (ended_port nodes + 2) + length nodes + 15 * operand_count nodes
+    + stage_count stages + 9 * ring_count stages
     + 10 * (length (inputs_of nodes) + length (outputs_of nodes))
     + 12
 

@@ -1,5 +1,5 @@
 -- The position of a kernel's module and the delays of its nodes, before anything writes them.
-use Rattle.std.specs.Prelude.{◌≡◌, ℕ, ◌+◌, ◌*◌, ◌≤◌, true, false, nat_eq, List, length, codes}
+use Rattle.std.specs.Prelude.{◌≡◌, ℕ, ◌+◌, true, false, nat_eq, List, length, codes}
 use Rattle.rtl_ir.specs.declared.design.Module.{Module}
 use Rattle.rtl_ir.specs.Value.{is_reg}
 use Rattle.rtl_ir.specs.Formed.{name_of}
@@ -11,7 +11,7 @@ use Rattle.rtl_delays.specs.Stored.{stored_bits}
 use Rattle.rtl_delays.specs.Elements.{AreFree}
 use Rattle.stream_graph.specs.declared.node.Node.{Node}
 use Rattle.kernel_control.specs.Nets.{HasWideRegister}
-use Rattle.kernel_stages.specs.Numbers.{stage_count, all_word_bits, all_pointer_bits}
+use Rattle.kernel_stages.specs.Numbers.{stage_count, ring_count, all_word_bits, all_pointer_bits}
 use Rattle.kernel_stages.specs.Chains.{joined, is_register_of, AreChains, AreWide}
 use Rattle.kernel_rtl.specs.declared.storage.Storage.{Storage}
 use Rattle.kernel_rtl.specs.Planned.{widths_of}
@@ -57,4 +57,5 @@ pub record AddsStorage (old new : Module) (nodes : List Node) (stages : List (Li
     pub stored :
         stored_bits new
         ≡ stored_bits old + 48 + all_word_bits (widths_of nodes) stages + all_pointer_bits stages
-    pub nets : length new.nets ≤ length old.nets + 1 + 2 * stage_count stages
+    pub nets : length new.nets ≡ length old.nets + 1 + stage_count stages + ring_count stages
+    pub mems : length new.mems ≡ length old.mems + ring_count stages

@@ -34,7 +34,7 @@ use Rattle.kernel_ports.specs.declared.signals.StreamSignals.{StreamSignals}
 use Rattle.kernel_ports.specs.declared.signals.KernelSignals.{KernelSignals}
 use Rattle.kernel_ports.specs.HasKernelPorts.{IsInputPort, IsOutputPort}
 use Rattle.kernel_wiring.specs.Words.{has_word, signal_at, taps_at, IsWordOf}
-use Rattle.kernel_wiring.specs.OneNode.{IsWired}
+use Rattle.kernel_wiring.specs.OneNode.{IsWired, operand_count}
 
 -- ---- inputs
 
@@ -113,7 +113,7 @@ pub record AddsWords (old new : Module) (nodes : List Node) (layout : Layout)
     pub registers : AddsNoRegister old new
     pub leaves : DrivesAtMost old new (data_nets ports.outputs)
     pub driven : AreDriven new (data_nets ports.outputs)
-    pub nets : length new.nets ≤ length old.nets + 1024 * length nodes
+    pub nets : length new.nets ≤ length old.nets + length nodes + 15 * operand_count nodes
     pub shows : All (IsDriven new words) ports.outputs
     pub counted : length words ≡ length nodes
     pub given :

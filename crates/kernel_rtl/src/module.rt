@@ -2,10 +2,11 @@
 ghost use Rattle.std.specs.Prelude.{◌≡◌, ◌+◌, ◌≤◌, ◌<◌, ◌^◌, length, IfOk, IsTrue};
 ghost use Rattle.cycle_find.specs.Constraints.{numbers_of};
 ghost use Rattle.rtl_ir.specs.Ports.{is_plain_name};
+ghost use Rattle.rtl_delays.specs.Partial.{IsPartial};
 ghost use Rattle.rtl_delays.specs.Stored.{stored_bits};
 ghost use Rattle.rtl_reading.specs.Reads.{IsPortsFirst};
 ghost use Rattle.kernel_control.specs.Refines.{Refines};
-ghost use Rattle.kernel_stages.specs.Numbers.{all_word_bits, all_pointer_bits};
+ghost use Rattle.kernel_stages.specs.Numbers.{ring_count, all_word_bits, all_pointer_bits};
 ghost use Rattle.kernel_rtl.specs.Planned.{IsPlain, IsPlanned, times_of, widths_of, most_nets};
 
 use crate::control::control;
@@ -35,7 +36,8 @@ fn finished(netlist: Netlist) -> Module
 /// The module of a kernel at these times, by a layout at them: it refines the kernel, its ports are
 /// its first nets, in their order, and it stores the 48 bits of its position, the words that its
 /// nodes' stages keep, and the pointers of those that are kept in memories. Its nets are at most
-/// `most_nets`.
+/// `most_nets`, named by their numbers past its ports (`IsPartial`), and it has a memory for each
+/// ring.
 ///
 /// The kernel's name is a letter and then letters, digits and `_`. Times are in advances, from 0 to
 /// 2^46, in node order. The only error is `NoMemory`, also where the module has 2^32 nets.
@@ -56,6 +58,8 @@ pub fn kernel_module(
         + all_pointer_bits layout.now.stages) }
     ensures nets { IfOk result (λ built.
         length built.nets ≤ most_nets kernel.now.nodes layout.now.stages) }
+    ensures mems { IfOk result (λ built. length built.mems ≤ ring_count layout.now.stages) }
+    ensures partial { IfOk result IsPartial }
 {
     let (mut netlist, ports) = kernel_ports(alloc, kernel)?;
     let storage = start_storage(alloc, &mut netlist, kernel, layout)?;

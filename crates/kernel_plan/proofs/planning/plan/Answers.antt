@@ -13,7 +13,7 @@ use Rattle.kernel_layout.specs.Layouts.{IsLayout}
 use Rattle.kernel_plan.specs.Refused.{bits_in}
 use Rattle.kernel_plan.proofs.Facts.{few_terms, terms_inside, legal, causal, problem_is, bits_read, some_bits, bits_said, planned, many, few_said, said_few, few_bits, no_memory}
 use Rattle.kernel_plan.proofs.Stored.{stored}
-use Rattle.kernel_plan.proofs.Counted.{counted}
+use Rattle.kernel_plan.proofs.Counted.{counted, rings_counted}
 use Rattle.kernel_plan.proofs.planning.plan.Goals as goal
 
 pub cost-bits-requires-clause-count : goal.cost-bits-requires-clause-count
@@ -135,3 +135,9 @@ returns-clause-stages c =
     let schedule = c.args.schedule.now in
     counted c.args.kernel.now.nodes (slice_index schedule.latencies) (numbers_of schedule.answer.times)
     c.in_ok-layout.layout.stages (returns-clause-laid c).stages c.requires.least.least.latencies.at_most
+
+pub returns-clause-rings : goal.returns-clause-rings
+returns-clause-rings c =
+    let schedule = c.args.schedule.now in
+    rings_counted c.args.kernel.now.nodes (slice_index schedule.latencies) (numbers_of schedule.answer.times)
+    c.in_ok-layout.layout.stages (returns-clause-laid c).stages

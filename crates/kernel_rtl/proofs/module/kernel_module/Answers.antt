@@ -3,13 +3,15 @@ use Rattle.std.specs.Prelude.{All}
 use Rattle.cycle_find.specs.Constraints.{numbers_of}
 use Rattle.rtl_ir.specs.declared.design.Module.{Module}
 use Rattle.rtl_delays.specs.Elements.{HasElement}
+use Rattle.rtl_delays.specs.Partial.{IsPartial}
 use Rattle.rtl_delays.specs.Stored.{stored_bits}
 use Rattle.rtl_delays.proofs.Extends.{extends_on}
 use Rattle.rtl_reading.specs.Reads.{IsPortsFirst}
 use Rattle.offset_edges.proofs.NodeLemmas.{orderly}
 use Rattle.offset_edges.proofs.EdgeLemmas.{edges_are}
 use Rattle.kernel_control.specs.Refines.{Refines}
-use Rattle.kernel_stages.specs.Chains.{joined, AreFreeIn}
+use Rattle.kernel_stages.specs.Numbers.{ring_count}
+use Rattle.kernel_stages.specs.Chains.{joined, ring_delays, AreFreeIn}
 use Rattle.kernel_stages.specs.Closing.{MayFollowWords}
 use Rattle.kernel_stages.proofs.Chaining.{chains_length}
 use Rattle.kernel_rtl.specs.Planned.{times_of, most_nets}
@@ -18,6 +20,7 @@ use Rattle.kernel_rtl.proofs.Joining.{words_named, streams_on, data_undriven, to
 use Rattle.kernel_rtl.proofs.PortsFirst.{ports_first}
 use Rattle.kernel_rtl.proofs.Whole.{ClosesDelays, closed_named, stored, refines}
 use Rattle.kernel_rtl.proofs.Sizes.{net_count}
+use Rattle.kernel_rtl.proofs.Memories.{mem_count}
 use Rattle.kernel_rtl.proofs.module.kernel_module.Goals as goal
 
 pub start_storage-requires-clause-stages : goal.start_storage-requires-clause-stages
@@ -187,7 +190,23 @@ returns-clause-nets c =
     let w = c.add_words.new.netlist in
     let t = c.control.new.netlist in
     let e = c.close_stages.new.netlist in
-    let closed = subst (λ es. length e.nets ≤ length t.nets + 8 * length (joined es)) c.as_slice-delays.ensures c.in_ok-close_stages.ensures.nets in
+    let closed = subst (λ es. length e.nets ≤ length t.nets + 8 * ring_delays (joined es)) c.as_slice-delays.ensures c.in_ok-close_stages.ensures.nets in
     subst (λ (x : Module). length x.nets ≤ most_nets kernel.nodes layout.stages) (sym c.finished.ensures.whole)
     (net_count kernel (times_of c.args.times.now) layout a b w t e c.in_ok-netlist.ports storage c.in_ok-netlist.ensures c.in_ok-storage.ensures
     c.in_ok-words.ensures.nets c.in_ok-run.ensures.added closed)
+
+pub returns-clause-mems : goal.returns-clause-mems
+returns-clause-mems c =
+    let layout = c.args.layout.now in
+    let z = c.in_ok-close_stages.ensures in
+    subst (λ (x : Module). length x.mems ≤ ring_count layout.stages) (sym c.finished.ensures.whole)
+    (mem_count c.in_ok-netlist.netlist c.start_storage.new.netlist c.add_words.new.netlist c.control.new.netlist c.close_stages.new.netlist
+    c.args.kernel.now.nodes layout.stages c.in_ok-storage.storage c.in_ok-netlist.ensures.alone c.in_ok-storage.ensures
+    c.in_ok-words.ensures.extends c.in_ok-run.ensures.extends z.extends
+    c.in_ok-words.ensures.stored c.in_ok-run.ensures.stored z.stored)
+
+pub returns-clause-partial : goal.returns-clause-partial
+returns-clause-partial c =
+    let all = extends_on c.in_ok-storage.ensures.extends
+    (extends_on c.in_ok-words.ensures.extends (extends_on c.in_ok-run.ensures.extends c.in_ok-close_stages.ensures.extends)) in
+    subst IsPartial (sym c.finished.ensures.whole) (all.partial c.in_ok-netlist.ensures.alone.partial)

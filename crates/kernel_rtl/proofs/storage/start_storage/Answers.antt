@@ -18,6 +18,6 @@ returns c =
     let widths = c.as_slice.result.now in
     let chains = c.in_ok-delays.delays in
     storage_added c.args.netlist.now m n c.args.kernel.now.nodes widths c.args.layout.now.stages
-    (record { position = c.in_ok-position.position; delays = chains })
+    (record { position = c.in_ok-position.position; delays = chains }) c.requires.alone
     (c.as_slice.ensures.value ∙ c.in_ok-widths.ensures) c.in_ok-position.ensures
     (subst (λ stages. AddsChains m n widths stages chains) c.as_slice-2.ensures c.in_ok-delays.ensures)
