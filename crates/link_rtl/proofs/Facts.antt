@@ -10,7 +10,6 @@ use Rattle.rtl_ir.specs.Value.{net_kept, net_width}
 use Rattle.rtl_ir.specs.Formed.{net_name}
 use Rattle.rtl_ir.specs.Flat.{top_of}
 use Rattle.rtl_ir.specs.Ports.{PortView, port_view, HasShape, shape_ports}
-use Rattle.rtl_ir.specs.Rules.{IsAccepted}
 use Rattle.rtl_reading.specs.Reads.{numbers_from, IsPortsFirst, ArePortsFirst}
 use Rattle.stream_graph.specs.declared.kernel.Kernel.{Kernel}
 use Rattle.stream_graph.specs.declared.node.Node.{Node}
@@ -20,10 +19,8 @@ use Rattle.link_fifo.specs.Fifo.{IsFifoModule}
 use Rattle.link_rtl.specs.Shapes.{shape_of, streams_of, port_count}
 use Rattle.link_rtl.specs.Tops.{range, instance, kernel_nets, port_net, ports_from, link_widths, done_widths, wire_widths, input_instances, output_instances, instances_of, top_module}
 use Rattle.link_rtl.specs.Projects.{AreFifos, IsProjectOf}
-use Rattle.link_rtl.specs.Words.{RunsAsEquations}
-use Rattle.link_rtl.specs.Designs.{StoresParts, IsDesignOf}
+use Rattle.link_rtl.specs.Designs.{StoresParts}
 use Rattle.link_rtl.proofs.Lookups.{get_left, get_behind, length_map, length_ports, length_fifos}
-use Rattle.link_rtl.proofs.Storage.{bits, wires}
 
 -- ---- the ports
 
@@ -175,7 +172,7 @@ stores_parts kernel m d project = record {
 
 -- ---- the number of nets
 
-length_wires : (k : ℕ) (ws : List ℕ) → length (wires_from k ws) ≡ length ws
+pub length_wires : (k : ℕ) (ws : List ℕ) → length (wires_from k ws) ≡ length ws
 length_wires k [] = refl
 length_wires k (w ∷ ws) = ap suc (length_wires (k + 1) ws)
 
@@ -187,6 +184,13 @@ length_done : (ns : List ℕ) → length (done_widths ns) ≡ 2 * length ns
 length_done [] = refl
 length_done (n ∷ ns) = let e = length_done ns in omega arith
 
+pub count_wires : (nodes : List Node) → length (wire_widths nodes) ≡ 3 * length (streams_of nodes) + 1 + 2 * length (outputs_of nodes)
+count_wires nodes =
+    let a = length-append (link_widths nodes (streams_of nodes)) (1 ∷ done_widths (outputs_of nodes)) in
+    let b = length_links nodes (streams_of nodes) in
+    let c = length_done (outputs_of nodes) in
+    omega arith
+
 pub few_nets : (kernel : Kernel) → length (top_module kernel).nets ≤ 16 + 8 * (length (scalars_of kernel.nodes) + length (streams_of kernel.nodes))
 few_nets kernel =
     let nodes = kernel.nodes in
@@ -196,28 +200,6 @@ few_nets kernel =
     let b = length_map port_net ps in
     let c = length_ports kernel in
     let e = length_wires (port_count nodes) ws in
-    let f = length-append (link_widths nodes (streams_of nodes)) (1 ∷ done_widths (outputs_of nodes)) in
-    let g = length_links nodes (streams_of nodes) in
-    let h = length_done (outputs_of nodes) in
+    let f = count_wires nodes in
     let i = length-append (inputs_of nodes) (outputs_of nodes) in
     omega arith
-
--- ---- all of it
-
-pub whole :
-    (kernel : Kernel) (m : Module) (d : Design)
-    → IsProjectOf kernel m d → m.instances ≡ [] → IsPortsFirst m → RunsAsEquations kernel d (top_module kernel) → IsAccepted d → IsDesignOf kernel m d
-whole kernel m d project alone first runs accepted =
-    let parts : StoresParts kernel m d (top_module kernel) = stores_parts kernel m d project in
-    record {
-      accepted = accepted;
-      top = top_module kernel;
-      is_top = is_top kernel m d project;
-      shape = has_shape kernel;
-      ports_first = ports_first kernel m d project first;
-      runs = runs;
-      stored = parts;
-      bits = bits kernel m d (top_module kernel) parts alone;
-      nets = few_nets kernel;
-      wires = wires kernel m d (top_module kernel) parts alone;
-    }

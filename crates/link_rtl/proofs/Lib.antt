@@ -6,6 +6,9 @@ pub mod Joins
 pub mod Runs
 pub mod Storage
 pub mod Facts
+pub mod ShortNames
+pub mod Sizes
+pub mod Whole
 pub mod Porting
 pub mod Porters
 pub mod Making

@@ -175,15 +175,15 @@ net_from n [] k h = absurd (omega arith)
 net_from n (p ∷ ps) zero h = omega arith
 net_from n (p ∷ ps) (suc k) h = let e = net_from (n + 1) ps k (omega arith) in omega arith
 
-length_scalars : (ss : List (List ℕ × List ℕ × ℕ)) → length (scalar_ports ss) ≡ length ss
+pub length_scalars : (ss : List (List ℕ × List ℕ × ℕ)) → length (scalar_ports ss) ≡ length ss
 length_scalars [] = refl
 length_scalars (s ∷ ss) = ap suc (length_scalars ss)
 
-length_ins : (xs : List (List ℕ × ℕ)) → length (host_input_ports xs) ≡ 3 * length xs
+pub length_ins : (xs : List (List ℕ × ℕ)) → length (host_input_ports xs) ≡ 3 * length xs
 length_ins [] = refl
 length_ins (x ∷ xs) = let e = length_ins xs in omega arith
 
-length_outs : (ys : List (List ℕ × ℕ)) → length (host_output_ports ys) ≡ 3 * length ys
+pub length_outs : (ys : List (List ℕ × ℕ)) → length (host_output_ports ys) ≡ 3 * length ys
 length_outs [] = refl
 length_outs (y ∷ ys) = let e = length_outs ys in omega arith
 

@@ -4,6 +4,7 @@ use Rattle.std.specs.Prelude.{
   ℕ,
   ◌+◌,
   ◌*◌,
+  ◌^◌,
   ◌≤◌,
   false,
   List,
@@ -30,6 +31,8 @@ use Rattle.link_rtl.specs.Tops.{range}
 use Rattle.link_rtl.specs.Projects.{AreFifos}
 use Rattle.link_rtl.specs.Storage.{all_bits, all_nets, host_bits}
 use Rattle.link_rtl.specs.Words.{RunsAsEquations}
+use Rattle.verilog_size.specs.Names.{inner_names, design_names}
+use Rattle.verilog_size.specs.Sizes.{size_of, design_size}
 
 -- What the design stores stands in these modules: the FIFOs, which store two words each, and the
 -- kernel's. Each of them has one instance in the top module, which stores nothing itself.
@@ -44,8 +47,10 @@ pub record StoresParts (kernel : Kernel) (m : Module) (d : Design) (top : Module
 
 -- The design of a kernel whose module is this one: it keeps all rules of designs; the ports of its
 -- top module are those of the kernel's shape; it runs as the stream equations; all its registers
--- and memories are those of the kernel's module and of the FIFOs; and its wires are those of the
--- kernel's module and of the top module, and at most 64 for a FIFO.
+-- and memories are those of the kernel's module and of the FIFOs; its wires are those of the
+-- kernel's module and of the top module, and at most 64 for a FIFO; and it has few parts and few
+-- bytes of names beside those of the kernel's module, by the kernel's scalars, inputs and outputs
+-- and the length of its name.
 pub record IsDesignOf (kernel : Kernel) (m : Module) (d : Design) : Type 0 where
   pub accepted : IsAccepted d
   pub top : Module
@@ -60,3 +65,11 @@ pub record IsDesignOf (kernel : Kernel) (m : Module) (d : Design) : Type 0 where
       ≤ 16 + 8 * (length (scalars_of kernel.nodes) + length (streams_of kernel.nodes))
   pub wires :
       all_nets d ≤ length m.nets + length top.nets + 64 * length (streams_of kernel.nodes)
+  pub size :
+      design_size d
+      ≤ size_of m + 32
+      + 128 * (length (scalars_of kernel.nodes) + length (streams_of kernel.nodes))
+  pub names :
+      design_names d
+      ≤ inner_names m + (16 + 4 * length (scalars_of kernel.nodes)) * length kernel.name
+      + 2 ^ 14 * (1 + length (scalars_of kernel.nodes) + length (streams_of kernel.nodes))
