@@ -1,0 +1,5 @@
+pub mod Plans
+pub mod Ports
+pub mod Joined
+pub mod Starts
+pub mod Links
