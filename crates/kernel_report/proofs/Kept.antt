@@ -16,6 +16,7 @@ use Rattle.std.proofs.Common.{
   [],
   ◌∷◌,
   length,
+  refl,
   get_or,
   set,
   drop,
@@ -33,6 +34,7 @@ use Rattle.std.specs.Prelude.{
   All,
   ℤ,
   ◌-ℤ◌,
+  ◌≤ℤ◌,
   ◌==◌,
   nat_lt,
   if◌then◌else◌,
@@ -42,7 +44,9 @@ use Rattle.std.specs.Prelude.{
   unwrap_or,
   unsigned_abs,
 }
+use Rattle.std.specs.Int.{int_max}
 use Rattle.std.proofs.lemmas.Int.{ints, clamps}
+use Rattle.std.proofs.lemmas.Bool.{eqb-true, eq-eqb}
 use Rattle.std.proofs.lemmas.Bool.Decides.{nat_tests, eqb_tells}
 use Rattle.std.proofs.lemmas.List.{drop_more, get_or-set_same, get_or-set_other}
 use Rattle.cycle_find.specs.Constraints.{Numbers}
@@ -141,3 +145,80 @@ pub whole_own : (nodes : List Node) (s : Numbers) (v : ℕ) → v < length nodes
 whole_own nodes s v h =
     let t : nat_lt v (length nodes) ≡ true = grind (arith, nat_tests) in
     ap (λ b. if b then s v else kept_until s (edges_of nodes) (v - length nodes)) t
+
+-- the time up to which a node's words are kept stands past the nodes
+pub whole_kept : (nodes : List Node) (s : Numbers) (u : ℕ)
+    → whole_times nodes s (length nodes + u) ≡ kept_until s (edges_of nodes) u
+whole_kept nodes s u =
+    let t : nat_lt (length nodes + u) (length nodes) ≡ false = grind (arith, nat_tests) in
+    let v : ℕ = length nodes + u - length nodes in
+    let e : v ≡ u = omega arith in
+    ap (λ b. if b then s (length nodes + u) else kept_until s (edges_of nodes) v) t
+    ∙ ap (kept_until s (edges_of nodes)) e
+
+-- ---- the last read of a word
+
+module _ (s : Numbers) where
+  -- when an edge reads
+  abbrev pub read_of : Edge → ℤ
+  read_of e = s e.to -ℤ e.offset
+
+  -- a node that edge j reads has a last read, and edge j reads no later
+  pub record HasLast (edges : List Edge) (j : ℕ) : Type 0 where
+    pub last : ℤ
+    pub is : last_read s edges (edge_at edges j).from ≡ Some last
+    pub above : read_of (edge_at edges j) ≤ℤ last
+
+  greater_first : (z : ℤ) (o : Option ℤ) → z ≤ℤ greater z o
+  greater_first z None = omega (arith, ints)
+  greater_first z (Some y) = omega (arith, ints, clamps)
+
+  pub has_last : (edges : List Edge) (j : ℕ) → j < length edges → HasLast edges j
+  has_last [] j h = absurd (omega arith)
+  has_last (e ∷ es) zero h =
+      let o : Option ℤ = last_read s es e.from in
+      record {
+        last = greater (read_of e) o;
+        is = ap (λ b. if b then Some (greater (read_of e) o) else o) (eq-eqb e.from e.from refl);
+        above = greater_first (read_of e) o;
+      }
+  has_last (e ∷ es) (suc j) h =
+      let t = by_test (e.from == u) (has_last es j (omega arith)) in
+      record { last = t.0; is = t.1; above = t.2 }
+    where
+      u : ℕ
+      u = (edge_at es j).from
+
+      by_test : (b : Bool) → HasLast es j → (d : ℤ)
+          × ((if b then Some (greater (read_of e) (last_read s es u)) else last_read s es u)
+          ≡ Some d)
+          × (read_of (edge_at es j) ≤ℤ d)
+      by_test true r =
+          let m = r.above in (
+            int_max (read_of e) r.last,
+            ap (λ o. Some (greater (read_of e) o)) r.is,
+            omega (arith, ints, clamps, m),
+          )
+      by_test false r = (r.last, r.is, r.above)
+
+  -- the last read is no later than what each of a node's edges reads no later than
+  pub last_most : (edges : List Edge) (u : ℕ) (c d : ℤ)
+      → ((j : ℕ) → j < length edges → (edge_at edges j).from ≡ u → read_of (edge_at edges j) ≤ℤ c)
+      → last_read s edges u ≡ Some d → d ≤ℤ c
+  last_most [] u c d each is = absurd (cc)
+  last_most (e ∷ es) u c d each is =
+      by_test (e.from == u) (λ t. each 0 (omega arith) (eqb-true e.from u t)) (last_read s es u)
+      (λ z q. last_most es u c z (λ j h. each (suc j) (omega arith)) q) is
+    where
+      by_test : (b : Bool) → (b ≡ true → read_of e ≤ℤ c) → (o : Option ℤ)
+          → ((z : ℤ) → o ≡ Some z → z ≤ℤ c)
+          → (if b then Some (greater (read_of e) o) else o) ≡ Some d → d ≤ℤ c
+      by_test true first None rest q =
+          let same : read_of e ≡ d = cc in
+          subst (λ z. z ≤ℤ c) same (first refl)
+      by_test true first (Some z) rest q =
+          let same : int_max (read_of e) z ≡ d = cc in
+          let a = first refl in
+          let b = rest z refl in
+          subst (λ y. y ≤ℤ c) same (omega (arith, ints, clamps, a, b))
+      by_test false first o rest q = rest d q

@@ -3,3 +3,5 @@ mod Part
 mod Ranges
 mod Shown
 mod Verdicts
+mod Whole
+mod Written

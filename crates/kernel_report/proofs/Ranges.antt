@@ -1,8 +1,7 @@
 -- The problem of a kernel: how many arcs it has, and that its ends are nodes.
 use Rattle.std.proofs.Common.{◌≡◌, ℕ, zero, suc, ◌+◌, ◌*◌, ◌≤◌, ◌<◌, List, [], ◌∷◌, length, refl, arith}
-use Rattle.std.specs.Prelude.{All, pos, ◌+ℤ◌, ◌-ℤ◌, Option, Some, None}
+use Rattle.std.specs.Prelude.{All, Option, Some, None}
 use Rattle.std.proofs.lemmas.List.Elements.{All-nil, All-cons, All-append}
-use Rattle.cycle_find.specs.declared.arcs.Arc.{Arc}
 use Rattle.cycle_find.specs.Constraints.{EndsInRange}
 use Rattle.schedule_problem.specs.declared.problem.Term.{Term}
 use Rattle.schedule_problem.specs.Flow.{TermsInRange}
@@ -10,6 +9,7 @@ use Rattle.stream_graph.specs.declared.node.Node.{Node}
 use Rattle.offset_edges.specs.declared.edge.Edge.{Edge}
 use Rattle.offset_edges.specs.Edges.{edge_at, width_at, IsSmall}
 use Rattle.offset_edges.specs.Problems.{arcs_over, term_of, terms_below}
+use Rattle.kernel_schedule.proofs.Beginning.{arcs_have}
 
 -- two arcs an edge
 pub arcs_length : (nodes : ℕ) (ticks : ℕ → ℕ) (edges : List Edge)
@@ -17,33 +17,15 @@ pub arcs_length : (nodes : ℕ) (ticks : ℕ → ℕ) (edges : List Edge)
 arcs_length nodes ticks [] = refl
 arcs_length nodes ticks (e ∷ es) = let r = arcs_length nodes ticks es in omega arith
 
--- the ends of an arc are two of twice so many nodes
-record IsArc (nodes : ℕ) (arc : Arc) : Type 0 where
-  from : arc.from < 2 * nodes
-  to : arc.to < 2 * nodes
-
--- those of all arcs of edges between so many nodes are
-arcs_fine : (nodes : ℕ) (ticks : ℕ → ℕ) (edges : List Edge) → ((j : ℕ) → j < length edges
-    → IsSmall nodes (edge_at edges j)) → All (IsArc nodes) (arcs_over nodes ticks edges)
-arcs_fine nodes ticks [] s = All-nil (IsArc nodes)
-arcs_fine nodes ticks (e ∷ es) s =
-    let r = arcs_fine nodes ticks es (λ j h. s (suc j) (omega arith)) in
-    let q = s 0 (omega arith) in
-    let from = q.from in
-    let to = q.to in
-    let there : Arc = record { from = e.from; to = e.to; need = pos (ticks e.from) +ℤ e.offset } in
-    let back : Arc = record { from = e.to; to = nodes + e.from; need = pos 0 -ℤ e.offset } in
-    All-cons (IsArc nodes) there (back ∷ arcs_over nodes ticks es)
-    (record { from = omega arith; to = omega arith })
-    (All-cons (IsArc nodes) back (arcs_over nodes ticks es)
-    (record { from = omega arith; to = omega arith }) r)
-
 -- the ends of the arcs are nodes of the problem
 pub ends_within : (nodes : ℕ) (ticks : ℕ → ℕ) (edges : List Edge) → ((j : ℕ) → j < length edges
     → IsSmall nodes (edge_at edges j)) → EndsInRange (2 * nodes) (arcs_over nodes ticks edges)
-ends_within nodes ticks edges s = λ j h.
-    let a = arcs_fine nodes ticks edges s j (record { from = 0; to = 0; need = pos 0 }) h in
-    (a.from, a.to)
+ends_within nodes ticks edges small =
+    arcs_have (λ a. (a.from < 2 * nodes) × (a.to < 2 * nodes)) nodes ticks edges
+    (λ j h.
+    let from = (small j h).from in
+    let to = (small j h).to in
+    record { there = (omega arith, omega arith); back = (omega arith, omega arith) })
 
 -- the ends of a term are two of twice so many nodes
 record IsTerm (nodes : ℕ) (term : Term) : Type 0 where

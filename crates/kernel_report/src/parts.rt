@@ -1,9 +1,12 @@
 // The part of a report that is written of a kernel.
 ghost use Rattle.std.specs.Prelude.{◌≡◌, ◌<◌, ◌≤◌, ◌^◌, ℕ, ◌≤ℤ◌, pos, length, take, true, IfOk};
+ghost use Rattle.offset_edges.specs.Edges.{edges_of};
 ghost use Rattle.cycle_find.specs.Constraints.{numbers_of};
 ghost use Rattle.schedule_problem.specs.Flow.{cost_of};
 ghost use Rattle.kernel_calls.specs.Laws.{is_port_name};
+ghost use Rattle.kernel_schedule.specs.Beginning.{BeginsAtZero};
 ghost use Rattle.kernel_schedule.specs.Schedules.{IsLeast};
+ghost use Rattle.kernel_report.specs.Judging.{IsShown};
 ghost use Rattle.kernel_report.specs.Parts.{IsPartOf};
 
 use kernel_schedule::Schedule;
@@ -14,8 +17,9 @@ use std::alloc::Global;
 use stream_graph::Kernel;
 
 /// What a report says of a kernel's least schedule, whose times cost so many bits, below 2^63, and
-/// are at most 2^46. The kernel's name is a letter and then letters, digits and `_`. The only error
-/// is want of memory.
+/// are at most 2^46 and begin at 0. The kernel's name is a letter and then letters, digits and `_`.
+/// The part shows that its bits are the fewest, so that `judge` finds it good, and its times begin at
+/// 0, too. The only error is want of memory.
 pub fn part_of(
     alloc: Global,
     kernel: &Kernel,
@@ -28,7 +32,14 @@ pub fn part_of(
     requires most { (v : ℕ) → numbers_of schedule.now.answer.times v ≤ℤ pos (2 ^ 46) }
     requires bits { pos bits ≡ cost_of schedule.now.problem (numbers_of schedule.now.answer.times) }
     requires small { bits < 2 ^ 63 }
-    ensures { IfOk result (IsPartOf kernel.now schedule.now) }
+    requires begins { BeginsAtZero (edges_of kernel.now.nodes) (length kernel.now.nodes)
+        (numbers_of schedule.now.answer.times) }
+    ensures part { IfOk result (IsPartOf kernel.now schedule.now) }
+    ensures shown { IfOk result (IsShown table.now kernel.now) }
+    ensures times { IfOk result (λ part. (v : ℕ) → v < length kernel.now.nodes
+        → numbers_of part.times v ≡ numbers_of schedule.now.answer.times v) }
+    ensures begins { IfOk result (λ part. BeginsAtZero (edges_of kernel.now.nodes)
+        (length kernel.now.nodes) (numbers_of part.times)) }
 {
     let nodes = kernel.count();
     Ok(ReportKernel {

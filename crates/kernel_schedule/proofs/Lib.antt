@@ -1,2 +1,4 @@
+pub mod Beginning
 mod Least
+pub mod Lowering
 pub mod Unique

@@ -1,10 +1,11 @@
 // The best schedule of a kernel.
-ghost use Rattle.std.specs.Prelude.{◌≡◌, ◌^◌, ◌≤ℤ◌, ℕ, pos, IfOk, OnOk, IfErr, IsErr};
+ghost use Rattle.std.specs.Prelude.{◌≡◌, ◌^◌, ◌≤ℤ◌, ℕ, pos, length, IfOk, OnOk, IfErr, IsErr};
 ghost use Rattle.cycle_find.specs.Constraints.{IsPositiveCycle, IsSolvable, Solves, Numbers, numbers_of};
 ghost use Rattle.offset_edges.specs.Edges.{edges_of};
 ghost use Rattle.offset_edges.specs.Latencies.{AllTimed};
 ghost use Rattle.offset_edges.specs.Problems.{problem_of};
 ghost use Rattle.offset_edges.specs.Walks.{IsCausal};
+ghost use Rattle.kernel_schedule.specs.Beginning.{BeginsAtZero};
 ghost use Rattle.kernel_schedule.specs.Schedules.{IsSchedulable, IsLeast};
 ghost use Rattle.kernel_schedule.specs.Refused.{IsRefused};
 
@@ -31,8 +32,9 @@ pub struct Schedule {
 }
 
 /// The schedule of a kernel by a latency table whose FIFOs hold the fewest bits, and of those the
-/// earliest, which are from 0 to 2^46; with a flow that is worth these bits. Errors, of which the first that stands is
-/// answered: those of `edges`, and `Uncovered` exactly where no schedule is legal.
+/// earliest, whose times are from 0 to 2^46: 0 of nodes without edges, and the least of the others
+/// is 0; with a flow that is worth these bits. Errors, of which the first that stands is answered:
+/// those of `edges`, and `Uncovered` exactly where no schedule is legal.
 pub fn best_schedule(
     alloc: Global,
     kernel: &Kernel,
@@ -43,6 +45,8 @@ pub fn best_schedule(
     ensures arcs { IfOk result (λ schedule. IsSolvable schedule.problem.arcs) }
     ensures most { IfOk result (λ schedule.
         (v : ℕ) → numbers_of schedule.answer.times v ≤ℤ pos (2 ^ 46)) }
+    ensures begins { IfOk result (λ schedule. BeginsAtZero (edges_of kernel.now.nodes)
+        (length kernel.now.nodes) (numbers_of schedule.answer.times)) }
     ensures refused { IfErr result (IsRefused table.now kernel.now.nodes) }
 {
     solutions_are_schedules(kernel, table);

@@ -1,6 +1,7 @@
 use Rattle.std.proofs.Common.{◌≡◌, ◌/◌, length, take, ap, ◌∙◌, arith, rules}
 use Rattle.offset_edges.specs.Edges.{edges_of}
 use Rattle.kernel_report.proofs.Part.{edges_double, few_edges, part_is}
+use Rattle.kernel_report.proofs.Written.{part_shown, part_times, part_begins}
 use Rattle.kernel_report.proofs.parts.part_of.Goals as goal
 
 pub overflow_cast-result : goal.overflow_cast-result
@@ -22,5 +23,12 @@ returns c =
     let flow : c.from_vec-2.result ≡ schedule.answer.flow = search rules in
     let times : c.in_ok-first_times.field-0 ≡ take (length kernel.nodes) schedule.answer.times =
     c.in_ok-first_times.ensures ∙ ap (λ n. take n schedule.answer.times) c.count-nodes.ensures in
-    part_is c.args.table.now kernel schedule c.requires.least _ c.requires.name c.requires.most c.requires.small
-    c.requires.bits name c.count-nodes.ensures edges times flow
+    let part = part_is c.args.table.now kernel schedule c.requires.least _ c.requires.name
+    c.requires.most c.requires.small c.requires.bits name c.count-nodes.ensures edges times flow in
+    record {
+      part = part;
+      shown = part_shown c.args.table.now kernel schedule c.requires.least _ part c.requires.most;
+      times = part_times c.args.table.now kernel schedule c.requires.least _ part;
+      begins =
+          part_begins c.args.table.now kernel schedule c.requires.least _ part c.requires.begins;
+    }

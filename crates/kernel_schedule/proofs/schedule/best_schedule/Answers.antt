@@ -3,7 +3,9 @@ use Rattle.std.proofs.Common.{◌≡◌, ◌+◌, ◌*◌, ◌^◌, length, sym,
 use Rattle.cycle_find.specs.Constraints.{numbers_of}
 use Rattle.std.proofs.lemmas.Int.{ints}
 use Rattle.schedule_problem.specs.declared.problem.Problem.{Problem}
-use Rattle.offset_edges.specs.Latencies.{AreLatencies}
+use Rattle.offset_edges.specs.Edges.{edges_of}
+use Rattle.offset_edges.specs.Latencies.{AreLatencies, ticks_of}
+use Rattle.kernel_schedule.proofs.Beginning.{begins}
 use Rattle.kernel_schedule.proofs.Least.{schedulable, least_legal, bits_are}
 use Rattle.kernel_schedule.proofs.schedule.best_schedule.Goals as goal
 
@@ -45,3 +47,11 @@ returns-in-Ok-best-clause-most c v =
     ap (λ (p : Problem). p.arcs.nodes) c.in-Ok-edges.ensures.problem in
     let within = c.in-Ok-best.ensures.within (2 ^ 32 + 64) c.in-Ok-edges.ensures.small v in
     omega (arith, ints, few, nodes, within)
+
+pub returns-in-Ok-best-clause-begins : goal.returns-in-Ok-best-clause-begins
+returns-in-Ok-best-clause-begins c =
+    let nodes = c.args.kernel.now.nodes in
+    let best = c.in-Ok-best.ensures in
+    begins (length nodes) (ticks_of c.args.table.now nodes) (edges_of nodes) c.in-Ok-edges.problem
+    (ap (λ (p : Problem). p.arcs.list) c.in-Ok-edges.ensures.problem) c.in-Ok-edges.ensures.solvable
+    (numbers_of c.in-Ok-best.answer.times) best.best.legal best.cheapest best.earliest
