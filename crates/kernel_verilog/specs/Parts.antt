@@ -1,7 +1,7 @@
 -- The parts of a kernel that stands alone, by which the size of its design is bounded.
 use Rattle.std.specs.Prelude.{ℕ, ◌+◌, length}
 use Rattle.stream_graph.specs.declared.kernel.Kernel.{Kernel}
-use Rattle.kernel_plan.specs.Stages.{operand_count}
+use Rattle.kernel_wiring.specs.OneNode.{operand_count}
 use Rattle.link_rtl.specs.Shapes.{streams_of}
 
 -- the kernel, the bytes of its name, its nodes, their operands, and the streams of the host
