@@ -5,6 +5,9 @@ use Rattle.std.proofs.Common.{
   ◌<◌,
   ◌≤◌,
   ◌^◌,
+  ◌⊎◌,
+  inl,
+  inr,
   ℕ,
   List,
   [],
@@ -68,11 +71,18 @@ use Rattle.maxjc_core.specs.Causes.{
   IsPast,
   OneKernel,
   HasText,
+  IsOfProject,
   IsOfFiles,
+  IsReadable,
+  IsTooLarge,
   Stands,
   IsBuilt,
 }
-use Rattle.maxjc_core.specs.Stops.{IsCompiled}
+use Rattle.maxjc_core.specs.Refusals.{cause_told}
+use Rattle.maxjc_core.specs.Stops.{IfRefused, IsCompiled}
+use Rattle.maxjc_core.specs.declared.stop.Stop.{Stop}
+use Rattle.maxjc_core.specs.declared.stop.Stop.TheVariants as stops
+use Rattle.maxjc_core.proofs.Refusing.{cause_of}
 
 -- a file that is held is told
 pub told : (held : Held) (name : Name) (bytes : List ℕ) → Holds held name bytes → IsSome held
@@ -83,7 +93,7 @@ pub same_bytes : (held : Held) (name : Name) (a b : List ℕ) → Holds held nam
     → Holds held name b → a ≡ b
 same_bytes held name a b h k = cc
 
-not_past : (held : Held) (name : Name) (bytes : List ℕ) → IsPast file_limit held name
+pub not_past : (held : Held) (name : Name) (bytes : List ℕ) → IsPast file_limit held name
     → IsWithin file_limit held name bytes → ⊥
 not_past held name bytes past within =
     let same = same_bytes held name past.bytes bytes past.holds within.holds in
@@ -95,18 +105,18 @@ not_past held name bytes past within =
 -- ---- one project
 
 -- the same bytes are one source of one kernel, and their tables have the same latencies
-record AreSame {source table other others : List ℕ} (p : OneKernel source table) (q : OneKernel
+pub record AreSame {source table other others : List ℕ} (p : OneKernel source table) (q : OneKernel
     other others) : Type 0 where
-  classes : p.classes ≡ q.classes
-  kernel : p.kernel ≡ q.kernel
-  latencies : SameLatencies p.latencies q.latencies
+  pub classes : p.classes ≡ q.classes
+  pub kernel : p.kernel ≡ q.kernel
+  pub latencies : SameLatencies p.latencies q.latencies
 
 one-kernel : {classes others : List ClassTree} (a b : ClassTree) → classes ≡ others
     → IsAlone classes a
     → IsAlone others b → a ≡ b
 one-kernel a b same p q = let both = sym p.0 ∙ same ∙ q.0 in cc
 
-same-project : {source table other others : List ℕ} (p : OneKernel source table) (q : OneKernel
+pub same-project : {source table other others : List ℕ} (p : OneKernel source table) (q : OneKernel
     other others)
     → source ≡ other → table ≡ others → AreSame p q
 same-project {source} {table} {other} {others} p q bytes latencies =
@@ -120,7 +130,7 @@ same-project {source} {table} {other} {others} p q bytes latencies =
           (subst (λ (b : List ℕ). Reads b (Ok p.latencies)) latencies p.reads) q.reads;
     }
 
-one-nodes : (kernel other : ClassTree) (a b : List Node) → kernel ≡ other → IsKernel kernel a
+pub one-nodes : (kernel other : ClassTree) (a b : List Node) → kernel ≡ other → IsKernel kernel a
     → IsKernel other b
     → a ≡ b
 one-nodes kernel other a b same p q =
@@ -206,57 +216,91 @@ not-lacking a b nodes (text_errors.TooManyBits most) bits same fault has plain n
 not-lacking a b nodes text_errors.NoMemory bits same fault has plain needs few refused =
     absurd (cc)
 
-no-cause : {source table other others : List ℕ} (cause : Cause) → source ≡ other → table ≡ others
-    → IsOfFiles source table cause → (q : OneKernel other others) → HasText q → ⊥
-no-cause {source} {table} {other} {others} _ bytes latencies (IsOfFiles.fault fault first) q has =
+-- a project that makes a kernel has no cause for which it makes none
+pub no-cause : {source table other others : List ℕ} (cause : Cause) → source ≡ other
+    → table ≡ others → IsOfProject source table cause → (q : OneKernel other others)
+    → (nodes : List Node) → IsKernel q.kernel nodes → ⊥
+no-cause {source} {table} {other} {others} _ bytes latencies (IsOfProject.fault fault first) q nodes
+    is =
     no_fault other q.classes fault q.is (subst (λ (b : List ℕ). HasFirst b fault) bytes first)
-no-cause {source} {table} {other} {others} _ bytes latencies (IsOfFiles.manager lacks) q has =
+no-cause {source} {table} {other} {others} _ bytes latencies (IsOfProject.manager lacks) q nodes is =
     let classes : lacks.classes ≡ q.classes =
     one_source other lacks.classes q.classes (subst (λ (b : List ℕ). IsSourceOf b lacks.classes) bytes
     lacks.is) q.is in
     lacks.not_alone q.kernel (subst (λ (cs : List ClassTree). IsAlone cs q.kernel) (sym classes)
     q.alone)
-no-cause {source} {table} {other} {others} _ bytes latencies (IsOfFiles.table_fault error lacks) q
-    has =
+no-cause {source} {table} {other} {others} _ bytes latencies (IsOfProject.table_fault error lacks) q
+    nodes is =
     no_fault_read others q.latencies error lacks.fault q.reads
     (subst (λ (b : List ℕ). Reads b (Err error)) latencies lacks.reads)
-no-cause cause bytes latencies (IsOfFiles.lacks_kernel p _ lacks) q has =
+no-cause cause bytes latencies (IsOfProject.lacks_kernel p _ lacks) q nodes is =
     let same = same-project p q bytes latencies in
-    has-one q.kernel has.nodes cause has.is (subst (λ k. LacksKernel k cause) same.kernel lacks)
-no-cause _ bytes latencies (IsOfFiles.lacks_text p error lacks) q has =
+    has-one q.kernel nodes cause is (subst (λ k. LacksKernel k cause) same.kernel lacks)
+
+-- nor has one whose kernel has a text one for which it isn't compiled
+not-of-files : {source table other others : List ℕ} (cause : Cause) → source ≡ other
+    → table ≡ others → IsOfFiles source table cause → (q : OneKernel other others) → HasText q → ⊥
+not-of-files cause bytes latencies (IsOfFiles.of_project _ is) q has =
+    no-cause cause bytes latencies is q has.nodes has.is
+not-of-files _ bytes latencies (IsOfFiles.lacks_text p error lacks) q has =
     let same = same-project p q bytes latencies in
     let nodes = one-nodes p.kernel q.kernel lacks.nodes has.nodes same.kernel lacks.is has.is in
     not-lacking p.latencies q.latencies has.nodes error has.bits same.latencies lacks.fault
     has.schedulable has.plain has.needs has.few
     (subst (λ ns. texts.IsRefused p.latencies ns error) nodes lacks.refused)
 
+-- where both files are within the limit none is past it
+pub not_large : (source_name table_name : Name) (held : Held) (cause : Cause)
+    → IsTooLarge source_name table_name held cause → IsReadable source_name table_name held → ⊥
+not_large source_name table_name held _ (IsTooLarge.source past) files =
+    not_past held source_name _ past files.source_is
+not_large source_name table_name held _ (IsTooLarge.table after) files =
+    not_past held table_name _ after.then_table files.table_is
+
 pub excluded : (names : Names) (held : Held) (cause : Cause) → Stands names held cause
     → IsBuilt names held → ⊥
-excluded names held cause (Stands.source_too_large past) built = not_past held names.source _ past
-    built.files.source_is
-excluded names held cause (Stands.table_too_large after) built = not_past held names.table _
-    after.then_table built.files.table_is
+excluded names held cause (Stands.too_large _ large) built =
+    not_large names.source names.table held cause large built.files
 excluded names held cause (Stands.of_files files _ is) built =
-    no-cause cause
+    not-of-files cause
     (same_bytes held names.source files.source built.files.source files.source_is.holds
     built.files.source_is.holds)
     (same_bytes held names.table files.table built.files.table files.table_is.holds
     built.files.table_is.holds)
     is built.project built.has
 
+-- where a file is past the limit the source is held
+pub told_from_large : (source_name table_name : Name) (held : Held) (cause : Cause)
+    → IsTooLarge source_name table_name held cause → IsSome held
+told_from_large source_name table_name held _ (IsTooLarge.source past) =
+    told held source_name past.bytes past.holds
+told_from_large source_name table_name held _ (IsTooLarge.table after) =
+    told held source_name after.source after.source_is.holds
+
+-- where both files are within the limit, a read that stops is a read fault or want of memory
+pub missing_reads : (source_name table_name : Name) (held : Held) (stop : Stop)
+    → IsReadable source_name table_name held
+    → IfRefused stop (λ cause. IsSome held → IsTooLarge source_name table_name held cause)
+    → (stop ≡ stops.ReadFault) ⊎ (stop ≡ stops.NoMemory)
+missing_reads source_name table_name held (stops.Refused r) files refused =
+    let some = cause_of (cause_told r) (λ cause. IsSome held
+    → IsTooLarge source_name table_name held cause) refused in
+    absurd (not_large source_name table_name held some.0
+    (some.1 (told held source_name files.source files.source_is.holds)) files)
+missing_reads source_name table_name held stops.ReadFault files refused = inl refl
+missing_reads source_name table_name held stops.NoMemory files refused = inr refl
+
 -- where a cause stands the source is held
 pub told_from_cause : (names : Names) (held : Held) (cause : Cause) → Stands names held cause
     → IsSome held
-told_from_cause names held cause (Stands.source_too_large past) = told held names.source past.bytes
-    past.holds
-told_from_cause names held cause (Stands.table_too_large after) = told held names.source
-    after.source after.source_is.holds
+told_from_cause names held _ (Stands.too_large cause large) =
+    told_from_large names.source names.table held cause large
 told_from_cause names held _ (Stands.of_files files cause is) = told held names.source files.source
     files.source_is.holds
 
-pub built_from_compiled : (names : Names) (held : Held) (text line : List ℕ)
-    → IsCompiled names held text line → IsBuilt names held
-built_from_compiled names held text line c =
+pub built_from_compiled : (names : Names) (held : Held) (text report line : List ℕ)
+    → IsCompiled names held text report line → IsBuilt names held
+built_from_compiled names held text report line c =
     record {
       files = c.files;
       project = c.compiles.project;
@@ -265,7 +309,7 @@ built_from_compiled names held text line c =
         is = c.compiles.is;
         schedulable = c.compiles.text_of.schedulable;
         plain = c.compiles.text_of.plain;
-        bits = c.compiles.bits;
+        bits = c.compiles.shows.part.bits;
         needs = c.compiles.text_of.needs;
         few = c.compiles.text_of.few;
       };

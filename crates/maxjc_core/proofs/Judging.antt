@@ -18,7 +18,7 @@ use Rattle.latency_table.specs.Tables.{Reads}
 use Rattle.stream_graph.specs.declared.node.Node.{Node}
 use Rattle.kernel_verilog.specs.declared.error.TextError.{TextError}
 use Rattle.kernel_verilog.specs.Refused.{is_memory, IsRefused}
-use Rattle.maxjc_core.specs.Causes.{OneKernel, IsOfFiles}
+use Rattle.maxjc_core.specs.Causes.{OneKernel, IsOfProject, IsOfFiles}
 use Rattle.maxjc_core.specs.Kernels.{IsAlone, IsKernel, LacksKernel}
 use Rattle.maxjc_core.specs.Lines.{Cause}
 use Rattle.maxjc_core.specs.Refusals.{IfCause, table_cause, kernel_cause}
@@ -53,13 +53,13 @@ pub of-table : (source table : List ℕ) (stop : Stop) (error : TableError)
     → (classes : List ClassTree) → IsSourceOf source classes → (kernel : ClassTree)
     → IsAlone classes kernel
     → Reads table (Err error) → IfRefused stop (λ cause. table_cause error ≡ Some cause)
-    → IfRefused stop (IsOfFiles source table)
+    → IfRefused stop (IsOfProject source table)
 of-table source table stop error classes is kernel alone reads told =
-    refused-so stop (λ cause. table_cause error ≡ Some cause) (IsOfFiles source table)
+    refused-so stop (λ cause. table_cause error ≡ Some cause) (IsOfProject source table)
     (λ cause e.
     let fault = not-table-memory error cause e in
-    subst (IsOfFiles source table) (some-same (sym (some-table error fault) ∙ e))
-    (IsOfFiles.table_fault error (record {
+    subst (IsOfProject source table) (some-same (sym (some-table error fault) ∙ e))
+    (IsOfProject.table_fault error (record {
       classes = classes;
       is = is;
       kernel = kernel;
@@ -95,10 +95,16 @@ of-text {source} {table} p nodes told stop error is named refused h =
     h
 
 pub of-class : {source table : List ℕ} (p : OneKernel source table) (stop : Stop)
-    → IfRefused stop (LacksKernel p.kernel) → IfRefused stop (IsOfFiles source table)
+    → IfRefused stop (LacksKernel p.kernel) → IfRefused stop (IsOfProject source table)
 of-class {source} {table} p stop h =
-    refused-so stop (LacksKernel p.kernel) (IsOfFiles source table)
-    (λ cause lacks. IsOfFiles.lacks_kernel p cause lacks) h
+    refused-so stop (LacksKernel p.kernel) (IsOfProject source table)
+    (λ cause lacks. IsOfProject.lacks_kernel p cause lacks) h
+
+-- what stops a project before its kernel's text stops it
+pub of-files : (source table : List ℕ) (stop : Stop)
+    → IfRefused stop (IsOfProject source table) → IfRefused stop (IsOfFiles source table)
+of-files source table stop h =
+    refused-so stop (IsOfProject source table) (IsOfFiles source table) IsOfFiles.of_project h
 
 -- ---- tests
 

@@ -13,5 +13,9 @@ pub mod Alone
 pub mod Judging
 pub mod Latencies
 pub mod Answering
+mod Compiling
+mod Delivering
 pub mod Shapes
 pub mod Writing
+pub mod Checking
+pub mod CheckExclusion

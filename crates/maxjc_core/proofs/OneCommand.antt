@@ -1,6 +1,6 @@
 -- Words are one command.
 use Rattle.std.proofs.Common.{◌≡◌, List, Some}
-use Rattle.maxjc_core.specs.Command.{Name, Names, RunNames, Command, Compile, Simulate, command_of}
+use Rattle.maxjc_core.specs.Command.{Name, Names, RunNames, CheckNames, Command, Compile, Simulate, Check, command_of}
 
 same_command : (words : List Name) (a b : Command) → command_of words ≡ Some a → command_of words ≡ Some b → a ≡ b
 same_command words a b x y = cc
@@ -11,8 +11,14 @@ compiled_once a b e = cc
 simulated_once : (a b : RunNames) → Simulate a ≡ Simulate b → a ≡ b
 simulated_once a b e = cc
 
+checked_once : (a b : CheckNames) → Check a ≡ Check b → a ≡ b
+checked_once a b e = cc
+
 pub same_names : (words : List Name) (a b : Names) → command_of words ≡ Some (Compile a) → command_of words ≡ Some (Compile b) → a ≡ b
 same_names words a b x y = compiled_once a b (same_command words (Compile a) (Compile b) x y)
 
 pub same_run_names : (words : List Name) (a b : RunNames) → command_of words ≡ Some (Simulate a) → command_of words ≡ Some (Simulate b) → a ≡ b
 same_run_names words a b x y = simulated_once a b (same_command words (Simulate a) (Simulate b) x y)
+
+pub same_check_names : (words : List Name) (a b : CheckNames) → command_of words ≡ Some (Check a) → command_of words ≡ Some (Check b) → a ≡ b
+same_check_names words a b x y = checked_once a b (same_command words (Check a) (Check b) x y)

@@ -5,7 +5,6 @@ use Rattle.std.specs.FinMap.{get}
 use Rattle.mx_base.specs.Files.{Held, Name, Holds, Lacks}
 use Rattle.maxjc_core.specs.Causes.{file_limit, IsWithin, IsPast, IsMissing}
 use Rattle.maxjc_core.specs.Lines.{Cause, TooLarge}
-use Rattle.maxjc_core.specs.Command.{Names}
 use Rattle.maxjc_core.specs.Refusals.{cause_told}
 use Rattle.maxjc_core.specs.Stops.{IfRefused}
 use Rattle.maxjc_core.specs.declared.stop.Stop.{Stop}
@@ -45,8 +44,8 @@ read_stops limit held name stops.ReadFault G named large lacks g = tt
 read_stops limit held name stops.NoMemory G named large lacks g = tt
 
 -- where a file is missing, the first read that stops is a read fault or want of memory
-pub missing_stops : (names : Names) (held : Held) (stop : Stop) → ((file : List ℕ) → Holds held names.source file → IfRefused stop (λ _. file_limit < length file)) → (Lacks held names.source → stop ≡ stops.ReadFault) → IsMissing names held → (stop ≡ stops.ReadFault) ⊎ (stop ≡ stops.NoMemory)
-missing_stops names held stop large lacks (inl l) = inl (lacks l)
-missing_stops names held (stops.Refused r) large lacks (inr a) = absurd (let h = of_cause (cause_told r) (file_limit < length a.source) (large a.source a.source_is.holds) in let k = a.source_is.within in omega arith)
-missing_stops names held stops.ReadFault large lacks (inr a) = inl refl
-missing_stops names held stops.NoMemory large lacks (inr a) = inr refl
+pub missing_stops : (source_name table_name : Name) (held : Held) (stop : Stop) → ((file : List ℕ) → Holds held source_name file → IfRefused stop (λ _. file_limit < length file)) → (Lacks held source_name → stop ≡ stops.ReadFault) → IsMissing source_name table_name held → (stop ≡ stops.ReadFault) ⊎ (stop ≡ stops.NoMemory)
+missing_stops source_name table_name held stop large lacks (inl l) = inl (lacks l)
+missing_stops source_name table_name held (stops.Refused r) large lacks (inr a) = absurd (let h = of_cause (cause_told r) (file_limit < length a.source) (large a.source a.source_is.holds) in let k = a.source_is.within in omega arith)
+missing_stops source_name table_name held stops.ReadFault large lacks (inr a) = inl refl
+missing_stops source_name table_name held stops.NoMemory large lacks (inr a) = inr refl

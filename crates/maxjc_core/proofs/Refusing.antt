@@ -14,7 +14,7 @@ use Rattle.word_files.specs.declared.error.RunFileError.{RunFileError}
 use Rattle.word_files.specs.declared.error.RunFileError.TheVariants as run_errors
 use Rattle.word_files.specs.declared.run_file.RunFile.{RunFile}
 use Rattle.rtl_ir.specs.declared.interface.Interface.{Interface}
-use Rattle.maxjc_core.specs.Causes.{IsOfFiles}
+use Rattle.maxjc_core.specs.Causes.{IsOfProject}
 use Rattle.maxjc_core.specs.Lines.{Cause}
 use Rattle.maxjc_core.specs.LoadStops.{IsRunFault, IsUnfitFor}
 use Rattle.maxjc_core.specs.Refusals.{IfCause, source_cause, run_file_cause}
@@ -42,13 +42,13 @@ of_cause None A a = absurd a
 
 -- a source that isn't read, but for want of memory, has its first fault
 pub of_source : (bytes table : List ℕ) (e : SourceError) → (e ≡ source_errors.NoMemory → ⊥)
-    → FailsToRead bytes e → IfCause (source_cause e) (IsOfFiles bytes table)
-of_source bytes table (source_errors.StrayByte place) memory h = IsOfFiles.fault (Fault.StrayByte place) h.first
-of_source bytes table (source_errors.NoToken place) memory h = IsOfFiles.fault (Fault.NoToken place) h.first
-of_source bytes table (source_errors.Misplaced place) memory h = IsOfFiles.fault (Fault.Misplaced place) h.first
-of_source bytes table (source_errors.Outside place) memory h = IsOfFiles.fault (Fault.Outside place) h.first
-of_source bytes table (source_errors.Excess place) memory h = IsOfFiles.fault (Fault.Excess place) h.first
-of_source bytes table source_errors.NoProject memory h = IsOfFiles.fault Fault.NoProject h.first
+    → FailsToRead bytes e → IfCause (source_cause e) (IsOfProject bytes table)
+of_source bytes table (source_errors.StrayByte place) memory h = IsOfProject.fault (Fault.StrayByte place) h.first
+of_source bytes table (source_errors.NoToken place) memory h = IsOfProject.fault (Fault.NoToken place) h.first
+of_source bytes table (source_errors.Misplaced place) memory h = IsOfProject.fault (Fault.Misplaced place) h.first
+of_source bytes table (source_errors.Outside place) memory h = IsOfProject.fault (Fault.Outside place) h.first
+of_source bytes table (source_errors.Excess place) memory h = IsOfProject.fault (Fault.Excess place) h.first
+of_source bytes table source_errors.NoProject memory h = IsOfProject.fault Fault.NoProject h.first
 of_source bytes table source_errors.NoMemory memory h = memory refl
 
 -- so has a text

@@ -84,10 +84,11 @@ record IsRunOf (kernel : Kernel) {names : RunNames} {before : Held} (l : IsLoade
     shape : l.fit.is.shape ≡ shape_of kernel
     runs : RunsAsEquations kernel l.fit.design l.fit.is.top
 
-run_is : (source table line : List ℕ) {names : RunNames} {before : Held} (l : IsLoaded names before)
-    (d : Design) → IsOnlyDesign l.files.text d → (c : Compiles source table l.files.text line)
+run_is : (source table report line : List ℕ) {names : RunNames} {before : Held} (l : IsLoaded names before)
+    (d : Design) → IsOnlyDesign l.files.text d
+    → (c : Compiles source table l.files.text report line)
     → IsRunOf c.kernel l
-run_is source table line l d only c =
+run_is source table report line l d only c =
     let t = c.text_of in
     let same : t.design ≡ l.fit.design = only t.design t.printed.reads ∙ sym (only l.fit.design l.fit.is.reads) in
     let top = t.is.is_top in
@@ -119,13 +120,13 @@ output_count kernel l shape =
     (outputs_of kernel.nodes) widths
 
 pub words_written :
-    (stalls : Answers) (source table line : List ℕ) {names : RunNames} {before : Held}
+    (stalls : Answers) (source table report line : List ℕ) {names : RunNames} {before : Held}
     (l : IsLoaded names before) (d : Design) → IsOnlyDesign l.files.text d
-    → (c : Compiles source table l.files.text line) (now : Held) (end : End)
+    → (c : Compiles source table l.files.text report line) (now : Held) (end : End)
     → Finishes stalls (setup l) l.fit.plan.outputs now end
     → WritesWords c.kernel l now
-words_written stalls source table line {names} {before} l d only c now end finishes = λ run val few steady sources equations guarded.
-    let of = run_is source table line l d only c in
+words_written stalls source table report line {names} {before} l d only c now end finishes = λ run val few steady sources equations guarded.
+    let of = run_is source table report line l d only c in
     let made = run_of stalls l finishes.restart finishes.vs end finishes.ends in
     let top = l.fit.is.top in
     let vs = finishes.restart ∷ finishes.vs in
@@ -139,9 +140,9 @@ words_written stalls source table line {names} {before} l d only c now end finis
 
 -- what the run that was made wrote
 pub words_so : {names : RunNames} {stalls : Answers} {held now : Held} {d : Design} {p : Plan} (o : Outcome) → IsMade names held d p → IsSimulated stalls d p held now (Ok o) → WritesAllWords names held now
-words_so {names} {stalls} {held} {now} {d} {p} o made sim l source table line c =
+words_so {names} {stalls} {held} {now} {d} {p} o made sim l source table report line c =
     let is = told_loaded l in
     let made_as = made.loaded is in
     let only = subst (λ (t : List ℕ). IsOnlyDesign t d) (same_file held names.text made_as.files.text l.files.text made_as.files.text_is l.files.text_is) made_as.is.only in
     let finishes = of_loaded l made (λ s outputs. Finishes stalls s outputs now (end_of o)) (sim.tells made.can.is.top made.can.is.shape made.can.is.is_top made.can.is.is_run.has is) in
-    words_written stalls source table line l d only c now (end_of o) finishes
+    words_written stalls source table report line l d only c now (end_of o) finishes

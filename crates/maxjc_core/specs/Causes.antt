@@ -73,54 +73,62 @@ pub record HasText {source table : List ℕ} (p : OneKernel source table) : Type
   pub needs : NeedsBits p.latencies nodes bits
   pub few : bits ≤ 2 ^ 28
 
--- The cause for which the bytes of a source and of a table are refused, the first that stands: a fault of the source, a
--- manager, a fault of the table, why the class has no kernel, or why the kernel has no text.
-pub data IsOfFiles (source table : List ℕ) : Cause → Type 0 where
-  fault : (fault : Fault) → HasFirst source fault → IsOfFiles source table (SourceFault fault)
-  manager : HasManager source → IsOfFiles source table NotBuilt
+-- The cause for which the bytes of a source and of a table make no kernel, the first that stands: a fault of the source, a
+-- manager, a fault of the table, or why the class has no kernel.
+pub data IsOfProject (source table : List ℕ) : Cause → Type 0 where
+  fault : (fault : Fault) → HasFirst source fault → IsOfProject source table (SourceFault fault)
+  manager : HasManager source → IsOfProject source table NotBuilt
   table_fault :
       (error : TableError)
       → HasTableFault source table error
-      → IsOfFiles source table (TableFault error)
+      → IsOfProject source table (TableFault error)
   lacks_kernel :
       (p : OneKernel source table) (cause : Cause)
       → LacksKernel p.kernel cause
-      → IsOfFiles source table cause
+      → IsOfProject source table cause
+
+-- The cause for which they are not compiled, the first that stands: why they make no kernel, or why the kernel has no text.
+pub data IsOfFiles (source table : List ℕ) : Cause → Type 0 where
+  of_project : (cause : Cause) → IsOfProject source table cause → IsOfFiles source table cause
   lacks_text :
       (p : OneKernel source table) (error : TextError)
       → LacksText p error
       → IsOfFiles source table (NoText p.kernel.name error)
 
 -- the table is read after a source within the limit, and the source is looked at after both
-pub record IsReadable (names : Names) (held : Held) : Type 0 where
+pub record IsReadable (source_name table_name : Name) (held : Held) : Type 0 where
   pub source : List ℕ
-  pub source_is : IsWithin file_limit held names.source source
+  pub source_is : IsWithin file_limit held source_name source
   pub table : List ℕ
-  pub table_is : IsWithin file_limit held names.table table
+  pub table_is : IsWithin file_limit held table_name table
 
 -- a source within the limit, and what holds of the table after it
-pub record AfterSource (names : Names) (held : Held) (P : Type 0) : Type 0 where
+pub record AfterSource (source_name : Name) (held : Held) (P : Type 0) : Type 0 where
   pub source : List ℕ
-  pub source_is : IsWithin file_limit held names.source source
+  pub source_is : IsWithin file_limit held source_name source
   pub then_table : P
+
+-- the cause is that the source is past the limit, or the table after it
+pub data IsTooLarge (source_name table_name : Name) (held : Held) : Cause → Type 0 where
+  source : IsPast file_limit held source_name → IsTooLarge source_name table_name held (TooLarge source_name)
+  table :
+      AfterSource source_name held (IsPast file_limit held table_name)
+      → IsTooLarge source_name table_name held (TooLarge table_name)
+
+-- the source isn't held, or the table after it
+abbrev pub IsMissing : Name → Name → Held → Type 0
+IsMissing source_name table_name held = Lacks held source_name ⊎ AfterSource source_name held (Lacks held table_name)
 
 -- the cause stands, and none before it
 pub data Stands (names : Names) (held : Held) : Cause → Type 0 where
-  source_too_large : IsPast file_limit held names.source → Stands names held (TooLarge names.source)
-  table_too_large :
-      AfterSource names held (IsPast file_limit held names.table)
-      → Stands names held (TooLarge names.table)
+  too_large : (cause : Cause) → IsTooLarge names.source names.table held cause → Stands names held cause
   of_files :
-      (files : IsReadable names held) (cause : Cause)
+      (files : IsReadable names.source names.table held) (cause : Cause)
       → IsOfFiles files.source files.table cause
       → Stands names held cause
 
--- a file that is to be read isn't held
-abbrev pub IsMissing : Names → Held → Type 0
-IsMissing names held = Lacks held names.source ⊎ AfterSource names held (Lacks held names.table)
-
 -- a project that is compiled: its files are held and within the limit, and its kernel has a text
 pub record IsBuilt (names : Names) (held : Held) : Type 0 where
-  pub files : IsReadable names held
+  pub files : IsReadable names.source names.table held
   pub project : OneKernel files.source files.table
   pub has : HasText project

@@ -18,12 +18,19 @@ pub record RunNames : Type 0 where
   pub text : Name
   pub run : Name
 
+-- the names of the files of `check`
+pub record CheckNames : Type 0 where
+  pub source : Name
+  pub table : Name
+  pub report : Name
+
 pub data Command : Type 0 where
   Compile : Names → Command
   Simulate : RunNames → Command
+  Check : CheckNames → Command
 
--- `compile SRC TABLE OUT REPORT`, where OUT and REPORT are different texts, and `simulate TEXT RUN`. Every other list of words is
--- no command.
+-- `compile SRC TABLE OUT REPORT`, where OUT and REPORT are different texts, `simulate TEXT RUN`, and `check SRC TABLE REPORT`.
+-- Every other list of words is no command.
 abbrev pub command_of : List Name → Option Command
 command_of (word ∷ source ∷ table ∷ output ∷ report ∷ []) =
     if bytes_eq word (codes "compile") && not (bytes_eq output report)
@@ -32,6 +39,10 @@ command_of (word ∷ source ∷ table ∷ output ∷ report ∷ []) =
 command_of (word ∷ text ∷ run ∷ []) =
     if bytes_eq word (codes "simulate")
     then Some (Simulate (record { text = text; run = run }))
+    else None
+command_of (word ∷ source ∷ table ∷ report ∷ []) =
+    if bytes_eq word (codes "check")
+    then Some (Check (record { source = source; table = table; report = report }))
     else None
 command_of _ = None
 

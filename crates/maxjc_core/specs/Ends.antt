@@ -57,13 +57,15 @@ WriteFailed write_before write_now say_before say_now said_before said_now =
     (Rose write_before write_now × (say_now ≡ say_before) × (said_now ≡ said_before)) ⊎ (Rose say_before say_now × (write_now ≡ write_before))
 
 -- a command that did its work, with these files and what was said before and after it: the files that were read, the text that
--- the output now holds, and the line that was said
+-- the output now holds, the report that the report's file now holds, and the line that was said
 pub record IsDone (names : Names) (before now : Held) (said_before said_now : Option (List ℕ)) : Type 0 where
-  pub files : IsReadable names before
+  pub files : IsReadable names.source names.table before
   pub text : List ℕ
+  pub report : List ℕ
   pub line : List ℕ
-  pub compiles : Compiles files.source files.table text line
+  pub compiles : Compiles files.source files.table text report line
   pub written : Holds now names.output text
+  pub reported : Holds now names.report report
   pub said : said_now ≡ said_more said_before line
 
 -- a refusal that was said, and stands where the files are told

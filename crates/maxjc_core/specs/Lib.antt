@@ -3,6 +3,7 @@ pub mod Outside
 pub mod Kernels
 pub mod Lines
 pub mod Causes
+pub mod Showing
 pub mod Compiling
 pub mod Ends
 pub mod Codes
@@ -15,5 +16,10 @@ pub mod RunEnds
 pub mod LoadStops
 pub mod RunStops
 pub mod Writing
+pub mod CompileFiles
 pub mod CompileEnds
 pub mod SimulateEnds
+pub mod CheckCauses
+pub mod Checking
+pub mod CheckEnds
+pub mod CheckStops

@@ -1,7 +1,9 @@
 -- The command that the code has, with the names of its files.
-use Rattle.maxjc_core.specs.Command.{Names, RunNames, Command, Compile, Simulate}
+use Rattle.std.specs.Prelude.{◌≢◌}
+use Rattle.maxjc_core.specs.Command.{Names, RunNames, CheckNames, Command, Compile, Simulate, Check}
 use Rattle.maxjc_core.specs.declared.command.Compile.{Compile as Compiling}
 use Rattle.maxjc_core.specs.declared.command.Simulate.{Simulate as Simulating}
+use Rattle.maxjc_core.specs.declared.command.Check.{Check as Checking}
 use Rattle.maxjc_core.specs.declared.command.Command.{Command as Commanded}
 use Rattle.maxjc_core.specs.declared.command.Command.TheVariants as commands
 
@@ -11,6 +13,15 @@ names_told c = record { source = c.source.now; table = c.table.now; output = c.o
 abbrev pub run_told : Simulating → RunNames
 run_told c = record { text = c.text.now; run = c.run.now }
 
+abbrev pub check_told : Checking → CheckNames
+check_told c = record { source = c.source.now; table = c.table.now; report = c.report.now }
+
 abbrev pub command_told : Commanded → Command
 command_told (commands.Compile c) = Compile (names_told c)
 command_told (commands.Simulate c) = Simulate (run_told c)
+command_told (commands.Check c) = Check (check_told c)
+
+-- the files that a command writes have different names
+abbrev pub IsApart : Commanded → Type 0
+IsApart (commands.Compile c) = c.output.now ≢ c.report.now
+IsApart _ = Unit {0}

@@ -13,6 +13,8 @@ use Rattle.stream_graph.specs.declared.error.GraphError.{GraphError}
 use Rattle.stream_graph.specs.declared.error.GraphError.TheVariants as graph_errors
 use Rattle.latency_table.specs.declared.error.TableError.{TableError}
 use Rattle.latency_table.specs.declared.error.TableError.TheVariants as table_errors
+use Rattle.offset_edges.specs.declared.error.EdgeError.{EdgeError}
+use Rattle.offset_edges.specs.declared.error.EdgeError.TheVariants as edge_errors
 use Rattle.kernel_verilog.specs.declared.error.TextError.{TextError}
 use Rattle.kernel_verilog.specs.Refused.{is_memory}
 use Rattle.maxjc_core.specs.Lines.{
@@ -24,6 +26,12 @@ use Rattle.maxjc_core.specs.Lines.{
   TableFault,
   NoText,
   NotBuilt,
+  NoProblem,
+  NoReport,
+  OtherReport,
+  BrokenArc,
+  Unbalanced,
+  CostsDiffer,
   TooManyCells,
   NotJson,
   RunShape,
@@ -31,6 +39,8 @@ use Rattle.maxjc_core.specs.Lines.{
   WordRange,
 }
 use Rattle.maxjc_core.specs.RunCauses.{text_cause}
+use Rattle.maxjc_core.specs.declared.report_fault.ReportFault.{ReportFault}
+use Rattle.maxjc_core.specs.declared.report_fault.ReportFault.TheVariants as report_faults
 use Rattle.maxjc_core.specs.declared.refusal.Refusal.{Refusal}
 use Rattle.maxjc_core.specs.declared.refusal.Refusal.TheVariants as refusals
 
@@ -71,6 +81,17 @@ table_cause error = Some (TableFault error)
 abbrev pub kernel_cause : List ℕ → TextError → Option Cause
 kernel_cause name error = if is_memory error then None else Some (NoText name error)
 
+abbrev pub problem_cause : List ℕ → EdgeError → Option Cause
+problem_cause name edge_errors.NoMemory = None
+problem_cause name error = Some (NoProblem name error)
+
+abbrev pub report_cause : ReportFault → Cause
+report_cause (report_faults.NoReport line) = NoReport line
+report_cause (report_faults.Other line) = OtherReport line
+report_cause (report_faults.BrokenArc name arc) = BrokenArc name arc
+report_cause (report_faults.Unbalanced name node) = Unbalanced name node
+report_cause (report_faults.CostsDiffer name cost value) = CostsDiffer name cost value
+
 abbrev pub cause_told : Refusal → Option Cause
 cause_told (refusals.TooLarge name) = Some (TooLarge name.now)
 cause_told (refusals.Source error) = source_cause error
@@ -79,6 +100,8 @@ cause_told (refusals.Graph name error) = graph_cause name error
 cause_told (refusals.Table error) = table_cause error
 cause_told (refusals.Kernel name error) = kernel_cause name error
 cause_told refusals.NotBuilt = Some NotBuilt
+cause_told (refusals.Problem name error) = problem_cause name error
+cause_told (refusals.Report fault) = Some (report_cause fault)
 cause_told (refusals.Verilog error) = text_cause error
 cause_told (refusals.RunFile error) = run_file_cause error
 cause_told (refusals.Run stop) = stop_cause stop

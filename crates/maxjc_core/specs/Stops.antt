@@ -1,8 +1,11 @@
 -- What compiling answers before anything is written, as the code has it.
-use Rattle.std.specs.Prelude.{ℕ, List, IsSome, Result, Ok, Err}
+use Rattle.std.specs.Prelude.{ℕ, ◌≡◌, List, IsSome, Result, Ok, Err}
 use Rattle.mx_base.specs.Files.{Held}
-use Rattle.maxjc_core.specs.Command.{Names}
-use Rattle.maxjc_core.specs.Causes.{IsReadable, Stands}
+use Rattle.latency_table.specs.declared.table.Table.{Table}
+use Rattle.stream_graph.specs.declared.kernel.Kernel.{Kernel}
+use Rattle.maxjc_core.specs.Command.{Name, Names}
+use Rattle.maxjc_core.specs.Causes.{file_limit, IsWithin, OneKernel, IsReadable, Stands}
+use Rattle.maxjc_core.specs.Kernels.{IsKernel}
 use Rattle.maxjc_core.specs.Lines.{Cause}
 use Rattle.maxjc_core.specs.Refusals.{cause_told, IfCause}
 use Rattle.maxjc_core.specs.Compiling.{Compiles}
@@ -16,12 +19,24 @@ IfRefused (stops.Refused refusal) P = IfCause (cause_told refusal) P
 IfRefused stops.ReadFault P = Unit {0}
 IfRefused stops.NoMemory P = Unit {0}
 
+-- the files of a project are held and within the limit, with these bytes
+pub record AreBytes (source_name table_name : Name) (held : Held) (source table : List ℕ) : Type 0 where
+  pub source_is : IsWithin file_limit held source_name source
+  pub table_is : IsWithin file_limit held table_name table
+
+-- the kernel and the latency table that are made of the bytes of a project
+pub record MakesKernel (source table : List ℕ) (kernel : Kernel) (latencies : Table) : Type 0 where
+  pub project : OneKernel source table
+  pub is : IsKernel project.kernel kernel.nodes
+  pub named : kernel.name ≡ project.kernel.name
+  pub same : project.latencies ≡ latencies
+
 -- the files that are read, and what is made of them
-pub record IsCompiled (names : Names) (held : Held) (text line : List ℕ) : Type 0 where
-  pub files : IsReadable names held
-  pub compiles : Compiles files.source files.table text line
+pub record IsCompiled (names : Names) (held : Held) (text report line : List ℕ) : Type 0 where
+  pub files : IsReadable names.source names.table held
+  pub compiles : Compiles files.source files.table text report line
 
 -- of what the files hold, where they are told: what is made of them, or why they are refused
 abbrev pub Answers : Names → Held → Result Compiled Stop → Type 0
-Answers names held (Ok compiled) = IsSome held → IsCompiled names held compiled.text.items compiled.summary.items
+Answers names held (Ok c) = IsSome held → IsCompiled names held c.text.items c.report.items c.summary.items
 Answers names held (Err stop) = IfRefused stop (λ cause. IsSome held → Stands names held cause)

@@ -43,5 +43,6 @@ WritesWords kernel {names} {before} l now =
 -- so it is of every source and table that were compiled to the text that was run
 abbrev pub WritesAllWords : RunNames → Held → Held → Type 0
 WritesAllWords names before now =
-    (l : IsLoaded names before) (source table line : List ℕ) (c : Compiles source table l.files.text line)
+    (l : IsLoaded names before) (source table report line : List ℕ)
+    (c : Compiles source table l.files.text report line)
     → WritesWords c.kernel l now

@@ -1,7 +1,7 @@
 // The words of a command.
 ghost use Rattle.std.specs.Prelude.{◌≡◌, IfSome, IfNone, Some, None};
 ghost use Rattle.maxjc_core.specs.Command.{command_of};
-ghost use Rattle.maxjc_core.specs.Named.{command_told};
+ghost use Rattle.maxjc_core.specs.Named.{command_told, IsApart};
 
 use mx_base::Text;
 
@@ -21,16 +21,27 @@ pub struct Simulate<'a> {
     pub run: &'a Text,
 }
 
+/// The files of `check`.
+#[derive(Clone, Copy)]
+pub struct Check<'a> {
+    pub source: &'a Text,
+    pub table: &'a Text,
+    pub report: &'a Text,
+}
+
 /// A command.
 #[derive(Clone, Copy)]
 pub enum Command<'a> {
     Compile(Compile<'a>),
     Simulate(Simulate<'a>),
+    Check(Check<'a>),
 }
 
-/// The command that a list of words is, if it is one.
+/// The command that a list of words is, if it is one. The output and the report of `compile` have
+/// different names.
 pub fn parse_command(words: &[Text]) -> Option<Command<'_>>
     ensures some { IfSome result (λ c. command_of words.now ≡ Some (command_told c)) }
+    ensures apart { IfSome result IsApart }
     ensures none { IfNone result (command_of words.now ≡ None) }
 {
     match words {
@@ -49,6 +60,17 @@ pub fn parse_command(words: &[Text]) -> Option<Command<'_>>
         [word, text, run] => {
             if word.is(b"simulate") {
                 Some(Command::Simulate(Simulate { text, run }))
+            } else {
+                None
+            }
+        }
+        [word, source, table, report] => {
+            if word.is(b"check") {
+                Some(Command::Check(Check {
+                    source,
+                    table,
+                    report,
+                }))
             } else {
                 None
             }

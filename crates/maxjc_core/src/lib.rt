@@ -1,13 +1,17 @@
 //! The compiler as one call: words, files and output in, a status out.
 #![tactic(auto)]
 
+mod check;
+mod check_command;
 mod command;
 mod compile;
 mod compile_command;
 mod files;
 mod kernels;
 mod load;
+mod project;
 mod refusal;
+mod report_fault;
 mod saying;
 mod simulate_command;
 mod status;

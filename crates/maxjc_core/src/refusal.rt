@@ -3,12 +3,14 @@ ghost use Rattle.std.specs.Prelude.{◌≡◌, IfOk};
 ghost use Rattle.maxjc_core.specs.Lines.{line_of};
 ghost use Rattle.maxjc_core.specs.Refusals.{cause_told, IfCause};
 
+use crate::report_fault::ReportFault;
 use kernel_eval::line_of;
 use kernel_meaning::EvalError;
 use kernel_verilog::TextError;
 use latency_table::TableError;
 use maxj_syntax::SourceError;
 use mx_base::{NoMemory, Text};
+use offset_edges::EdgeError;
 use refusal_line::{Value, refusal_line};
 use simulation::Stop;
 use std::alloc::Global;
@@ -34,6 +36,10 @@ pub enum Refusal<'a> {
     Kernel(Text, TextError),
     /// N0: the source has a manager.
     NotBuilt,
+    /// L1 and C1: why this kernel has no problem of schedules.
+    Problem(Text, EdgeError),
+    /// Q1 to Q5: why the report shows no least schedule of the kernel.
+    Report(ReportFault),
     /// V1 to V4: why the text isn't that of a design that can be run.
     Verilog(VerilogError),
     /// U1 and U2: why the run file isn't of its form, or doesn't fit the ports.
@@ -56,6 +62,8 @@ impl<'a> Refusal<'a> {
             Refusal::Table(error) => error.line(alloc),
             Refusal::Kernel(kernel, error) => error.line(alloc, kernel),
             Refusal::NotBuilt => refusal_line(alloc, "N0", &[]),
+            Refusal::Problem(kernel, error) => error.line(alloc, kernel),
+            Refusal::Report(fault) => fault.line(alloc),
             Refusal::Verilog(error) => error.line(alloc),
             Refusal::RunFile(error) => error.line(alloc),
             Refusal::Run(stop) => stop.line(alloc),

@@ -1,13 +1,15 @@
 // The top call.
 ghost use Rattle.std.specs.Prelude.{◌≡◌, ◌⊎◌, None, Some};
 ghost use Rattle.stall_source.specs.Stalls.{IsDecided, IsFreeAtZero};
-ghost use Rattle.maxjc_core.specs.Command.{Names, RunNames, Compile, Simulate, command_of, usage_line, said_more};
+ghost use Rattle.maxjc_core.specs.Command.{Names, RunNames, CheckNames, Compile, Simulate, Check, command_of, usage_line, said_more};
 ghost use Rattle.maxjc_core.specs.Outside.{outside};
 ghost use Rattle.maxjc_core.specs.Ends.{EndsAll};
 ghost use Rattle.maxjc_core.specs.CompileEnds.{EndsCompile};
 ghost use Rattle.maxjc_core.specs.SimulateEnds.{EndsSimulate};
+ghost use Rattle.maxjc_core.specs.CheckEnds.{EndsCheck};
 
 use crate::Status;
+use crate::check_command::run_check;
 use crate::command::{Command, parse_command};
 use crate::compile_command::run_compile;
 use crate::saying::say_usage;
@@ -53,6 +55,13 @@ pub fn maxjc<F: Files, S: Say, G: Fn(u64, u64, u32) -> bool>(
         (outside (F.held files.new) (F.read_faults files.new) (F.write_faults files.new)
         (S.said say.new) (S.say_faults say.new))
         result }
+    ensures check { (names : CheckNames) → command_of words.now.items ≡ Some (Check names)
+        → EndsCheck names
+        (outside (F.held files.old) (F.read_faults files.old) (F.write_faults files.old)
+        (S.said say.old) (S.say_faults say.old))
+        (outside (F.held files.new) (F.read_faults files.new) (F.write_faults files.new)
+        (S.said say.new) (S.say_faults say.new))
+        result }
 
     // And so does every list of words.
     ensures all { EndsAll
@@ -66,5 +75,6 @@ pub fn maxjc<F: Files, S: Say, G: Fn(u64, u64, u32) -> bool>(
         None => say_usage(say),
         Some(Command::Compile(names)) => run_compile(alloc, files, say, names),
         Some(Command::Simulate(names)) => run_simulate(alloc, files, say, names, stalls),
+        Some(Command::Check(names)) => run_check(alloc, files, say, names),
     }
 }

@@ -4,6 +4,8 @@
 #[cfg(test)]
 mod building_tests;
 #[cfg(test)]
+mod check_tests;
+#[cfg(test)]
 mod kernel_sources;
 #[cfg(test)]
 mod kernel_tests;

@@ -40,7 +40,7 @@ pub(crate) fn text(alloc: Global, bytes: &[u8]) -> Result<Text, Fail> {
     Ok(Text::from_vec(bytes.to_vec(alloc)?))
 }
 
-fn words(alloc: Global, line: &[&[u8]]) -> Result<Vec<Text>, Fail> {
+pub(crate) fn words(alloc: Global, line: &[&[u8]]) -> Result<Vec<Text>, Fail> {
     let mut words = Vec::new(alloc);
     for word in line {
         words.push(text(alloc, word)?)?;
@@ -154,7 +154,8 @@ fn words_that_are_no_command(rt: HostRuntime) -> Result<(), Fail> {
     Ok(())
 }
 
-// The calls of `compile`: two reads of the source, two of the table, `create`, `append`.
+// The calls of `compile`: two reads of the source, two of the table, `create` and `append` of the
+// text, and of the report.
 #[test]
 fn the_first_call_that_fails_ends_the_command(rt: HostRuntime) -> Result<(), Fail> {
     let alloc = rt.alloc();
@@ -165,7 +166,9 @@ fn the_first_call_that_fails_ends_the_command(rt: HostRuntime) -> Result<(), Fai
         (4, Status::ReadFault),
         (5, Status::WriteFault),
         (6, Status::WriteFault),
-        (7, Status::Done),
+        (7, Status::WriteFault),
+        (8, Status::WriteFault),
+        (9, Status::Done),
     ] {
         let mut files = project(alloc, DOUBLE, &[call])?;
         let mut say = MemSay::new(alloc, Vec::new(alloc))?;

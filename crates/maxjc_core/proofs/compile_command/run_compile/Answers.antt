@@ -1,4 +1,4 @@
-use Rattle.std.proofs.Common.{◌≡◌}
+use Rattle.std.proofs.Common.{◌≡◌, inr}
 use Rattle.std.specs.Prelude.{IsSome}
 use Rattle.mx_base.specs.Files.{Held}
 use Rattle.maxjc_core.specs.Causes.{Stands}
@@ -17,9 +17,11 @@ returns-in-Ok-clause-done g c = λ ended told.
     record {
       files = made.files;
       text = c.in-Ok.compiled.text.items;
+      report = c.in-Ok.compiled.report.items;
       line = c.in-Ok.compiled.summary.items;
       compiles = made.compiles;
-      written = c.deliver.ensures.written ended (rw kept told);
+      written = (c.deliver.ensures.written ended (rw kept told)).0;
+      reported = (c.deliver.ensures.written ended (rw kept told)).1;
       said = c.deliver.ensures.said ended;
     }
 
@@ -28,7 +30,7 @@ returns-in-Ok-clause-stands g c = λ cause stands.
     let before : Held = g.F.Files.held c.args.files.now in
     let names = names_told c.args.names in
     let made = c.in-Ok.ensures.answers (told_from_cause names before cause stands) in
-    absurd (excluded names before cause stands (built_from_compiled _ before _ _ made))
+    absurd (excluded names before cause stands (built_from_compiled _ before _ _ _ made))
 
 pub returns-in-Err-Refused-clause-refused : goal.returns-in-Err-Refused-clause-refused
 returns-in-Err-Refused-clause-refused g c = λ refused.
@@ -48,3 +50,16 @@ returns-in-Err-Refused-clause-built g c = λ built.
     let stands : IfCause cause (λ cause. IsSome before → Stands names before cause) = rw c.in-Err-Refused.field-0-is at c.in-Err-Refused.ensures.answers in
     let some = cause_of cause (λ cause. IsSome before → Stands names before cause) stands in
     absurd (excluded names before some.0 (some.1 is_told) built)
+
+pub returns-in-Ok-clause-cut_off : goal.returns-in-Ok-clause-cut_off
+returns-in-Ok-clause-cut_off g c = λ cut told.
+    let made = c.in-Ok.ensures.answers told in
+    let kept = c.in-Ok.ensures.same in
+    inr (record {
+      files = made.files;
+      text = c.in-Ok.compiled.text.items;
+      report = c.in-Ok.compiled.report.items;
+      line = c.in-Ok.compiled.summary.items;
+      compiles = made.compiles;
+      in_order = rw kept at (c.deliver.ensures.in_order (rw kept told));
+    })

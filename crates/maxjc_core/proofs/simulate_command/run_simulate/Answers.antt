@@ -218,3 +218,11 @@ returns-in-Ok-clause-leaves g c =
     let sim : IsSimulated (λ pick edge port. g.G.Fn.post c.args.stalls.now.test (pick, (edge, (port, tt)))) c.in-Ok.field-0.design c.in-Ok.field-0.plan held (g.F.Files.held c.simulate.new.files) (Err c.in-Err.stop) =
     simulated c.in-Ok.ensures.same c.in-Err.ensures.tells c.in-Err.ensures.exact c.in-Err.ensures.cells c.in-Err.ensures.too_many in
     leaves_stopped made sim (rw c.in-Ok.ensures.same at c.in-Err.ensures.leaves)
+
+pub returns-in-Err-Refused-clause-ends_done : goal.returns-in-Err-Refused-clause-ends_done
+returns-in-Err-Refused-clause-ends_done g c = λ l small restart vs edges ends.
+    absurd (of_cause (cause_told c.in-Err-Refused.refusal) ⊥ ((rw c.in-Err-Refused.field-0-is at c.in-Err-Refused.ensures.loads) l))
+
+pub returns-in-Err-Refused-clause-ends_limited : goal.returns-in-Err-Refused-clause-ends_limited
+returns-in-Err-Refused-clause-ends_limited g c = λ l small restart vs edges ends.
+    absurd (of_cause (cause_told c.in-Err-Refused.refusal) ⊥ ((rw c.in-Err-Refused.field-0-is at c.in-Err-Refused.ensures.loads) l))

@@ -1,11 +1,12 @@
 use Rattle.std.proofs.Common.{◌≡◌, Some, subst}
 use Rattle.stall_source.specs.Stalls.{Answers}
-use Rattle.maxjc_core.specs.Command.{Names, RunNames, Compile, Simulate, command_of}
+use Rattle.maxjc_core.specs.Command.{Names, RunNames, CheckNames, Compile, Simulate, Check, command_of}
 use Rattle.maxjc_core.specs.CompileEnds.{EndsCompile}
-use Rattle.maxjc_core.specs.Named.{names_told, run_told}
+use Rattle.maxjc_core.specs.CheckEnds.{EndsCheck}
+use Rattle.maxjc_core.specs.Named.{names_told, run_told, check_told}
 use Rattle.maxjc_core.specs.Outside.{Outside, outside}
 use Rattle.maxjc_core.specs.SimulateEnds.{EndsSimulate}
-use Rattle.maxjc_core.proofs.OneCommand.{same_names, same_run_names}
+use Rattle.maxjc_core.proofs.OneCommand.{same_names, same_run_names, same_check_names}
 use Rattle.maxjc_core.proofs.top.maxjc.Goals as goal
 
 pub returns-in-Some-Compile-clause-compile : goal.returns-in-Some-Compile-clause-compile
@@ -25,6 +26,7 @@ returns-in-Some-Compile-clause-compile g c = λ names is.
       missing_quiet = e.missing_quiet;
       files_same = e.files_same;
       others = e.others;
+      cut_off = e.cut_off;
       no_edges = e.no_edges;
     } in
     subst (λ (n : Names). EndsCompile n before after c.run_compile.result) same ends
@@ -55,3 +57,24 @@ returns-in-Some-Simulate-clause-simulate g c = λ names is.
       leaves = e.leaves;
     } in
     subst (λ (n : RunNames). EndsSimulate stalls n before after c.run_simulate.result) same ends
+
+pub returns-in-Some-Check-clause-check : goal.returns-in-Some-Check-clause-check
+returns-in-Some-Check-clause-check g c = λ names is.
+    let told : command_of c.args.words.now.items ≡ Some (Check (check_told c.in-Some-Check.names)) = rw (c.deref.ensures.value, c.in-Some-Check.field-0-is) at c.in-Some-Check.ensures.some in
+    let same = same_check_names c.args.words.now.items (check_told c.in-Some-Check.names) names told is in
+    let before : Outside = outside (g.F.Files.held c.args.files.now) (g.F.Files.read_faults c.args.files.now) (g.F.Files.write_faults c.args.files.now) (g.S.Say.said c.args.say.now) (g.S.Say.say_faults c.args.say.now) in
+    let after : Outside = outside (g.F.Files.held c.run_check.new.files) (g.F.Files.read_faults c.run_check.new.files) (g.F.Files.write_faults c.run_check.new.files) (g.S.Say.said c.run_check.new.say) (g.S.Say.say_faults c.run_check.new.say) in
+    let e = c.run_check.ensures in
+    let ends : EndsCheck (check_told c.in-Some-Check.names) before after c.run_check.result = record {
+      done = e.done;
+      refused = e.refused;
+      stands = e.stands;
+      checked = e.checked;
+      read_fault = e.read_fault;
+      missing = e.missing;
+      missing_quiet = e.missing_quiet;
+      files_same = e.files_same;
+      no_writes = e.no_writes;
+      no_edges = e.no_edges;
+    } in
+    subst (λ (n : CheckNames). EndsCheck n before after c.run_check.result) same ends

@@ -1,0 +1,58 @@
+use Rattle.std.proofs.Common.{inl, inr, ⊎_elim}
+use Rattle.std.specs.Prelude.{IsSome}
+use Rattle.mx_base.specs.Files.{Held}
+use Rattle.maxjc_core.specs.Causes.{file_limit, IsTooLarge}
+use Rattle.maxjc_core.specs.CheckCauses.{CheckStands}
+use Rattle.maxjc_core.specs.Named.{check_told}
+use Rattle.maxjc_core.proofs.Alone.{refused-so}
+use Rattle.maxjc_core.proofs.Answering.{readable}
+use Rattle.maxjc_core.proofs.CheckExclusion.{missing_inputs, report_fault}
+use Rattle.maxjc_core.proofs.Reading.{within, read_stops}
+use Rattle.maxjc_core.proofs.check.read_inputs.Goals as goal
+
+pub returns-in-Err-clause-missing : goal.returns-in-Err-clause-missing
+returns-in-Err-clause-missing g c missing =
+    ⊎_elim (λ e. inl cc) (λ e. inr cc)
+    (missing_inputs (check_told c.args.names) (g.F.Files.held c.args.files.now) c.in-Err.stop
+    (λ m. ⊎_elim (λ e. inl cc) (λ e. inr cc) (c.in-Err.ensures.missing m))
+    c.in-Err.ensures.refused missing)
+
+pub returns-in-Err-clause-refused : goal.returns-in-Err-clause-refused
+returns-in-Err-clause-refused g c =
+    let names = check_told c.args.names in
+    let held : Held = g.F.Files.held c.args.files.now in
+    refused-so c.in-Err.stop (λ cause. IsSome held → IsTooLarge names.source names.table held cause)
+    (λ cause. IsSome held → CheckStands names held cause)
+    (λ cause is told. CheckStands.too_large cause (is told)) c.in-Err.ensures.refused
+
+pub returns-in-Ok-read_file-clause-read : goal.returns-in-Ok-read_file-clause-read
+returns-in-Ok-read_file-clause-read g c = λ told.
+    let held : Held = g.F.Files.held c.args.files.now in
+    let same = c.in-Ok.ensures.same in
+    record {
+      project = c.in-Ok.ensures.read told;
+      report_is = within held c.args.names.report.now _ told (λ l. let e = c.in-Ok-read_file.ensures.lacking (rw same l) in cc)
+          (λ file holds. c.in-Ok-read_file.ensures.whole file (rw same holds)) c.in-Ok-read_file.ensures.fits;
+    }
+
+pub returns-in-Err-read_file-clause-refused : goal.returns-in-Err-read_file-clause-refused
+returns-in-Err-read_file-clause-refused g c =
+    let names = check_told c.args.names in
+    let held : Held = g.F.Files.held c.args.files.now in
+    let same = c.in-Ok.ensures.same in
+    read_stops file_limit held names.report c.in-Err-read_file.stop (CheckStands names held) c.in-Err-read_file.ensures.refused
+    (λ file holds. c.in-Err-read_file.ensures.too_large file (rw same holds))
+    (λ l. let e = c.in-Err-read_file.ensures.lacking (rw same l) in cc)
+    (λ told past. CheckStands.report_too_large (record {
+      project = readable names.source names.table held _ _ (c.in-Ok.ensures.read told);
+      then_report = past;
+    }))
+
+pub returns-in-Err-read_file-clause-fault : goal.returns-in-Err-read_file-clause-fault
+returns-in-Err-read_file-clause-fault g c fault =
+    let names = check_told c.args.names in
+    let held : Held = g.F.Files.held c.args.files.now in
+    let same = c.in-Ok.ensures.same in
+    report_fault names held (c.in-Ok.ensures.read)
+    (⊎_elim (λ rose. inl (rw (c.in-Ok.ensures.quiet (λ e. cc)) at rose)) (λ l. inr (rw same at l))
+    (c.in-Err-read_file.ensures.fault (let stop = fault in cc)))

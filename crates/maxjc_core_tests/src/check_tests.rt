@@ -1,0 +1,241 @@
+// Reports on kernels, what `compile` writes of them and what `check` says of them.
+use crate::kernel_sources::{SLOW, SQUARE, SUM3};
+use crate::kernel_tests::compiled;
+use crate::tests::{DOUBLE, IMMEDIATE, run, text, words};
+use maxjc_core::Status;
+use mx_base::{MemFiles, MemSay, read_whole};
+use std::alloc::Global;
+use std::process::Abort;
+use std::test::Fail;
+
+const HEAD: &[u8] = b"kernel Sum3 nodes 6 edges 5 bits 32\n";
+
+const TIMES: &[u8] = b"time 0\ntime 0\ntime 0\ntime 0\ntime 1\ntime 2\n";
+
+const FLOW: &[u8] =
+    b"flow 0\nflow 32\nflow 32\nflow 0\nflow 32\nflow 32\nflow 0\nflow 0\nflow 32\nflow 32\n";
+
+const END: &[u8] = b"end\n";
+
+// A report on the sum of three neighbours: the lines behind its first one, and what is said of it.
+#[derive(Clone, Copy)]
+struct Case {
+    head: &'static [u8],
+    times: &'static [u8],
+    flow: &'static [u8],
+    end: &'static [u8],
+    said: &'static [u8],
+}
+
+// The report that shows that 32 bits are the fewest.
+const SHOWN: Case = Case {
+    head: HEAD,
+    times: TIMES,
+    flow: FLOW,
+    end: END,
+    said: b"kernel Sum3 least 32\n",
+};
+
+const REFUSED: [Case; 16] = [
+    // without its last line
+    Case {
+        end: b"",
+        said: b"refused Q1 19\n",
+        ..SHOWN
+    },
+    // the last line without its end
+    Case {
+        end: b"end",
+        said: b"refused Q1 19\n",
+        ..SHOWN
+    },
+    Case {
+        flow: b"flow 0\nflow 032\nflow 32\nflow 0\nflow 32\nflow 32\nflow 0\nflow 0\nflow 32\nflow 32\n",
+        said: b"refused Q1 10\n",
+        ..SHOWN
+    },
+    Case {
+        end: b"end\nx\n",
+        said: b"refused Q1 20\n",
+        ..SHOWN
+    },
+    Case {
+        head: b"kernel Sum3 nodes 7 edges 5 bits 32\n",
+        said: b"refused Q1 9\n",
+        ..SHOWN
+    },
+    Case {
+        times: b"time 0\n",
+        said: b"refused Q1 4\n",
+        ..SHOWN
+    },
+    Case {
+        head: b"kernel Sum3 nodes 6 edges 5 bits 032\n",
+        said: b"refused Q1 2\n",
+        ..SHOWN
+    },
+    Case {
+        head: b"kernel Sum4 nodes 6 edges 5 bits 32\n",
+        said: b"refused Q2 2\n",
+        ..SHOWN
+    },
+    Case {
+        times: b"time -1\ntime 0\ntime 0\ntime 0\ntime 1\ntime 2\n",
+        said: b"refused Q2 2\n",
+        ..SHOWN
+    },
+    // the costs are those of the times, and one is below 0
+    Case {
+        times: b"time -1\ntime -1\ntime -1\ntime -1\ntime 0\ntime 1\n",
+        said: b"refused Q2 3\n",
+        ..SHOWN
+    },
+    Case {
+        head: b"",
+        times: b"",
+        flow: b"",
+        said: b"refused Q2 2\n",
+        ..SHOWN
+    },
+    // a second kernel
+    Case {
+        end: b"kernel Sum3 nodes 0 edges 0 bits 0\nend\n",
+        said: b"refused Q2 19\n",
+        ..SHOWN
+    },
+    Case {
+        flow: b"flow 0\nflow 31\nflow 32\nflow 0\nflow 32\nflow 32\nflow 0\nflow 0\nflow 32\nflow 32\n",
+        said: b"refused Q4 Sum3 2\n",
+        ..SHOWN
+    },
+    Case {
+        head: b"kernel Sum3 nodes 6 edges 5 bits 64\n",
+        times: b"time 0\ntime 0\ntime 0\ntime 0\ntime 2\ntime 3\n",
+        said: b"refused Q5 Sum3 64 32\n",
+        ..SHOWN
+    },
+    Case {
+        times: b"time 0\ntime 0\ntime 0\ntime 0\ntime 0\ntime 2\n",
+        said: b"refused Q3 Sum3 4\n",
+        ..SHOWN
+    },
+    Case {
+        head: b"kernel Sum3 nodes 6 edges 5 bits 0\n",
+        times: b"time 0\ntime 0\ntime 0\ntime 0\ntime 0\ntime 2\n",
+        said: b"refused Q2 2\n",
+        ..SHOWN
+    },
+];
+
+// The report of these lines.
+fn report(alloc: Global, case: &Case) -> Result<Vec<u8>, Fail> {
+    let mut report = b"maxjc-report 1\n".to_vec(alloc)?;
+    report.extend_from_slice(case.head)?;
+    report.extend_from_slice(case.times)?;
+    report.extend_from_slice(case.flow)?;
+    report.extend_from_slice(case.end)?;
+    Ok(report)
+}
+
+// How `check` ends with these files, and what is said.
+fn expect_check(
+    rt: &impl Abort,
+    alloc: Global,
+    files: &mut MemFiles,
+    status: Status,
+    said: &[u8],
+) -> Result<(), Fail> {
+    let mut say = MemSay::new(alloc, Vec::new(alloc))?;
+    let line = words(alloc, &[b"check", b"source", b"table", b"report"])?;
+    let ended = run(alloc, &line, files, &mut say);
+    assert_eq!(rt; say.bytes(), said);
+    assert_eq!(rt; ended, status);
+    Ok(())
+}
+
+// How `check` ends with this report on the sum of three neighbours. The report is as before.
+fn expect_case(rt: &impl Abort, alloc: Global, case: &Case, status: Status) -> Result<(), Fail> {
+    let mut files = MemFiles::new(alloc, Vec::new(alloc))?;
+    files.put(&text(alloc, b"source")?, SUM3)?;
+    files.put(&text(alloc, b"table")?, SLOW)?;
+    let bytes = report(alloc, case)?;
+    files.put(&text(alloc, b"report")?, &bytes)?;
+    expect_check(rt, alloc, &mut files, status, case.said)?;
+    let held = read_whole(alloc, &mut files, &text(alloc, b"report")?, 10_000)?;
+    assert_eq!(rt; held, bytes);
+    Ok(())
+}
+
+#[test]
+fn reports_are_shown_or_refused(rt: HostRuntime) -> Result<(), Fail> {
+    let alloc = rt.alloc();
+    expect_case(&rt, alloc, &SHOWN, Status::Done)?;
+    for case in &REFUSED {
+        expect_case(&rt, alloc, case, Status::Refused)?;
+    }
+    Ok(())
+}
+
+// The lines of a report up to the flows.
+const WRITTEN: [(&[u8], &[u8], &[u8], &[u8], &[u8]); 3] = [
+    (
+        DOUBLE,
+        IMMEDIATE,
+        b"kernel Double fifo 0\n",
+        b"maxjc-report 1\nkernel Double nodes 3 edges 3 bits 0\ntime 0\ntime 0\ntime 0\nflow ",
+        b"kernel Double least 0\n",
+    ),
+    (
+        SUM3,
+        SLOW,
+        b"kernel Sum3 fifo 32\n",
+        b"maxjc-report 1\nkernel Sum3 nodes 6 edges 5 bits 32\ntime 0\ntime 0\ntime 0\ntime 0\ntime 1\ntime 2\nflow ",
+        b"kernel Sum3 least 32\n",
+    ),
+    (
+        SQUARE,
+        SLOW,
+        b"kernel Square fifo 24\n",
+        b"maxjc-report 1\nkernel Square nodes 6 edges 7 bits 24\ntime 0\n",
+        b"kernel Square least 24\n",
+    ),
+];
+
+#[test]
+fn what_compile_writes_is_shown(rt: HostRuntime) -> Result<(), Fail> {
+    let alloc = rt.alloc();
+    for (source, table, summary, begin, said) in WRITTEN {
+        let mut files = compiled(&rt, alloc, source, table, summary)?;
+        let report = read_whole(alloc, &mut files, &text(alloc, b"report")?, 10_000)?;
+        assert!(rt;
+            report.starts_with(begin),
+            "{:?}",
+            text(alloc, report.as_slice())?
+        );
+        expect_check(&rt, alloc, &mut files, Status::Done, said)?;
+    }
+    Ok(())
+}
+
+// The calls of `check`: two reads of the source, two of the table, two of the report.
+#[test]
+fn a_read_that_fails_ends_the_check(rt: HostRuntime) -> Result<(), Fail> {
+    let alloc = rt.alloc();
+    for call in 1..7 {
+        let mut files = MemFiles::new(alloc, [call].to_vec(alloc)?)?;
+        files.put(&text(alloc, b"source")?, SUM3)?;
+        files.put(&text(alloc, b"table")?, SLOW)?;
+        files.put(&text(alloc, b"report")?, &report(alloc, &SHOWN)?)?;
+        expect_check(&rt, alloc, &mut files, Status::ReadFault, b"")?;
+    }
+    Ok(())
+}
+
+#[test]
+fn a_report_that_is_not_held(rt: HostRuntime) -> Result<(), Fail> {
+    let alloc = rt.alloc();
+    let mut files = MemFiles::new(alloc, Vec::new(alloc))?;
+    files.put(&text(alloc, b"source")?, SUM3)?;
+    files.put(&text(alloc, b"table")?, SLOW)?;
+    expect_check(&rt, alloc, &mut files, Status::ReadFault, b"")
+}
