@@ -28,6 +28,9 @@ class Kernel:
         for feed, value in connected.items():
             self.operands[feed] = [value]
         self.widths = [width_of(kind, values) for kind, values in zip(self.kinds, self.values)]
+        for node, kind in enumerate(self.kinds):
+            if kind == "chain counter":
+                self.widths[self.operands[node][0]] += self.widths[node]
         self.edges = list(self.edges_into())
 
     def source(self, node):
@@ -86,7 +89,7 @@ def width_of(kind, values):
     if kind in ("counter", "chain counter"):
         return values[-1]
     if kind == "chain":
-        return None
+        return 0  # to which its counters add theirs
     return values[1 if kind == "input" else -1].width
 
 
