@@ -39,6 +39,7 @@ use Rattle.kernel_verilog.specs.Refused.{of_plan, IsRefused}
 use Rattle.kernel_verilog.specs.Texts.{IsDesigned, IsPrinted, IsTextOf}
 use Rattle.kernel_verilog.specs.Written.{IsWritten}
 use Rattle.kernel_verilog.proofs.Bytes.{bytes_few}
+use Rattle.kernel_verilog.proofs.Names.{names_text}
 use Rattle.link_rtl.proofs.AcceptedModules.{few_numbers}
 
 pub scheduled : (table : Table) (nodes : List Node) (schedule : Schedule)
@@ -149,6 +150,10 @@ module _ (table : Table) (kernel : Kernel) (schedule : Schedule)
         wires = wires_few kernel schedule.answer.times layout d designed stages rings;
         bytes =
             bytes_few kernel schedule.answer.times layout d text designed printed stages rings;
+        names =
+            designed.is.text_names
+            (names_text kernel _ designed.inner designed.partial designed.refines
+            designed.few_nets designed.few_mems);
       }
 
   -- the text, and what a report says of the schedule

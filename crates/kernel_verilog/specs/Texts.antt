@@ -14,6 +14,7 @@ use Rattle.std.specs.Prelude.{
   List,
   length,
 }
+use Rattle.std.specs.List.{All}
 use Rattle.rtl_ir.specs.declared.design.Design.{Design}
 use Rattle.rtl_ir.specs.declared.design.Module.{Module}
 use Rattle.rtl_text.specs.Text.{TextOf}
@@ -30,6 +31,7 @@ use Rattle.kernel_stages.specs.Numbers.{ring_count, all_word_bits, all_pointer_b
 use Rattle.kernel_control.specs.Refines.{Refines}
 use Rattle.kernel_rtl.specs.Planned.{IsPlain, times_of, widths_of, most_nets}
 use Rattle.kernel_plan.specs.Stored.{latency_bits}
+use Rattle.link_fifo.specs.TextNames.{HasTextNames}
 use Rattle.link_rtl.specs.Designs.{IsDesignOf}
 use Rattle.link_rtl.specs.Storage.{all_bits, all_nets, host_bits}
 use Rattle.verilog_print.specs.Lines.{text_of_lines, design_lines}
@@ -63,7 +65,8 @@ pub record IsPrinted (d : Design) (text : List ℕ) : Type 0 where
 -- times of a least schedule from 0 on. All registers and memories of the design are these: the
 -- FIFOs of the schedule; for each node its width times its latency; the position of 48 bits; the
 -- pointers of the words that are kept in memories; and the FIFOs of the inputs and outputs. For
--- each part of the kernel the design has at most 2^11 wires and the text at most 2^18 bytes.
+-- each part of the kernel the design has at most 2^11 wires and the text at most 2^18 bytes. Each
+-- name in it has a `$`, is a letter with digits, or is one of four, so none is a reserved word.
 pub record IsTextOf (table : Table) (kernel : Kernel) (text : List ℕ) (bits : ℕ) : Type 0 where
   pub schedulable : IsSchedulable table kernel.nodes
   pub plain : IsPlain kernel.nodes
@@ -84,3 +87,4 @@ pub record IsTextOf (table : Table) (kernel : Kernel) (text : List ℕ) (bits : 
       + host_bits kernel.nodes
   pub wires : all_nets design ≤ 2 ^ 11 * part_count kernel
   pub bytes : length text ≤ 2 ^ 18 * part_count kernel
+  pub names : All HasTextNames design.modules

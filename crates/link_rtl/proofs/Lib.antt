@@ -8,6 +8,7 @@ pub mod Storage
 pub mod Facts
 pub mod ShortNames
 pub mod Sizes
+pub mod TextNames
 pub mod Whole
 pub mod Porting
 pub mod Porters

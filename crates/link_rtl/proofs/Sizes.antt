@@ -125,7 +125,7 @@ module _ (kernel : Kernel) (short : (n : ℕ) → length (node_at kernel.nodes n
       let all = kernel.few in
       omega (arith, both, ins, outs, all)
 
-  few_wires : port_count nodes + length (wire_widths nodes) ≤ 10 ^ 10
+  pub few_wires : port_count nodes + length (wire_widths nodes) ≤ 10 ^ 10
   few_wires =
       let ins = few_numbers is_input 0 nodes in
       let outs = few_numbers is_output 0 nodes in

@@ -1,5 +1,5 @@
 -- All that is said of the design.
-use Rattle.std.proofs.Common.{ℕ}
+use Rattle.std.proofs.Common.{ℕ, arith}
 use Rattle.rtl_ir.specs.declared.design.Module.{Module}
 use Rattle.rtl_ir.specs.declared.design.Design.{Design}
 use Rattle.rtl_ir.specs.Rules.{IsAccepted}
@@ -13,7 +13,8 @@ use Rattle.link_rtl.specs.Words.{RunsAsEquations}
 use Rattle.link_rtl.specs.Designs.{StoresParts, IsDesignOf}
 use Rattle.link_rtl.proofs.Facts.{has_shape, ports_first, is_top, stores_parts, few_nets}
 use Rattle.link_rtl.proofs.Storage.{bits, wires}
-use Rattle.link_rtl.proofs.Sizes.{size, names}
+use Rattle.link_rtl.proofs.Sizes.{size, names, few_wires}
+use Rattle.link_rtl.proofs.TextNames.{text_names}
 
 pub whole :
     (kernel : Kernel) (m : Module) (times : ℕ → ℕ) (d : Design)
@@ -34,4 +35,7 @@ whole kernel m times d refines project first runs accepted =
       wires = wires kernel m d (top_module kernel) parts refines.instances;
       size = size kernel short m d project;
       names = names kernel short m d project refines.name refines.ports refines.instances;
+      text_names =
+          let wires = few_wires kernel short in
+          text_names kernel m d project (omega (arith, wires));
     }

@@ -15,6 +15,7 @@ use Rattle.std.specs.Prelude.{
   length,
   Some,
 }
+use Rattle.std.specs.List.{All}
 use Rattle.rtl_ir.specs.declared.design.Design.{Design}
 use Rattle.rtl_ir.specs.declared.design.Instance.{Instance}
 use Rattle.rtl_ir.specs.declared.design.Module.{Module}
@@ -26,6 +27,7 @@ use Rattle.rtl_reading.specs.Reads.{ArePortsFirst}
 use Rattle.stream_graph.specs.declared.kernel.Kernel.{Kernel}
 use Rattle.rtl_delays.specs.Stored.{stored_bits}
 use Rattle.kernel_control.specs.Ports.{scalars_of}
+use Rattle.link_fifo.specs.TextNames.{HasTextNames}
 use Rattle.link_rtl.specs.Shapes.{shape_of, streams_of}
 use Rattle.link_rtl.specs.Tops.{range}
 use Rattle.link_rtl.specs.Projects.{AreFifos}
@@ -48,9 +50,9 @@ pub record StoresParts (kernel : Kernel) (m : Module) (d : Design) (top : Module
 -- The design of a kernel whose module is this one: it keeps all rules of designs; the ports of its
 -- top module are those of the kernel's shape; it runs as the stream equations; all its registers
 -- and memories are those of the kernel's module and of the FIFOs; its wires are those of the
--- kernel's module and of the top module, and at most 64 for a FIFO; and it has few parts and few
--- bytes of names beside those of the kernel's module, by the kernel's scalars, inputs and outputs
--- and the length of its name.
+-- kernel's module and of the top module, and at most 64 for a FIFO; it has few parts and few bytes
+-- of names beside those of the kernel's module, by the kernel's scalars, inputs and outputs and the
+-- length of its name; and its names are such as a text has where those of the kernel's module are.
 pub record IsDesignOf (kernel : Kernel) (m : Module) (d : Design) : Type 0 where
   pub accepted : IsAccepted d
   pub top : Module
@@ -73,3 +75,4 @@ pub record IsDesignOf (kernel : Kernel) (m : Module) (d : Design) : Type 0 where
       design_names d
       ≤ inner_names m + (16 + 4 * length (scalars_of kernel.nodes)) * length kernel.name
       + 2 ^ 14 * (1 + length (scalars_of kernel.nodes) + length (streams_of kernel.nodes))
+  pub text_names : HasTextNames m → All HasTextNames d.modules
