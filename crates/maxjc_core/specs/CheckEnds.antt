@@ -9,7 +9,7 @@ use Rattle.maxjc_core.specs.Ends.{IsCutOff}
 use Rattle.maxjc_core.specs.Lines.{Cause, line_of}
 use Rattle.maxjc_core.specs.Outside.{Outside}
 use Rattle.maxjc_core.specs.declared.status.Status.{Status}
-use Rattle.maxjc_core.specs.declared.status.Status.TheVariants.{Done, Refused, ReadFault, NoMemory, EdgeLimit}
+use Rattle.maxjc_core.specs.declared.status.Status.TheVariants.{Done, Refused, ReadFault, WriteFault, NoMemory, EdgeLimit}
 
 -- a report that was checked, with these files and what was said before and after it: the line that was said
 pub record IsCheckDone (names : CheckNames) (held : Held) (said_before said_now : Option (List ℕ)) : Type 0 where
@@ -36,6 +36,8 @@ pub record EndsCheck (names : CheckNames) (before after : Outside) (status : Sta
   pub read_fault : status ≡ ReadFault → Rose before.read_faults after.read_faults ⊎ LacksChecked names before.held
   pub missing : LacksChecked names before.held → (status ≡ ReadFault) ⊎ (status ≡ NoMemory)
   pub missing_quiet : Lacks before.held names.source → after.read_faults ≡ before.read_faults
+  -- `WriteFault` comes only where saying failed
+  pub write_fault : status ≡ WriteFault → Rose before.say_faults after.say_faults
   -- no file is changed, and none is to be written
   pub files_same : after.held ≡ before.held
   pub no_writes : after.write_faults ≡ before.write_faults

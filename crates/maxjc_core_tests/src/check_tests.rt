@@ -1,6 +1,7 @@
 // Reports on kernels, what `compile` writes of them and what `check` says of them.
 use crate::kernel_sources::{SLOW, SQUARE, SUM3};
 use crate::kernel_tests::compiled;
+use crate::schedule_tests::{ITSELF, MANAGER};
 use crate::tests::{DOUBLE, IMMEDIATE, run, text, words};
 use maxjc_core::Status;
 use mx_base::{MemFiles, MemSay, read_whole};
@@ -36,7 +37,7 @@ const SHOWN: Case = Case {
     said: b"kernel Sum3 least 32\n",
 };
 
-const REFUSED: [Case; 16] = [
+const REFUSED: [Case; 17] = [
     // without its last line
     Case {
         end: b"",
@@ -97,6 +98,13 @@ const REFUSED: [Case; 16] = [
         said: b"refused Q2 2\n",
         ..SHOWN
     },
+    // another kernel, and a second one
+    Case {
+        head: b"kernel Sum4 nodes 6 edges 5 bits 32\n",
+        end: b"kernel Sum3 nodes 0 edges 0 bits 0\nend\n",
+        said: b"refused Q2 2\n",
+        ..SHOWN
+    },
     // a second kernel
     Case {
         end: b"kernel Sum3 nodes 0 edges 0 bits 0\nend\n",
@@ -153,11 +161,17 @@ fn expect_check(
     Ok(())
 }
 
+// Files in memory with this source and this table, which fail at these calls.
+fn project(alloc: Global, source: &[u8], table: &[u8], fails: &[u64]) -> Result<MemFiles, Fail> {
+    let mut files = MemFiles::new(alloc, fails.to_vec(alloc)?)?;
+    files.put(&text(alloc, b"source")?, source)?;
+    files.put(&text(alloc, b"table")?, table)?;
+    Ok(files)
+}
+
 // How `check` ends with this report on the sum of three neighbours. The report is as before.
 fn expect_case(rt: &impl Abort, alloc: Global, case: &Case, status: Status) -> Result<(), Fail> {
-    let mut files = MemFiles::new(alloc, Vec::new(alloc))?;
-    files.put(&text(alloc, b"source")?, SUM3)?;
-    files.put(&text(alloc, b"table")?, SLOW)?;
+    let mut files = project(alloc, SUM3, SLOW, &[])?;
     let bytes = report(alloc, case)?;
     files.put(&text(alloc, b"report")?, &bytes)?;
     expect_check(rt, alloc, &mut files, status, case.said)?;
@@ -176,43 +190,53 @@ fn reports_are_shown_or_refused(rt: HostRuntime) -> Result<(), Fail> {
     Ok(())
 }
 
-// The lines of a report up to the flows.
-const WRITTEN: [(&[u8], &[u8], &[u8], &[u8], &[u8]); 3] = [
-    (
-        DOUBLE,
-        IMMEDIATE,
-        b"kernel Double fifo 0\n",
-        b"maxjc-report 1\nkernel Double nodes 3 edges 3 bits 0\ntime 0\ntime 0\ntime 0\nflow ",
-        b"kernel Double least 0\n",
-    ),
-    (
-        SUM3,
-        SLOW,
-        b"kernel Sum3 fifo 32\n",
-        b"maxjc-report 1\nkernel Sum3 nodes 6 edges 5 bits 32\ntime 0\ntime 0\ntime 0\ntime 0\ntime 1\ntime 2\nflow ",
-        b"kernel Sum3 least 32\n",
-    ),
-    (
-        SQUARE,
-        SLOW,
-        b"kernel Square fifo 24\n",
-        b"maxjc-report 1\nkernel Square nodes 6 edges 7 bits 24\ntime 0\n",
-        b"kernel Square least 24\n",
-    ),
+// A source and a table, what `compile` says of them, the report that it writes up to some line, and
+// what `check` says of that report.
+#[derive(Clone, Copy)]
+struct Written {
+    source: &'static [u8],
+    table: &'static [u8],
+    summary: &'static [u8],
+    begin: &'static [u8],
+    said: &'static [u8],
+}
+
+const WRITTEN: [Written; 3] = [
+    Written {
+        source: DOUBLE,
+        table: IMMEDIATE,
+        summary: b"kernel Double fifo 0\n",
+        begin: b"maxjc-report 1\nkernel Double nodes 3 edges 3 bits 0\ntime 0\ntime 0\ntime 0\nflow ",
+        said: b"kernel Double least 0\n",
+    },
+    Written {
+        source: SUM3,
+        table: SLOW,
+        summary: b"kernel Sum3 fifo 32\n",
+        begin: b"maxjc-report 1\nkernel Sum3 nodes 6 edges 5 bits 32\ntime 0\ntime 0\ntime 0\ntime 0\ntime 1\ntime 2\nflow ",
+        said: b"kernel Sum3 least 32\n",
+    },
+    Written {
+        source: SQUARE,
+        table: SLOW,
+        summary: b"kernel Square fifo 24\n",
+        begin: b"maxjc-report 1\nkernel Square nodes 6 edges 7 bits 24\ntime 0\n",
+        said: b"kernel Square least 24\n",
+    },
 ];
 
 #[test]
 fn what_compile_writes_is_shown(rt: HostRuntime) -> Result<(), Fail> {
     let alloc = rt.alloc();
-    for (source, table, summary, begin, said) in WRITTEN {
-        let mut files = compiled(&rt, alloc, source, table, summary)?;
+    for case in WRITTEN {
+        let mut files = compiled(&rt, alloc, case.source, case.table, case.summary)?;
         let report = read_whole(alloc, &mut files, &text(alloc, b"report")?, 10_000)?;
         assert!(rt;
-            report.starts_with(begin),
+            report.starts_with(case.begin),
             "{:?}",
             text(alloc, report.as_slice())?
         );
-        expect_check(&rt, alloc, &mut files, Status::Done, said)?;
+        expect_check(&rt, alloc, &mut files, Status::Done, case.said)?;
     }
     Ok(())
 }
@@ -222,20 +246,55 @@ fn what_compile_writes_is_shown(rt: HostRuntime) -> Result<(), Fail> {
 fn a_read_that_fails_ends_the_check(rt: HostRuntime) -> Result<(), Fail> {
     let alloc = rt.alloc();
     for call in 1..7 {
-        let mut files = MemFiles::new(alloc, [call].to_vec(alloc)?)?;
-        files.put(&text(alloc, b"source")?, SUM3)?;
-        files.put(&text(alloc, b"table")?, SLOW)?;
+        let mut files = project(alloc, SUM3, SLOW, &[call])?;
         files.put(&text(alloc, b"report")?, &report(alloc, &SHOWN)?)?;
         expect_check(&rt, alloc, &mut files, Status::ReadFault, b"")?;
     }
     Ok(())
 }
 
+// All files are read before any is looked at.
 #[test]
 fn a_report_that_is_not_held(rt: HostRuntime) -> Result<(), Fail> {
     let alloc = rt.alloc();
-    let mut files = MemFiles::new(alloc, Vec::new(alloc))?;
-    files.put(&text(alloc, b"source")?, SUM3)?;
-    files.put(&text(alloc, b"table")?, SLOW)?;
-    expect_check(&rt, alloc, &mut files, Status::ReadFault, b"")
+    for source in [SUM3, b"class".as_slice()] {
+        let mut files = project(alloc, source, SLOW, &[])?;
+        expect_check(&rt, alloc, &mut files, Status::ReadFault, b"")?;
+    }
+    Ok(())
+}
+
+// A source and a table are refused before their report is.
+#[test]
+fn projects_are_refused_before_reports(rt: HostRuntime) -> Result<(), Fail> {
+    let alloc = rt.alloc();
+    let projects: [(&[u8], &[u8], &[u8]); 5] = [
+        (b"class", b"[", b"refused S3 5\n"),
+        (MANAGER, b"[", b"refused N0\n"),
+        (SUM3, b"[", b"refused T1\n"),
+        (SUM3, b"{}", b"refused L1 Sum3 add 32\n"),
+        (
+            ITSELF,
+            IMMEDIATE,
+            b"refused C1 Self latency 0 back 0 nodes 0\n",
+        ),
+    ];
+    for (source, table, said) in projects {
+        let mut files = project(alloc, source, table, &[])?;
+        files.put(&text(alloc, b"report")?, b"no report")?;
+        expect_check(&rt, alloc, &mut files, Status::Refused, said)?;
+    }
+    Ok(())
+}
+
+#[test]
+fn a_line_that_cannot_be_said(rt: HostRuntime) -> Result<(), Fail> {
+    let alloc = rt.alloc();
+    let mut files = project(alloc, SUM3, SLOW, &[])?;
+    files.put(&text(alloc, b"report")?, &report(alloc, &SHOWN)?)?;
+    let mut say = MemSay::new(alloc, [1u64].to_vec(alloc)?)?;
+    let line = words(alloc, &[b"check", b"source", b"table", b"report"])?;
+    let ended = run(alloc, &line, &mut files, &mut say);
+    assert_eq!(rt; ended, Status::WriteFault);
+    Ok(())
 }

@@ -16,7 +16,7 @@ const ACC: &[u8] = b"class Acc extends Kernel {
 }
 ";
 
-const ITSELF: &[u8] = b"class Self extends Kernel {
+pub(crate) const ITSELF: &[u8] = b"class Self extends Kernel {
   Self(KernelParameters p) {
     super(p);
     DFEVar v = dfeUInt(8).newInstance(this);
@@ -26,7 +26,7 @@ const ITSELF: &[u8] = b"class Self extends Kernel {
 }
 ";
 
-const MANAGER: &[u8] = b"class K extends Kernel { K(KernelParameters p) { super(p); } }
+pub(crate) const MANAGER: &[u8] = b"class K extends Kernel { K(KernelParameters p) { super(p); } }
 class M extends CustomManager { M(EngineParameters e) { super(e); } }
 ";
 

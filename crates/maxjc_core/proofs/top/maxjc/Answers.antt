@@ -73,6 +73,7 @@ returns-in-Some-Check-clause-check g c = λ names is.
       read_fault = e.read_fault;
       missing = e.missing;
       missing_quiet = e.missing_quiet;
+      write_fault = e.write_fault;
       files_same = e.files_same;
       no_writes = e.no_writes;
       no_edges = e.no_edges;
