@@ -1,2 +1,6 @@
 mod Answered
 mod Bits
+mod Regular
+mod Rounds
+mod Suffixes
+mod Ticks

@@ -1,5 +1,6 @@
 -- Counters: their values, and the bits of these. A counter is called a digit, as one of a chain is.
-use Rattle.std.specs.Prelude.{◌≡◌, ◌⊎◌, ◌≤◌, ◌<◌, ℕ, zero, suc, ◌+◌, ◌-◌, ◌*◌, ◌/◌, ◌^◌, nat_lt, if◌then◌else◌, ℤ, pos, ◌<ℤ◌, ◌≤ℤ◌, Option, Some, None, Result, Ok, Err}
+use Rattle.std.specs.Prelude.{◌≡◌, ◌⊎◌, ◌≤◌, ◌<◌, ℕ, zero, suc, ◌+◌, ◌-◌, ◌*◌, ◌/◌, ◌^◌, nat_lt, if◌then◌else◌, ℤ, pos, ◌<ℤ◌, ◌≤ℤ◌}
+use Rattle.std.specs.Prelude.{Option, Some, None, Result, Ok, Err}
 use Rattle.counter_chains.specs.declared.digits.CounterDigit.{CounterDigit}
 use Rattle.counter_chains.specs.declared.digits.CounterError.{CounterError}
 use Rattle.counter_chains.specs.declared.digits.CounterError.TheVariants.{CounterRange, IncRange}
@@ -27,10 +28,11 @@ pub record CountsBelow (max inc : ℤ) (d : CounterDigit) : Type 0 where
   pub greatest : max ≤ℤ pos (d.last + d.inc)
   pub bits : (greatest : ℕ) → pos (suc greatest) ≡ max → IsLeastBits greatest d.bits
 
--- the counter of a chain, for a bound of its values and a step, or why there is none
+-- the counter of a chain, for a bound of its values, at most 2^31, and a step, or why there is none
 abbrev pub digit_of : ℤ → ℤ → Result CounterDigit CounterError
-digit_of (pos (suc greatest)) (pos (suc less)) = Ok (record
+digit_of (pos (suc greatest)) (pos (suc less)) = if nat_lt greatest (2 ^ 31) then Ok (record
     { last = greatest / suc less * suc less; inc = suc less; bits = least_bits greatest })
+    else Err (CounterRange (pos (suc greatest)) 31)
 digit_of (pos (suc greatest)) inc = Err (IncRange inc)
 digit_of max inc = Err (CounterRange max 31)
 

@@ -1,8 +1,15 @@
-//! Counters: what one counts through, and how many bits it needs.
+//! Counters: what one counts through, how many bits it needs, and how chains of them step.
+//!
+//! `specs/Digits` says what a counter is, `specs/Chains` what chains have tick by tick, and
+//! `specs/Steps` what one step of them is.
 #![tactic(auto)]
 
 mod digits;
+mod laws;
 mod making;
+mod stepping;
 
 pub use digits::{CounterDigit, CounterError};
+pub use laws::chains_by_ticks;
 pub use making::{digit, simple};
+pub use stepping::step;

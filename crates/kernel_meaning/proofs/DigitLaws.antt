@@ -7,6 +7,8 @@ use Rattle.std.proofs.Common.{
   negsuc,
   zero,
   suc,
+  ◌*◌,
+  ◌/◌,
   ◌≤◌,
   ◌^◌,
   arith,
@@ -42,28 +44,29 @@ few_bits (suc k) n =
 abbrev pub HasBits : CounterDigit → Type 0
 HasBits d = (1 ≤ d.bits) × (d.bits ≤ 128)
 
+ranged : (b : Bool) (last inc bits : ℕ) (err : CounterError) (d : CounterDigit)
+    → ◌≡◌ {A = Result CounterDigit CounterError}
+    (if b then Ok (record { last = last; inc = inc; bits = bits }) else Err err) (Ok d) → bits
+    ≡ d.bits
+ranged true last inc bits err d e = cc
+ranged false last inc bits err d e = absurd (cc)
+
 digit_bits : (max inc : ℤ) (d : CounterDigit) → digit_of max inc ≡ Ok d → HasBits d
 digit_bits (pos (suc most)) (pos (suc i)) d e =
-    let p : least_bits most ≡ d.bits = cc in
+    let p : least_bits most ≡ d.bits =
+    ranged (nat_lt most (2 ^ 31)) (most / suc i * suc i) (suc i) (least_bits most) _ d e in
     subst (λ n. (1 ≤ n) × (n ≤ 128)) p (some_bits 127 most, few_bits 127 most)
 digit_bits (pos (suc most)) (pos zero) d e = absurd (cc)
 digit_bits (pos (suc most)) (negsuc i) d e = absurd (cc)
 digit_bits (pos zero) inc d e = absurd (cc)
 digit_bits (negsuc m) inc d e = absurd (cc)
 
-ranged : (b : Bool) (most bits : ℕ) (err : CounterError) (d : CounterDigit)
-    → ◌≡◌ {A = Result CounterDigit CounterError}
-    (if b then Ok (record { last = most; inc = 1; bits = bits }) else Err err) (Ok d) → bits
-    ≡ d.bits
-ranged true most bits err d e = cc
-ranged false most bits err d e = absurd (cc)
-
 simple_bits : (bits : ℕ) (max : Option ℤ) (d : CounterDigit) → 1 ≤ bits → bits ≤ 128
     → simple_of bits max ≡ Ok d → HasBits d
 simple_bits bits None d l u e = let p : bits ≡ d.bits =
     cc in subst (λ n. (1 ≤ n) × (n ≤ 128)) p (l, u)
 simple_bits bits (Some (pos (suc most))) d l u e =
-    subst (λ n. (1 ≤ n) × (n ≤ 128)) (ranged (nat_lt most (2 ^ bits)) most bits _ d e) (l, u)
+    subst (λ n. (1 ≤ n) × (n ≤ 128)) (ranged (nat_lt most (2 ^ bits)) most 1 bits _ d e) (l, u)
 simple_bits bits (Some (pos zero)) d l u e = absurd (cc)
 simple_bits bits (Some (negsuc m)) d l u e = absurd (cc)
 

@@ -7,6 +7,8 @@ use Rattle.std.proofs.Common.{
   ◌+◌,
   ◌≤◌,
   ◌<◌,
+  ◌*◌,
+  ◌/◌,
   ◌^◌,
   Bool,
   true,
@@ -207,10 +209,16 @@ bits_or n (Err e) = n
 digit_bounds : (max inc : ℤ) (d : CounterDigit) → digit_of max inc ≡ Ok d
     → (1 ≤ d.bits) × (d.bits ≤ 128)
 unfolding bits_or bits_up_to
-digit_bounds (pos (suc greatest)) (pos (suc less)) d e =
-    let b = bits_bounds 127 greatest in
-    let same : least_bits greatest ≡ d.bits = ap (bits_or 0) e in
-    (omega arith, omega arith)
+digit_bounds (pos (suc greatest)) (pos (suc less)) d e = by_test (nat_lt greatest (2 ^ 31)) e
+  where
+    by_test : (b : Bool) → (if b then Ok (record
+        { last = greatest / suc less * suc less; inc = suc less; bits = least_bits greatest }) else
+        Err (CounterRange (pos (suc greatest)) 31)) ≡ Ok d → (1 ≤ d.bits) × (d.bits ≤ 128)
+    by_test true e =
+        let b = bits_bounds 127 greatest in
+        let same : least_bits greatest ≡ d.bits = ap (bits_or 0) e in
+        (omega arith, omega arith)
+    by_test false e = absurd (cc)
 digit_bounds (pos (suc greatest)) (pos zero) d e = absurd (cc)
 digit_bounds (pos (suc greatest)) (negsuc n) d e = absurd (cc)
 digit_bounds (pos zero) inc d e = absurd (cc)

@@ -39,7 +39,7 @@ use Rattle.stream_graph.specs.declared.node.Kind.{Kind}
 use Rattle.stream_graph.specs.declared.node.Kind.TheVariants as K
 use Rattle.stream_graph.specs.declared.node.Node.{Node}
 use Rattle.offset_edges.specs.Edges.{node_at, kind_at, operands_at, operand_at}
-use Rattle.stream_equations.specs.Counters.{digit_at, part_at, chain_at}
+use Rattle.counter_chains.specs.Chains.{digit_at, part_at, chain_at}
 
 -- What is given to a run: its ticks, 0 up to below their number; the word of each scalar, by its
 -- node; and the words of the source of each input, by its node and from number 0 on, none past

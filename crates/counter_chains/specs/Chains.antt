@@ -1,5 +1,5 @@
 -- The words of counters and of chains of counters, tick by tick. A counter of a chain is a digit of
--- it.
+-- it. The first digit is the outermost one, which steps least often.
 use Rattle.std.specs.Prelude.{
   ℕ,
   zero,
@@ -43,3 +43,9 @@ part_at (d ∷ later) (suc place) t = part_at later place t
 abbrev pub chain_at : List CounterDigit → ℕ → ℕ
 chain_at [] t = 0
 chain_at (d ∷ later) t = digit_at d (t / round_of later) * 2 ^ bits_of later + chain_at later t
+
+-- how many bits of such a word stand below the digit of a place
+abbrev pub bits_below : List CounterDigit → ℕ → ℕ
+bits_below [] place = 0
+bits_below (d ∷ later) zero = bits_of later
+bits_below (d ∷ later) (suc place) = bits_below later place
