@@ -38,6 +38,13 @@ as_bit zero h = refl
 as_bit (suc zero) h = refl
 as_bit (suc (suc x)) h = absurd (omega arith)
 
+pub both_bits : (a b : ℕ) → a < 2 ^ 1 → b < 2 ^ 1 → bit_and a b ≡ bit (eqb a 1 && eqb b 1)
+both_bits a b h k = ap (λ x. bit_and x b) (as_bit a h) ∙ ap (bit_and (bit (eqb a 1))) (as_bit b k) ∙ and_bits (eqb a 1) (eqb b 1)
+
+pub and_true : (a : Bool) → a ≡ a && true
+and_true true = refl
+and_true false = refl
+
 pub test_bit : (b : Bool) → eqb (bit b) 1 ≡ b
 test_bit true = refl
 test_bit false = refl

@@ -1,5 +1,5 @@
 -- Nets that a growing module keeps.
-use Rattle.std.proofs.Common.{◌≡◌, ℕ, ◌+◌, ◌≤◌, List, length, ap, ◌∙◌, arith, length-append}
+use Rattle.std.proofs.Common.{◌≡◌, ℕ, ◌+◌, ◌≤◌, List, Option, Some, None, length, ap, ◌∙◌, arith, length-append}
 use Rattle.std.specs.Prelude.{All}
 use Rattle.rtl_ir.specs.declared.design.Module.{Module}
 use Rattle.rtl_ir.specs.declared.design.Update.{Update}
@@ -12,7 +12,7 @@ use Rattle.rtl_build.specs.Storage.{AddsUpdate}
 use Rattle.rtl_build.proofs.Growing.{signal_kept}
 use Rattle.kernel_control.specs.declared.handshakes.Handshake.{Handshake}
 use Rattle.kernel_control.specs.declared.serving.DuePort.{DuePort}
-use Rattle.kernel_control.specs.Nets.{HasWidth, HasBitOutput, IsHandshake}
+use Rattle.kernel_control.specs.Nets.{HasWidth, HasBitOutput, MayEnable, IsHandshake}
 use Rattle.kernel_control.specs.Serving.{IsDuePort}
 
 pub more_nets : {m n : Module} → Grows m n → length m.nets ≤ length n.nets
@@ -46,8 +46,17 @@ due_port_kept g h = record {
   answer = bit_output_kept g h.answer;
 }
 
+pub may_enable_kept : {m n : Module} → Grows m n → (enable : Option Signal) → MayEnable m enable → MayEnable n enable
+may_enable_kept g None h = tt
+may_enable_kept g (Some s) h = has_width_kept g h
+
 pub handshake_kept : {m n : Module} {h : Handshake} → Grows m n → IsHandshake m h → IsHandshake n h
-handshake_kept g q = record { small = q.small; waits_for = has_width_kept g q.waits_for; answer = bit_output_kept g q.answer }
+handshake_kept {h = h} g q = record {
+  small = q.small;
+  enable = may_enable_kept g h.enable q.enable;
+  waits_for = has_width_kept g q.waits_for;
+  answer = bit_output_kept g q.answer;
+}
 
 pub due_ports_kept : {m n : Module} → Grows m n → (ss : List DuePort) → All (IsDuePort m) ss → All (IsDuePort n) ss
 due_ports_kept g ss h i d lt = due_port_kept g (h i d lt)

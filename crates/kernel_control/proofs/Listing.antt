@@ -1,5 +1,31 @@
 -- Ports one after another.
-use Rattle.std.proofs.Common.{◌≡◌, ℕ, zero, suc, ◌+◌, ◌<◌, ◌≤◌, Bool, List, [], ◌∷◌, ◌++◌, length, take, drop, get_or, refl, sym, ap, ◌∙◌, subst, arith, add-one, drop-cons}
+use Rattle.std.proofs.Common.{
+  ◌≡◌,
+  ℕ,
+  zero,
+  suc,
+  ◌+◌,
+  ◌<◌,
+  ◌≤◌,
+  Bool,
+  None,
+  List,
+  [],
+  ◌∷◌,
+  ◌++◌,
+  length,
+  take,
+  drop,
+  get_or,
+  refl,
+  sym,
+  ap,
+  ◌∙◌,
+  subst,
+  arith,
+  add-one,
+  drop-cons,
+}
 use Rattle.std.specs.Prelude.{All}
 use Rattle.rtl_ir.specs.declared.design.Module.{Module}
 use Rattle.rtl_ir.specs.Value.{Family, Contents}
@@ -20,7 +46,7 @@ abbrev pub no_port : DuePort
 no_port = record { due = record { net = 0; width = 0 }; waits_for = record { net = 0; width = 0 }; answer = record { net = 0; width = 0 } }
 
 abbrev pub no_handshake : Handshake
-no_handshake = record { time = 0; waits_for = record { net = 0; width = 0 }; answer = record { net = 0; width = 0 } }
+no_handshake = record { time = 0; enable = None; waits_for = record { net = 0; width = 0 }; answer = record { net = 0; width = 0 } }
 
 -- ---- lists
 

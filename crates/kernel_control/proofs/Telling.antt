@@ -7,18 +7,14 @@ use Rattle.rtl_ir.specs.Grow.{Holds}
 use Rattle.rtl_build.specs.declared.signal.Signal.{Signal}
 use Rattle.kernel_control.specs.declared.handshakes.Handshake.{Handshake}
 use Rattle.kernel_control.specs.declared.serving.DuePort.{DuePort}
-use Rattle.kernel_control.specs.Due.{is_in_ticks, AreDuePorts}
+use Rattle.kernel_control.specs.Due.{is_due, AreDuePorts}
 use Rattle.kernel_control.specs.Serving.{serves, all_serve}
 use Rattle.kernel_control.specs.Answers.{AreTold, are_served, Told, is_over, goes, Controls}
-use Rattle.kernel_control.proofs.Bits.{test_bit, and_bits}
+use Rattle.kernel_control.proofs.Bits.{test_bit, and_bits, and_true}
 
 pub and_assoc : (a b c : Bool) → (a && b) && c ≡ a && (b && c)
 and_assoc true b c = refl
 and_assoc false b c = refl
-
-and_true : (a : Bool) → a ≡ a && true
-and_true true = refl
-and_true false = refl
 
 -- the ports are served where the handshakes are
 serve_ports :
@@ -29,7 +25,7 @@ serve_ports m position ticks c v q [] [] b a = and_true b
 serve_ports m position ticks c v q [] (s ∷ ss) b a = absurd a
 serve_ports m position ticks c v q (h ∷ hs) [] b a = absurd a
 serve_ports m position ticks c v q (h ∷ hs) (s ∷ ss) b a =
-    let due = is_in_ticks (v position) (v ticks) h.time in
+    let due = is_due v (v position) (v ticks) h in
     let one : serves v s ≡ not due || eqb (v h.waits_for.net) 1 =
     ap (λ n. not (eqb n 1) || eqb (v s.waits_for.net) 1) (a.0.value c v q) ∙ ap (λ d. not d || eqb (v s.waits_for.net) 1) (test_bit due) ∙ ap
     (λ (z : Signal). not due || eqb (v z.net) 1) a.0.waits_for in
@@ -46,7 +42,7 @@ told_is m position ticks run c v go q e [] [] a t = tt
 told_is m position ticks run c v go q e [] (s ∷ ss) a t = absurd a
 told_is m position ticks run c v go q e (h ∷ hs) [] a t = absurd a
 told_is m position ticks run c v go q e (h ∷ hs) (s ∷ ss) a t =
-    let due = is_in_ticks (v position) (v ticks) h.time in (
+    let due = is_due v (v position) (v ticks) h in (
       ap (λ (z : Signal). v z.net) (sym a.0.answer) ∙ t.0 c v q ∙ ap (λ n. bit_and n (v s.due.net)) e ∙ ap (bit_and (bit go)) (a.0.value c v q)
           ∙ and_bits go due,
       told_is m position ticks run c v go q e hs ss a.1 t.1,

@@ -32,7 +32,7 @@ use Rattle.kernel_control.specs.declared.handshakes.ControlNets.{ControlNets}
 use Rattle.kernel_control.specs.declared.serving.DuePort.{DuePort}
 use Rattle.kernel_control.specs.Nets.{HasWidth, told_nets}
 use Rattle.kernel_control.specs.Outputs.{AreDriven, DrivesAtMost}
-use Rattle.kernel_control.specs.Due.{is_in_ticks, latest_time}
+use Rattle.kernel_control.specs.Due.{is_due, latest_time}
 
 -- ---- netlists
 
@@ -77,13 +77,13 @@ pub record AnswersAll (old new : Module) (run : ℕ) (ports : List DuePort) : Ty
 abbrev pub are_served : Family → ℕ → ℕ → List Handshake → Bool
 are_served v p ticks [] = true
 are_served v p ticks (h ∷ hs) =
-    (not (is_in_ticks p ticks h.time) || nat_eq (v h.waits_for.net) 1) && are_served v p ticks hs
+    (not (is_due v p ticks h) || nat_eq (v h.waits_for.net) 1) && are_served v p ticks hs
 
 -- each port is told that the kernel advances, where it is due
 abbrev pub Told : Family → ℕ → ℕ → Bool → List Handshake → Type 0
 Told v p ticks go [] = Unit {0}
 Told v p ticks go (h ∷ hs) =
-    (v h.answer.net ≡ bit (go && is_in_ticks p ticks h.time)) × Told v p ticks go hs
+    (v h.answer.net ≡ bit (go && is_due v p ticks h)) × Told v p ticks go hs
 
 -- the position is past the last tick of all ports
 abbrev pub is_over : ℕ → ℕ → List Handshake → Bool
@@ -111,7 +111,7 @@ pub record HasControl (old new : Module) (nets : ControlNets) (hs : List Handsha
     pub stored : stored_bits new ≡ stored_bits old
     pub leaves : DrivesAtMost old new (told_nets nets hs)
     pub driven : AreDriven new (told_nets nets hs)
-    pub added : length new.nets ≤ length old.nets + 10 * length hs + 7
+    pub added : length new.nets ≤ length old.nets + 11 * length hs + 7
     pub shows :
         (c : Contents) (v : Family)
         → Holds new c v

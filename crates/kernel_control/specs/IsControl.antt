@@ -15,6 +15,7 @@ use Rattle.std.specs.Prelude.{
   List,
   [],
   ◌∷◌,
+  Option,
 }
 use Rattle.rtl_ir.specs.declared.design.Module.{Module}
 use Rattle.rtl_ir.specs.Value.{Family, Contents, is_reg, bit}
@@ -22,6 +23,7 @@ use Rattle.rtl_ir.specs.Grow.{Holds}
 use Rattle.rtl_delays.specs.Steps.{Step}
 use Rattle.stream_graph.specs.declared.node.Node.{Node}
 use Rattle.kernel_control.specs.Ports.{PortChannel, ModuleNets}
+use Rattle.kernel_control.specs.Due.{is_let}
 use Rattle.kernel_control.specs.Refines.{TimedRun, is_active, last_time, advances, Takes}
 
 -- each output is valid where the kernel advances and it is due
@@ -39,9 +41,10 @@ pub record ControlAt (q : ModuleNets) (run : ℕ) (k : TimedRun) (p : ℕ) (f : 
   pub valid : AreValid k p (advances k q p f) q.outputs f
 
 -- The position, which a reset edge clears and each advance counts up; and what the control shows at
--- each position up to the end, in every run whose ports are due where they are active.
-pub record IsControl (m : Module) (nodes : List Node) (times : ℕ → ℕ) (q : ModuleNets) (run : ℕ)
-    : Type 0
+-- each position up to the end, in every run whose ports are due where they are active and the nets
+-- of their controls let them.
+pub record IsControl (m : Module) (nodes : List Node) (times : ℕ → ℕ) (controls : ℕ → Option ℕ)
+    (q : ModuleNets) (run : ℕ) : Type 0
   where
     pub position : is_reg m q.position ≡ true
     pub cleared :
@@ -61,6 +64,8 @@ pub record IsControl (m : Module) (nodes : List Node) (times : ℕ → ℕ) (q :
         → f q.ticks ≡ count
         → count ≤ 2 ^ 40
         → f q.position ≤ count + last_time nodes times
-        → ((n : ℕ) → k.due n (f q.position) ≡ is_active (times n) count (f q.position))
+        → ((n : ℕ)
+        → k.due n (f q.position)
+        ≡ is_active (times n) count (f q.position) && is_let (controls n) f)
         → k.ends (f q.position) ≡ nat_le (count + last_time nodes times) (f q.position)
         → ControlAt q run k (f q.position) f

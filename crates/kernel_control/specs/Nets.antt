@@ -1,5 +1,5 @@
 -- The nets from which a control is made, and the kernels whose nets they are.
-use Rattle.std.specs.Prelude.{◌≡◌, ℕ, ◌≤◌, ◌^◌, false, List, [], ◌∷◌}
+use Rattle.std.specs.Prelude.{◌≡◌, ℕ, ◌≤◌, ◌^◌, false, List, [], ◌∷◌, Option, Some, None}
 use Rattle.rtl_ir.specs.declared.design.Module.{Module}
 use Rattle.rtl_build.specs.declared.signal.Signal.{Signal}
 use Rattle.rtl_build.specs.Signals.{HasSignal}
@@ -27,9 +27,21 @@ pub record HasWideRegister (m : Module) (s : Signal) : Type 0 where
   pub register : HasRegister m s
   pub width : s.width ≡ 48
 
--- the time of a port is at most 2^46, it waits for a bit, and an output of one bit tells it
+-- the net of a control, if there is one
+abbrev pub net_of : Option Signal → Option ℕ
+net_of None = None
+net_of (Some s) = Some s.net
+
+-- a control, if there is one, is a bit of the module
+abbrev pub MayEnable : Module → Option Signal → Type 0
+MayEnable m None = Unit {0}
+MayEnable m (Some s) = HasWidth m 1 s
+
+-- The time of a port is at most 2^46, its control, if it has one, is a bit, it waits for a bit, and
+-- an output of one bit tells it.
 pub record IsHandshake (m : Module) (h : Handshake) : Type 0 where
   pub small : h.time ≤ 2 ^ 46
+  pub enable : MayEnable m h.enable
   pub waits_for : HasWidth m 1 h.waits_for
   pub answer : HasBitOutput m h.answer
 
@@ -54,32 +66,38 @@ told_nets nets hs = nets.ended.net ∷ told_ports hs
 -- ---- the kernels whose nets they are
 
 -- a handshake is that of a port: of this node, which waits for one net, and is told by another
-pub record IsHandshakeOf (times : ℕ → ℕ) (node wait tell : ℕ) (h : Handshake) : Type 0 where
-  pub time : h.time ≡ times node
-  pub waits_for : h.waits_for.net ≡ wait
-  pub answer : h.answer.net ≡ tell
+pub record IsHandshakeOf (times : ℕ → ℕ) (controls : ℕ → Option ℕ) (node wait tell : ℕ)
+    (h : Handshake) : Type 0
+  where
+    pub time : h.time ≡ times node
+    pub enable : net_of h.enable ≡ controls node
+    pub waits_for : h.waits_for.net ≡ wait
+    pub answer : h.answer.net ≡ tell
 
 -- These are the handshakes of all inputs and then of all outputs. An input waits for a word and is
 -- told by `ready`; an output waits for room and is told by `valid`.
 abbrev pub AreHandshakesOf :
-    (ℕ → ℕ) → List PortChannel → List PortChannel → List Handshake → Type 0
-AreHandshakesOf times [] [] [] = Unit {0}
-AreHandshakesOf times [] [] (h ∷ hs) = ⊥
-AreHandshakesOf times [] (y ∷ ys) [] = ⊥
-AreHandshakesOf times [] (y ∷ ys) (h ∷ hs) =
-    IsHandshakeOf times y.node y.channel.ready y.channel.valid h × AreHandshakesOf times [] ys hs
-AreHandshakesOf times (x ∷ xs) ys [] = ⊥
-AreHandshakesOf times (x ∷ xs) ys (h ∷ hs) =
-    IsHandshakeOf times x.node x.channel.valid x.channel.ready h × AreHandshakesOf times xs ys hs
+    (ℕ → ℕ) → (ℕ → Option ℕ) → List PortChannel → List PortChannel → List Handshake → Type 0
+AreHandshakesOf times controls [] [] [] = Unit {0}
+AreHandshakesOf times controls [] [] (h ∷ hs) = ⊥
+AreHandshakesOf times controls [] (y ∷ ys) [] = ⊥
+AreHandshakesOf times controls [] (y ∷ ys) (h ∷ hs) =
+    IsHandshakeOf times controls y.node y.channel.ready y.channel.valid h
+    × AreHandshakesOf times controls [] ys hs
+AreHandshakesOf times controls (x ∷ xs) ys [] = ⊥
+AreHandshakesOf times controls (x ∷ xs) ys (h ∷ hs) =
+    IsHandshakeOf times controls x.node x.channel.valid x.channel.ready h
+    × AreHandshakesOf times controls xs ys hs
 
 -- the nodes of some ports
 abbrev pub nodes_of : List PortChannel → List ℕ
 nodes_of [] = []
 nodes_of (x ∷ xs) = x.node ∷ nodes_of xs
 
--- the nets are those of a kernel of these nodes, at these times, in a module with the nets q
-pub record AreNetsOf (nodes : List Node) (times : ℕ → ℕ) (q : ModuleNets) (nets : ControlNets)
-    (hs : List Handshake) : Type 0
+-- the nets are those of a kernel of these nodes, at these times and with the controls of its ports
+-- at these nets, in a module with the nets q
+pub record AreNetsOf (nodes : List Node) (times : ℕ → ℕ) (controls : ℕ → Option ℕ)
+    (q : ModuleNets) (nets : ControlNets) (hs : List Handshake) : Type 0
   where
     pub position : q.position ≡ nets.position.net
     pub reset : q.reset ≡ nets.reset.net
@@ -88,4 +106,4 @@ pub record AreNetsOf (nodes : List Node) (times : ℕ → ℕ) (q : ModuleNets) 
     pub ended : q.ended ≡ nets.ended.net
     pub inputs : nodes_of q.inputs ≡ inputs_of nodes
     pub outputs : nodes_of q.outputs ≡ outputs_of nodes
-    pub ports : AreHandshakesOf times q.inputs q.outputs hs
+    pub ports : AreHandshakesOf times controls q.inputs q.outputs hs

@@ -1,9 +1,9 @@
 // Tests of a position.
-ghost use Rattle.std.specs.Prelude.{◌+◌, ◌%◌, ◌<◌, ◌^◌, not, nat_lt, IfOk};
+ghost use Rattle.std.specs.Prelude.{◌+◌, ◌%◌, ◌<◌, ◌^◌, not, ◌&&◌, nat_lt, nat_eq, IfOk};
 ghost use Rattle.rtl_ir.specs.Value.{bit};
 ghost use Rattle.rtl_build.specs.Signals.{Makes};
-ghost use Rattle.kernel_control.specs.Nets.{HasWidth};
-ghost use Rattle.kernel_control.specs.Due.{is_in_ticks};
+ghost use Rattle.kernel_control.specs.Nets.{HasWidth, MayEnable, net_of};
+ghost use Rattle.kernel_control.specs.Due.{is_in_ticks, is_let};
 
 use mx_base::NoMemory;
 use mx_bits::Word;
@@ -46,8 +46,9 @@ fn active_behind(
     netlist.binary(Sign::And, begun, before)
 }
 
-// One bit: 1 where the position is that of a tick of the run, for a node of this time.
-pub(crate) fn active(
+/// One bit: 1 where the position is that of a tick of the run, for a node of this time. The
+/// position and the number of ticks have 48 bits.
+pub fn active(
     netlist: &mut Netlist,
     position: Signal,
     ticks: Signal,
@@ -63,6 +64,23 @@ pub(crate) fn active(
         active_at_start(netlist, position, ticks)
     } else {
         active_behind(netlist, position, ticks, time)
+    }
+}
+
+// One bit: 1 where another one is, and the control, if there is one, is 1 too.
+pub(crate) fn enabled(
+    netlist: &mut Netlist,
+    active: Signal,
+    enable: Option<Signal>,
+) -> Result<Signal, NoMemory>
+    requires active { HasWidth netlist.old 1 active }
+    requires enable { MayEnable netlist.old enable }
+    ensures { IfOk result (Makes netlist.old netlist.new 1 1
+        (λ v. bit (nat_eq (v active.net) 1 && is_let (net_of enable) v))) }
+{
+    match enable {
+        Some(enable) => netlist.binary(Sign::And, active, enable),
+        None => Ok(active),
     }
 }
 

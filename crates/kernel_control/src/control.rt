@@ -1,5 +1,5 @@
 // The control of a kernel's module, from the handshakes of its ports.
-ghost use Rattle.std.specs.Prelude.{◌≡◌, ◌+◌, ◌*◌, ◌≤◌, ℕ, true, None, List, length, All, IfOk, OnOk};
+ghost use Rattle.std.specs.Prelude.{◌≡◌, ◌+◌, ◌*◌, ◌≤◌, ℕ, true, Option, None, List, length, All, IfOk, OnOk};
 ghost use Rattle.rtl_ir.specs.Value.{bit};
 ghost use Rattle.rtl_build.specs.Signals.{Makes};
 ghost use Rattle.rtl_delays.specs.Steps.{IsSound, writes_reg};
@@ -14,7 +14,7 @@ ghost use Rattle.kernel_control.specs.Serving.{may_go, all_serve, IsDuePort};
 ghost use Rattle.kernel_control.specs.Answers.{HasControl};
 ghost use Rattle.kernel_control.specs.IsControl.{IsControl};
 
-use crate::activity::{active, past};
+use crate::activity::{active, enabled, past};
 use crate::answers::answer_all;
 use crate::handshakes::{ControlNets, Handshake};
 use crate::position::close_position;
@@ -51,7 +51,8 @@ fn due_ports(
 {
     let mut made = Vec::new(alloc);
     for port in ports {
-        let due = active(netlist, position, ticks, port.time)?;
+        let active = active(netlist, position, ticks, port.time)?;
+        let due = enabled(netlist, active, port.enable)?;
         made.push(DuePort {
             due,
             waits_for: port.waits_for,
@@ -126,10 +127,11 @@ pub fn add_control(
         (DrivesAtMost netlist.old netlist.new (told_nets nets ports.now)) }
     ensures driven { OnOk result (AreDriven netlist.new (told_nets nets ports.now)) }
     ensures nets { OnOk result
-        (length netlist.new.nets ≤ length netlist.old.nets + 10 * length ports.now + 12) }
+        (length netlist.new.nets ≤ length netlist.old.nets + 11 * length ports.now + 12) }
     ensures run { IfOk result (HasWidth netlist.new 1) }
-    ensures control { IfOk result (λ run. (nodes : List Node) (times : ℕ → ℕ) (q : ModuleNets)
-        → AreNetsOf nodes times q nets ports.now → IsControl netlist.new nodes times q run.net) }
+    ensures control { IfOk result (λ run. (nodes : List Node) (times : ℕ → ℕ)
+        (controls : ℕ → Option ℕ) (q : ModuleNets) → AreNetsOf nodes times controls q nets ports.now
+        → IsControl netlist.new nodes times controls q run.net) }
 {
     let run = tell_ports(alloc, netlist, nets, ports)?;
     close_position(netlist, nets.position, run, nets.reset)?;

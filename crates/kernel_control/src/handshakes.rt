@@ -6,6 +6,8 @@ use rtl_build::Signal;
 pub struct Handshake {
     /// The time of the port's node, at most 2^46: the position at which it is in the first tick.
     pub time: u64,
+    /// One bit, where the port has a control: in ticks in which it is 0 the port isn't due.
+    pub enable: Option<Signal>,
     /// One bit: whether an input has a word, or an output has room.
     pub waits_for: Signal,
     /// The output, of one bit, that tells whether the kernel takes the word or gives one.

@@ -12,5 +12,6 @@ mod handshakes;
 mod position;
 mod serving;
 
+pub use activity::active;
 pub use control::add_control;
 pub use handshakes::{ControlNets, Handshake};

@@ -1,5 +1,30 @@
 -- What stays where a module grows, and what is so of the modules of the tests.
-use Rattle.std.proofs.Common.{◌≡◌, ℕ, zero, suc, ◌+◌, ◌<◌, ◌≤◌, ◌^◌, Bool, false, ◌||◌, eqb, List, [], ◌∷◌, length, refl, ap, ◌∙◌, arith, length-append}
+use Rattle.std.proofs.Common.{
+  ◌≡◌,
+  ℕ,
+  zero,
+  suc,
+  ◌+◌,
+  ◌<◌,
+  ◌≤◌,
+  ◌^◌,
+  Bool,
+  false,
+  ◌||◌,
+  eqb,
+  List,
+  [],
+  ◌∷◌,
+  Option,
+  Some,
+  None,
+  length,
+  refl,
+  ap,
+  ◌∙◌,
+  arith,
+  length-append,
+}
 use Rattle.std.specs.Prelude.{All, codes}
 use Rattle.std.specs.List.Sorted.{IsStrictlyIncreasing}
 use Rattle.std.proofs.lemmas.Bool.{ne_eqb}
@@ -21,7 +46,7 @@ use Rattle.kernel_stages.specs.Numbers.{AreRising, IsWidth}
 use Rattle.kernel_stages.specs.Chains.{AreWide}
 use Rattle.kernel_stages.specs.Closing.{AreWords}
 use Rattle.kernel_control.specs.declared.handshakes.Handshake.{Handshake}
-use Rattle.kernel_control.specs.Nets.{HasWidth, HasBitOutput, IsHandshake}
+use Rattle.kernel_control.specs.Nets.{HasWidth, HasBitOutput, MayEnable, IsHandshake}
 use Rattle.kernel_control.specs.Outputs.{AreUndriven}
 use Rattle.kernel_parts_tests.specs.declared.inputs.Inputs.{Inputs}
 use Rattle.kernel_parts_tests.specs.declared.control.Frame.{Frame}
@@ -40,8 +65,18 @@ inputs_on e h = record { sound = e.sound; run = width_on e.keeps h.run; reset = 
 pub frame_on : {m n : Module} {f : Frame} → ((t : Signal) → HasSignal m t → HasSignal n t) → ((t : Signal) → HasOutput m t → HasOutput n t) → HasFrame m f → HasFrame n f
 frame_on k o h = record { reset = width_on k h.reset; ticks = width_on k h.ticks; hold = width_on k h.hold; ended = bit_on o h.ended }
 
-pub handshake_on : {m n : Module} {h : Handshake} → ((t : Signal) → HasSignal m t → HasSignal n t) → ((t : Signal) → HasOutput m t → HasOutput n t) → IsHandshake m h → IsHandshake n h
-handshake_on k o h = record { small = h.small; waits_for = width_on k h.waits_for; answer = bit_on o h.answer }
+pub may_enable_on : {m n : Module} → (enable : Option Signal) → ((t : Signal) → HasSignal m t → HasSignal n t) → MayEnable m enable → MayEnable n enable
+may_enable_on None k h = tt
+may_enable_on (Some s) k h = width_on k h
+
+pub handshake_on : {m n : Module} {h : Handshake} → ((t : Signal) → HasSignal m t → HasSignal n t) → ((t : Signal) → HasOutput m t → HasOutput n t)
+    → IsHandshake m h → IsHandshake n h
+handshake_on {h = p} k o h = record {
+  small = h.small;
+  enable = may_enable_on p.enable k h.enable;
+  waits_for = width_on k h.waits_for;
+  answer = bit_on o h.answer;
+}
 
 -- ---- ports
 

@@ -1,7 +1,7 @@
 // The module of a control of one input and one output.
 ghost use Rattle.std.specs.Prelude.{◌≡◌, ◌≤◌, ◌^◌, length, IfOk, OnOk};
 ghost use Rattle.rtl_delays.specs.Partial.{HasPortsAlone};
-ghost use Rattle.kernel_control.specs.Nets.{IsHandshake};
+ghost use Rattle.kernel_control.specs.Nets.{IsHandshake, MayEnable};
 ghost use Rattle.kernel_parts_tests.specs.Beds.{AddsPorts, HasFrame};
 
 use crate::ports::{add_input, add_output, empty, text};
@@ -39,16 +39,18 @@ fn add_frame(alloc: Global, netlist: &mut Netlist) -> Result<Frame, NoMemory>
     })
 }
 
-// Adds the two nets of a port of this time.
+// Adds the two nets of a port of this time and with this control.
 fn add_port(
     alloc: Global,
     netlist: &mut Netlist,
     waits_for: &[u8],
     answer: &[u8],
     time: u64,
+    enable: Option<Signal>,
 ) -> Result<Handshake, NoMemory>
     requires alone { HasPortsAlone netlist.old }
     requires small { time ≤ 2 ^ 46 }
+    requires enable { MayEnable netlist.old enable }
     ensures adds { OnOk result (AddsPorts netlist.old netlist.new) }
     ensures handshake { IfOk result (IsHandshake netlist.new) }
     ensures answer { IfOk result (λ h. length netlist.old.nets ≤ h.answer.net) }
@@ -57,17 +59,19 @@ fn add_port(
     let answer = add_output(alloc, netlist, answer)?;
     Ok(Handshake {
         time,
+        enable,
         waits_for,
         answer,
     })
 }
 
-// The control of an input at time 0 and an output at time 2.
+// The control of an input at time 0, which has a control itself, and an output at time 2.
 pub(crate) fn control_module(alloc: Global) -> Result<Module, NoMemory> {
     let mut netlist = empty(alloc, b"control")?;
     let frame = add_frame(alloc, &mut netlist)?;
-    let taken = add_port(alloc, &mut netlist, b"x$valid", b"x$ready", 0)?;
-    let given = add_port(alloc, &mut netlist, b"y$ready", b"y$valid", 2)?;
+    let enable = add_input(alloc, &mut netlist, b"enable", 1)?;
+    let taken = add_port(alloc, &mut netlist, b"x$valid", b"x$ready", 0, Some(enable))?;
+    let given = add_port(alloc, &mut netlist, b"y$ready", b"y$valid", 2, None)?;
     let position = netlist.register(text(alloc, b"position")?, 48)?;
     let nets = ControlNets {
         position,

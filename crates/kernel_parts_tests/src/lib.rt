@@ -7,6 +7,8 @@ mod control;
 mod delays;
 mod inputs;
 mod ports;
+#[cfg(test)]
+mod settled;
 mod stages;
 #[cfg(test)]
 mod tests;

@@ -1,8 +1,10 @@
 // What the modules have.
 use crate::control::control_module;
 use crate::delays::{element_module, register_module, ring_module};
+use crate::settled::{settled, word};
 use crate::stages::stages_module;
 use rtl_ir::{Module, NetId};
+use std::alloc::Global;
 use std::test::Fail;
 
 // The numbers of memories, and of registers and memories that are written.
@@ -100,18 +102,43 @@ fn stages_share_the_delays_before_them(rt: HostRuntime) -> Result<(), Fail> {
     Ok(())
 }
 
-// The position, which alone is stored, is net 9, after the ports; the outputs are nets 4, 6 and 8.
+// The position, which alone is stored, is net 10, after the ports; the outputs are nets 4, 7 and 9.
 #[test]
 fn a_control_tells_each_port(rt: HostRuntime) -> Result<(), Fail> {
     let module = control_module(rt.alloc())?;
     assert_eq!(rt; stores(&module), [0, 1]);
-    assert!(rt; is_register(&module, 9, b"position", 48));
+    assert!(rt; is_register(&module, 10, b"position", 48));
     assert_eq!(rt; stored_bits(&module), 48);
-    for net in [4, 6, 8] {
+    for net in [4, 7, 9] {
         assert!(rt; is_driven(&module, NetId::new(net)), "net {net}");
     }
-    for net in [0, 1, 2, 3, 5, 7, 9] {
+    for net in [0, 1, 2, 3, 5, 6, 8, 10] {
         assert!(rt; !is_driven(&module, NetId::new(net)), "net {net}");
     }
+    Ok(())
+}
+
+// What the input and the output are told at position 2 of a run of 3 ticks, in which both are
+// active, where the output has room: by the control of the input and by whether it has a word.
+fn told(alloc: Global, enable: u128, valid: u128) -> Result<[u128; 2], Fail> {
+    let module = control_module(alloc)?;
+    let given = [0, 0, 3, 0, 0, enable, valid, 0, 1, 0, 2];
+    let words = settled(alloc, &module, &given)?;
+    Ok([word(&words, NetId::new(7)), word(&words, NetId::new(9))])
+}
+
+#[test]
+fn an_input_is_waited_for_where_its_control_is_1(rt: HostRuntime) -> Result<(), Fail> {
+    assert_eq!(rt; told(rt.alloc(), 1, 0)?, [0, 0]);
+    assert_eq!(rt; told(rt.alloc(), 1, 1)?, [1, 1]);
+    Ok(())
+}
+
+#[test]
+fn an_input_is_neither_waited_for_nor_taken_where_its_control_is_0(
+    rt: HostRuntime,
+) -> Result<(), Fail> {
+    assert_eq!(rt; told(rt.alloc(), 0, 0)?, [0, 1]);
+    assert_eq!(rt; told(rt.alloc(), 0, 1)?, [0, 1]);
     Ok(())
 }

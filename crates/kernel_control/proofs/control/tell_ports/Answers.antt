@@ -68,8 +68,8 @@ told_free {l} {m} {n} {k} {nets} hs adds q w free d =
 
 -- the wires of the control, for so many ports, and one for each port's answer
 told_nets_count :
-    {l m n o : Module} {output s : Signal} {run : ℕ} (k : ℕ) (ss : List DuePort) → AddsWires l m (6 * k + (4 + (3 * length ss + 3))) → Drives m n output s
-    → AnswersAll n o run ss → length ss ≡ k → length o.nets ≤ length l.nets + 10 * k + 7
+    {l m n o : Module} {output s : Signal} {run : ℕ} (k : ℕ) (ss : List DuePort) → AddsWires l m (7 * k + (4 + (3 * length ss + 3))) → Drives m n output s
+    → AnswersAll n o run ss → length ss ≡ k → length o.nets ≤ length l.nets + 11 * k + 7
 told_nets_count k ss adds d a size =
     let wires = adds.count in
     let drives = drive_nets d in

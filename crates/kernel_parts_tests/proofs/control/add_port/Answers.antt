@@ -1,5 +1,5 @@
 use Rattle.std.proofs.Common.{arith}
-use Rattle.kernel_parts_tests.proofs.Kept.{width_on, adds_on}
+use Rattle.kernel_parts_tests.proofs.Kept.{width_on, may_enable_on, adds_on}
 use Rattle.kernel_parts_tests.proofs.control.add_port.Goals as goal
 
 pub returns : goal.returns
@@ -10,6 +10,7 @@ returns c =
       adds = adds_on wait.adds answer.adds;
       handshake = record {
         small = c.requires.small;
+        enable = may_enable_on c.args.enable answer.adds.keeps (may_enable_on c.args.enable wait.adds.keeps c.requires.enable);
         waits_for = width_on answer.adds.keeps wait.signal;
         answer = answer.output;
       };

@@ -13,7 +13,9 @@ add_control-requires c =
     let m = c.register.new.self in
     let alone = y.adds.alone in
     let e = position_extends alone c.in_ok-text.ensures p in
-    let f = frame_on y.adds.keeps y.adds.outputs (frame_on x.adds.keeps x.adds.outputs c.in_ok-frame.ensures.has) in
+    let enable = c.in_ok-enable.ensures.adds in
+    let f = frame_on y.adds.keeps y.adds.outputs (frame_on x.adds.keeps x.adds.outputs
+    (frame_on enable.keeps enable.outputs c.in_ok-frame.ensures.has)) in
     let frame = frame_on e.keeps e.outputs f in
     let taken = handshake_on e.keeps e.outputs (handshake_on y.adds.keeps y.adds.outputs x.handshake) in
     let given = handshake_on e.keeps e.outputs y.handshake in
@@ -29,9 +31,10 @@ add_control-requires c =
       };
       ports = all_two (IsHandshake m) _ _ taken given;
       undriven =
-          let one = c.in_ok-frame.ensures.has.ended.output.net in
+          let zero' = c.in_ok-frame.ensures.has.ended.output.net in
+          let one = enable.nets in
           let two = x.answer in
           let three = x.handshake.answer.output.net in
           let four = y.answer in
-          three_undriven m _ _ _ (ap (λ (k : Module). k.assigns) p.is ∙ alone.assigns) (omega (arith, one, two)) (omega (arith, three, four));
+          three_undriven m _ _ _ (ap (λ (k : Module). k.assigns) p.is ∙ alone.assigns) (omega (arith, zero', one, two)) (omega (arith, three, four));
     }
