@@ -52,7 +52,7 @@ use Rattle.offset_edges.specs.Edges.{
   is_steady,
   is_offset,
 }
-use Rattle.stream_equations.specs.Counters.{part_at, chain_at}
+use Rattle.counter_chains.specs.Chains.{part_at, chain_at}
 use Rattle.stream_equations.specs.Equations.{
   GivenRun,
   Values,
@@ -75,6 +75,7 @@ use Rattle.rtl_delays.specs.Delays.{IsWord, IsDelay, IsTap}
 use Rattle.kernel_control.specs.Ports.{ModuleNets, scalars_of}
 use Rattle.kernel_control.specs.Refines.{is_active, last_time}
 use Rattle.kernel_refinement.specs.States.{IsCounter, kept}
+use Rattle.kernel_control.specs.Due.{is_let}
 use Rattle.kernel_refinement.specs.Built.{
   Layout,
   edge_from,
@@ -83,7 +84,6 @@ use Rattle.kernel_refinement.specs.Built.{
   has_taps,
   TapsOf,
   control_tap,
-  is_let,
   is_shown,
   IsFirstTap,
   IsHoldWord,

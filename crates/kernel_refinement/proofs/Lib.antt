@@ -1,5 +1,6 @@
 mod Claims
 pub mod Direct
+pub mod Parting
 pub mod Runs
 pub mod Storing
 mod Summing

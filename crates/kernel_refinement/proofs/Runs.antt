@@ -83,10 +83,10 @@ use Rattle.kernel_control.specs.Refines.{
 use Rattle.kernel_refinement.specs.States.{IsCounter, Counts, Keeps}
 use Rattle.rtl_delays.specs.Extends.{AllOff}
 use Rattle.kernel_control.specs.IsControl.{AreValid, ControlAt}
+use Rattle.kernel_control.specs.Due.{is_let}
 use Rattle.kernel_refinement.specs.Built.{
   Layout,
   has_taps,
-  is_let,
   is_shown,
   IsPortWord,
   IsHoldWord,

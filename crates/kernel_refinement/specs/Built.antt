@@ -24,7 +24,6 @@ use Rattle.std.specs.Prelude.{
   slice_get,
   Option,
   Some,
-  None,
   IfSome,
 }
 use Rattle.cycle_find.specs.Constraints.{Numbers}
@@ -47,12 +46,13 @@ use Rattle.offset_edges.specs.Edges.{
   is_offset,
 }
 use Rattle.offset_edges.specs.Schedules.{delay_of}
-use Rattle.stream_equations.specs.Counters.{part_at, chain_at}
+use Rattle.counter_chains.specs.Chains.{part_at, chain_at}
 use Rattle.stream_equations.specs.Equations.{type_at, digits_at, control_in}
 use Rattle.rtl_delays.specs.Steps.{IsSound}
 use Rattle.rtl_delays.specs.Delays.{IsTap}
 use Rattle.rtl_delays.specs.Extends.{AllOff}
 use Rattle.kernel_control.specs.Ports.{PortChannel, ModuleNets, scalars_of}
+use Rattle.kernel_control.specs.Due.{is_let}
 use Rattle.kernel_control.specs.Refines.{TimedRun, is_active, last_time}
 use Rattle.kernel_control.specs.IsControl.{ControlAt}
 use Rattle.kernel_refinement.specs.States.{IsCounter, IsKeeper, IsPosition}
@@ -101,11 +101,9 @@ pub record TapOf (m : Module) (nodes : List Node) (ticks times : ℕ → ℕ) (r
         × (tap ≡ l.net (source_of nodes operand).node))
         ⊎ IsBehind m ticks times run reset l (edge_from nodes n operand) tap
 
--- A node of this kind reads its operands from nets. The readers of an offset look past it, and a
--- part counts by itself.
+-- A node of this kind reads its operands from nets. The readers of an offset look past it.
 abbrev pub has_taps : Kind → Bool
 has_taps (K.Offset ticks) = false
-has_taps (K.Part place) = false
 has_taps _ = true
 
 -- each operand from its net
@@ -123,11 +121,6 @@ TapsOf m nodes ticks times run reset l n (operand ∷ operands) [] = ⊥
 -- the net of a port's control or of a hold's store, by the node
 abbrev pub control_tap : List Node → Layout → ℕ → Option ℕ
 control_tap nodes l n = control_in (kind_at nodes n) (l.taps n)
-
--- there is no such net, or it is 1
-abbrev pub is_let : Option ℕ → Family → Bool
-is_let None f = true
-is_let (Some tap) f = nat_eq (f tap) 1
 
 -- a node is in one of so many ticks at a position, and its control is 1 or it has none
 abbrev pub is_shown : List Node → (ℕ → ℕ) → Layout → ℕ → ℕ → ℕ → Family → Bool

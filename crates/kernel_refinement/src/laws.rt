@@ -1,8 +1,11 @@
 // The laws of kernel modules.
-ghost use Rattle.std.specs.Prelude.{◌≡◌, ℕ, suc, List};
+ghost use Rattle.std.specs.Prelude.{◌≡◌, ◌+◌, ℕ, suc, List};
 ghost use Rattle.mx_bits.specs.declared.word.Word.{Word};
 ghost use Rattle.cycle_find.specs.Constraints.{Numbers};
 ghost use Rattle.rtl_ir.specs.declared.design.Module.{Module};
+ghost use Rattle.rtl_ir.specs.Value.{Family, Contents};
+ghost use Rattle.rtl_ir.specs.Grow.{Holds};
+ghost use Rattle.rtl_delays.specs.Delays.{IsTap};
 ghost use Rattle.stream_graph.specs.declared.node.Node.{Node};
 ghost use Rattle.offset_edges.specs.declared.edge.Edge.{Edge};
 ghost use Rattle.offset_edges.specs.Walks.{IsCausal};
@@ -45,6 +48,16 @@ pub fn registers_count()
         → IsPosition m run reset position → IsStepping m run reset position time next to
         → (word : ℕ → ℕ) → word 0 ≡ 0 → ((t : ℕ) → next (word t) ≡ word (suc t))
         → IsCounter m run reset to time word }
+{}
+
+/// A net that has a part of the word of another one, which is that of a counter so many advances
+/// ago, counts too, so many advances later. The function does nothing: its contract is the law.
+pub fn parts_count()
+    ensures { (m : Module) (run reset from tap to time late : ℕ) (word other part : ℕ → ℕ)
+        → IsCounter m run reset from time word → IsTap m run reset from tap late
+        → ((c : Contents) (f : Family) → Holds m c f → f to ≡ part (f tap))
+        → ((t : ℕ) → part (word t) ≡ other t)
+        → IsCounter m run reset to (time + late) other }
 {}
 
 /// The netlist of the sum of all words so far, whose sum takes one advance, runs as its kernel, for

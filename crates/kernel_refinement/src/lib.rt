@@ -7,4 +7,6 @@
 
 mod laws;
 
-pub use laws::{built_runs, no_direct_loop, registers_count, registers_keep, sum_runs};
+pub use laws::{
+    built_runs, no_direct_loop, parts_count, registers_count, registers_keep, sum_runs,
+};
