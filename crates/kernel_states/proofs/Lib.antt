@@ -1,0 +1,11 @@
+pub mod Afterwards
+pub mod Called
+pub mod Closes
+pub mod Costs
+pub mod Digital
+pub mod Freeing
+pub mod Kernels
+pub mod Suffixes
+pub mod Taking
+pub mod Ticking
+pub mod Wiring

@@ -1,0 +1,15 @@
+use Rattle.kernel_states.proofs.Kernels.{counting, alone, part, nets_few}
+use Rattle.kernel_states.proofs.Costs.{few_states}
+use Rattle.kernel_states.proofs.laws.digits_are_sound.Goals as goal
+
+pub returns : goal.returns
+returns c =
+    let nodes = c.args.kernel.now.nodes in
+    let kernel = c.args.kernel.now.made in
+    record {
+      counting = counting nodes kernel;
+      alone = alone nodes kernel;
+      parts = part nodes kernel;
+      few = nets_few nodes kernel;
+      count = few_states nodes;
+    }
