@@ -1,15 +1,45 @@
 -- The wires of one node: what they are made of.
-use Rattle.std.proofs.Common.{◌≡◌, ◌∙◌, ℕ, suc, ◌+◌, ◌*◌, ◌<◌, true, false, List, [], ◌∷◌, map, length, get_or, Some, None, refl, ap, sym, subst, arith}
+use Rattle.std.proofs.Common.{
+  ◌≡◌,
+  ◌∙◌,
+  ℕ,
+  suc,
+  ◌+◌,
+  ◌*◌,
+  ◌/◌,
+  ◌%◌,
+  ◌^◌,
+  ◌<◌,
+  Bool,
+  true,
+  false,
+  List,
+  [],
+  ◌∷◌,
+  map,
+  length,
+  get_or,
+  Some,
+  None,
+  refl,
+  ap,
+  sym,
+  subst,
+  arith,
+}
 use Rattle.std.specs.Prelude.{All, slice_get}
 use Rattle.std.proofs.lemmas.List.Elements.{All-nil, All-cons}
 use Rattle.std.proofs.lemmas.Option.{get_or_from_slice_get}
 use Rattle.mx_bits.specs.declared.op.Op.{Op}
 use Rattle.mx_bits.specs.declared.word.Word.{Word}
+use Rattle.counter_chains.specs.declared.digits.CounterDigit.{CounterDigit}
+use Rattle.counter_chains.specs.Chains.{bits_below}
 use Rattle.fix_arith.specs.declared.types.StreamType.{StreamType}
 use Rattle.fix_arith.specs.declared.types.RoundMode.{RoundMode}
 use Rattle.fix_arith.specs.Types.{HasWidth}
 use Rattle.rtl_ir.specs.declared.design.Module.{Module}
-use Rattle.rtl_ir.specs.Value.{width_of}
+use Rattle.rtl_ir.specs.Value.{Family, Contents, width_of}
+use Rattle.rtl_ir.specs.Grow.{Holds}
 use Rattle.rtl_build.specs.declared.signal.Signal.{Signal}
 use Rattle.rtl_build.specs.Signals.{Makes}
 use Rattle.rtl_build.proofs.Growing.{adds_more, adds_none}
@@ -18,15 +48,26 @@ use Rattle.rtl_ops.specs.Fragments.{IsFragment}
 use Rattle.stream_graph.specs.declared.node.Kind.{Kind}
 use Rattle.stream_graph.specs.declared.node.Kind.TheVariants as K
 use Rattle.stream_graph.specs.declared.node.Node.{Node}
-use Rattle.offset_edges.specs.Edges.{kind_at, operands_at, width_at}
-use Rattle.stream_equations.specs.Equations.{type_at}
+use Rattle.offset_edges.specs.Edges.{kind_at, operands_at, operand_at, width_at}
+use Rattle.stream_equations.specs.Equations.{type_at, digits_at}
+use Rattle.kernel_states.specs.Digits.{IsPartOf}
 use Rattle.offset_edges.proofs.NodeLemmas.{IsOrderly}
 use Rattle.kernel_layout.specs.declared.layout.Layout.{Layout}
 use Rattle.kernel_layout.specs.declared.reads.Read.{Read}
 use Rattle.kernel_layout.specs.Reads.{no_read, read_at}
-use Rattle.kernel_wiring.specs.Words.{is_wired, read_signal, read_net, reads_at, taps_at, IsWordOf}
+use Rattle.kernel_wiring.specs.declared.timing.Timing.{Timing}
+use Rattle.kernel_wiring.specs.Timing.{time_at}
+use Rattle.kernel_wiring.specs.States.{MakesHeld}
+use Rattle.kernel_wiring.specs.Words.{is_wired, signal_at, read_signal, read_net, reads_at, taps_at, IsWordOf}
 use Rattle.kernel_wiring.specs.OneNode.{IsWired, takes, IsReadable, AddsWord}
-use Rattle.kernel_wiring.proofs.Typing.{is_copy, AreTyped}
+use Rattle.kernel_wiring.proofs.Mapped.{slice_map, length_map}
+use Rattle.kernel_wiring.proofs.Typing.{is_like, AreTyped}
+
+-- the kinds whose word is their first operand's
+abbrev pub is_copy : Kind → Bool
+is_copy K.Output = true
+is_copy K.Feed = true
+is_copy _ = false
 
 -- the reads of a node, as they were lent
 pub same_reads : (layout : Layout) (n i : ℕ) (rs : List Read) → i ≡ n → slice_get layout.reads i ≡ Some rs → rs ≡ reads_at layout n
@@ -77,7 +118,7 @@ takes_all k op mode amount e place = ap (λ x. takes x place) e
 wired_operation : (k : Kind) (op : Op) (mode : RoundMode) (amount : ℕ) → k ≡ K.Operation op mode amount → is_wired k ≡ true
 wired_operation k op mode amount e = ap is_wired e
 
-module _ (nodes : List Node) (layout : Layout) (late : List (List Signal)) (words : List Signal) (n : ℕ) where
+module _ (nodes : List Node) (layout : Layout) (late : List (List Signal)) (words : List Signal) (timing : Timing) (n : ℕ) where
   pub operation_nets : (m : Module) → IsReadable m nodes layout late words n → (op : Op) (mode : RoundMode) (amount : ℕ)
       → kind_at nodes n ≡ K.Operation op mode amount
       → (types : List StreamType) (nets : List ℕ) → types ≡ map (type_at nodes) (operands_at nodes n) → nets ≡ taps_at layout late words n
@@ -87,48 +128,49 @@ module _ (nodes : List Node) (layout : Layout) (late : List (List Signal)) (word
       (nets_of m nodes layout.stages late words (operands_at nodes n) (reads_at layout n) (r.counted (wired_operation (kind_at nodes n) op mode amount e))
       (λ i l. r.typed i l (takes_all (kind_at nodes n) op mode amount e i))))
 
-  map_length : (reads : List Read) → length (map (read_net layout.stages late words) reads) ≡ length reads
-  map_length [] = refl
-  map_length (r ∷ reads) = ap suc (map_length reads)
-
   pub operation_added : (old new : Module) → IsReadable old nodes layout late words n
       → (op : Op) (mode : RoundMode) (amount : ℕ) → kind_at nodes n ≡ K.Operation op mode amount
       → (types : List StreamType) (nets : List ℕ) (out : StreamType) → types ≡ map (type_at nodes) (operands_at nodes n) → nets
       ≡ taps_at layout late words n → out ≡ type_at nodes n
-      → (s : Signal) → IsFragment old new op mode types nets amount out s → AddsWord old new nodes layout late words n (Some s)
+      → (s : Signal) → IsFragment old new op mode types nets amount out s → AddsWord old new nodes layout late words timing n (Some s)
   operation_added old new r op mode amount e types nets out t a u s f =
       let taps = taps_at layout late words n in
       let own = map (type_at nodes) (operands_at nodes n) in
       let g : IsFragment old new op mode own taps amount (type_at nodes n) s =
       subst (λ x. IsFragment old new op mode own taps amount x s) u
       (subst (λ x. IsFragment old new op mode own x amount out s) a (subst (λ x. IsFragment old new op mode x nets amount out s) t f)) in
-      let wired : IsWired new nodes taps s.net n (K.Operation op mode amount) = g.value in
-      let count = map_length (reads_at layout n) in
+      let wired : IsWired new nodes timing taps (signal_at words n).net s.net n (K.Operation op mode amount) = g.value in
+      let count = length_map (read_net layout.stages late words) (reads_at layout n) in
       let same = r.counted (wired_operation (kind_at nodes n) op mode amount e) in
       record {
         adds = adds_more (1 + 15 * length (operands_at nodes n)) g.adds (omega (arith, count, same));
         some = sym (wired_operation (kind_at nodes n) op mode amount e);
-        shows = (record { signal = g.signal; bits = g.width }, subst (λ k. IsWired new nodes taps s.net n k) (sym e) wired);
+        shows = (record { signal = g.signal; bits = g.width }, subst (λ k. IsWired new nodes timing taps (signal_at words n).net s.net n k) (sym e) wired);
       }
 
   pub constant_added : (old new : Module) → AreTyped nodes → n < length nodes → (word : Word) → kind_at nodes n ≡ K.Constant word
-      → (s : Signal) → Makes old new 1 word.width (λ v. word.bits) s → AddsWord old new nodes layout late words n (Some s)
+      → (s : Signal) → Makes old new 1 word.width (λ v. word.bits) s → AddsWord old new nodes layout late words timing n (Some s)
   constant_added old new t h word e s made =
-      let wired : IsWired new nodes (taps_at layout late words n) s.net n (K.Constant word) = made.value in
+      let wired : IsWired new nodes timing (taps_at layout late words n) (signal_at words n).net s.net n (K.Constant word) = made.value in
       record {
         adds = adds_more (1 + 15 * length (operands_at nodes n)) made.adds (omega arith);
         some = sym (ap is_wired e);
         shows = (
           record { signal = made.signal; bits = made.width ∙ t.constants n word h e },
           subst
-              (λ k. IsWired new nodes (taps_at layout late words n) s.net n k) (sym e) wired,
+              (λ k. IsWired new nodes timing (taps_at layout late words n) (signal_at words n).net s.net n k) (sym e) wired,
         );
       }
 
-  first_tap : (reads : List Read) → 0 < length reads
-      → slice_get (map (read_net layout.stages late words) reads) 0 ≡ Some (read_net layout.stages late words (get_or reads 0 no_read))
-  first_tap [] h = absurd (omega arith)
-  first_tap (r ∷ reads) h = refl
+  -- the net of a signal that was read is that of its tap
+  tap_of : (i : ℕ) (s : Signal) → i < length (reads_at layout n) → s ≡ read_signal layout.stages late words (read_at (reads_at layout n) i)
+      → slice_get (taps_at layout late words n) i ≡ Some s.net
+  tap_of i s h is = slice_map (read_net layout.stages late words) (reads_at layout n) i no_read h ∙ ap (λ (x : Signal). Some x.net) (sym is)
+
+  -- a node that gets wires reads each operand
+  pub reads_some : (m : Module) → IsReadable m nodes layout late words n → is_wired (kind_at nodes n) ≡ true → (i : ℕ)
+      → i < length (operands_at nodes n) → i < length (reads_at layout n)
+  reads_some m r e i h = let same = r.counted e in omega (arith, same, h)
 
   copy_takes : (k : Kind) → is_copy k ≡ true → takes k 0 ≡ true
   copy_takes K.Output e = refl
@@ -156,56 +198,130 @@ module _ (nodes : List Node) (layout : Layout) (late : List (List Signal)) (word
   copy_wired K.Chain e = absurd (cc)
   copy_wired (K.Part place) e = absurd (cc)
 
-  copy_is : (m : Module) (taps : List ℕ) (net : ℕ) (k : Kind) → is_copy k ≡ true → slice_get taps 0 ≡ Some net → IsWired m nodes taps net n k
-  copy_is m taps net K.Output e q = q
-  copy_is m taps net K.Feed e q = q
-  copy_is m taps net K.Input e q = tt
-  copy_is m taps net K.Scalar e q = tt
-  copy_is m taps net (K.Constant word) e q = absurd (cc)
-  copy_is m taps net (K.Operation op mode amount) e q = absurd (cc)
-  copy_is m taps net (K.Offset ticks) e q = tt
-  copy_is m taps net K.Hold e q = tt
-  copy_is m taps net K.Counter e q = tt
-  copy_is m taps net K.Chain e q = tt
-  copy_is m taps net (K.Part place) e q = tt
+  copy_is : (m : Module) (taps : List ℕ) (kept net : ℕ) (k : Kind) → is_copy k ≡ true → slice_get taps 0 ≡ Some net
+      → IsWired m nodes timing taps kept net n k
+  copy_is m taps kept net K.Output e q = q
+  copy_is m taps kept net K.Feed e q = q
+  copy_is m taps kept net K.Input e q = absurd (cc)
+  copy_is m taps kept net K.Scalar e q = absurd (cc)
+  copy_is m taps kept net (K.Constant word) e q = absurd (cc)
+  copy_is m taps kept net (K.Operation op mode amount) e q = absurd (cc)
+  copy_is m taps kept net (K.Offset ticks) e q = absurd (cc)
+  copy_is m taps kept net K.Hold e q = absurd (cc)
+  copy_is m taps kept net K.Counter e q = absurd (cc)
+  copy_is m taps kept net K.Chain e q = absurd (cc)
+  copy_is m taps kept net (K.Part place) e q = absurd (cc)
+
+  copy_like : (k : Kind) → is_copy k ≡ true → is_like k ≡ true
+  copy_like K.Output e = refl
+  copy_like K.Feed e = refl
+  copy_like K.Input e = absurd (cc)
+  copy_like K.Scalar e = absurd (cc)
+  copy_like (K.Constant word) e = absurd (cc)
+  copy_like (K.Operation op mode amount) e = absurd (cc)
+  copy_like (K.Offset ticks) e = absurd (cc)
+  copy_like K.Hold e = absurd (cc)
+  copy_like K.Counter e = absurd (cc)
+  copy_like K.Chain e = absurd (cc)
+  copy_like (K.Part place) e = absurd (cc)
 
   -- a node whose word is its first operand's has one
   pub copy_reads : (m : Module) → AreTyped nodes → n < length nodes → IsReadable m nodes layout late words n → is_copy (kind_at nodes n) ≡ true
       → 0 < length (reads_at layout n)
-  copy_reads m t h r e =
-      let first = (t.copies n h e).some in
-      let same = r.counted (copy_wired (kind_at nodes n) e) in
-      omega (arith, first, same)
+  copy_reads m t h r e = reads_some m r (copy_wired (kind_at nodes n) e) 0 (t.firsts n h (copy_like (kind_at nodes n) e)).some
 
   pub copy_added : (m : Module) → AreTyped nodes → n < length nodes → IsReadable m nodes layout late words n → is_copy (kind_at nodes n) ≡ true
-      → (s : Signal) → s ≡ read_signal layout.stages late words (read_at (reads_at layout n) 0) → AddsWord m m nodes layout late words n (Some s)
+      → (s : Signal) → s ≡ read_signal layout.stages late words (read_at (reads_at layout n) 0) → AddsWord m m nodes layout late words timing n (Some s)
   copy_added m t h r e s is =
-      let first = t.copies n h e in
+      let first = t.firsts n h (copy_like (kind_at nodes n) e) in
       let one = r.typed 0 first.some (copy_takes (kind_at nodes n) e) in
-      let read = read_signal layout.stages late words (read_at (reads_at layout n) 0) in
-      let net : read.net ≡ s.net = ap (λ (x : Signal). x.net) (sym is) in
       record {
         adds = adds_none m (1 + 15 * length (operands_at nodes n));
         some = sym (copy_wired (kind_at nodes n) e);
         shows = (
           subst (λ x. IsWordOf m nodes n x) (sym is) (record { signal = one.signal; bits = one.bits ∙ first.width }),
-          copy_is m (taps_at layout late words n) s.net (kind_at nodes n) e (first_tap (reads_at layout n) (copy_reads m t h r e) ∙ ap Some net),
+          copy_is m (taps_at layout late words n) (signal_at words n).net s.net (kind_at nodes n) e (tap_of 0 s (copy_reads m t h r e) is),
         );
       }
 
-  pub none_added : (m : Module) → is_wired (kind_at nodes n) ≡ false → AddsWord m m nodes layout late words n None
+  pub part_added : (old new : Module) → IsReadable old nodes layout late words n → (place bits : ℕ) → kind_at nodes n ≡ K.Part place
+      → IsPartOf nodes n place → bits ≡ width_at nodes n → (digits : List CounterDigit) → digits ≡ digits_at nodes (operand_at nodes n 0)
+      → (chain s : Signal) → chain ≡ read_signal layout.stages late words (read_at (reads_at layout n) 0)
+      → Makes old new 1 bits (λ v. v chain.net / 2 ^ bits_below digits place % 2 ^ bits) s
+      → AddsWord old new nodes layout late words timing n (Some s)
+  part_added old new r place bits e p b digits d chain s is made =
+      let taps = taps_at layout late words n in
+      let one = p.one in
+      let own : Makes old new 1 (width_at nodes n) (λ v. v chain.net / 2 ^ bits_below digits place % 2 ^ width_at nodes n) s =
+      subst (λ w. Makes old new 1 w (λ v. v chain.net / 2 ^ bits_below digits place % 2 ^ w) s) b made in
+      let shows : (c : Contents) (f : Family) → Holds new c f
+      → f s.net ≡ f chain.net / 2 ^ bits_below (digits_at nodes (operand_at nodes n 0)) place % 2 ^ width_at nodes n =
+      subst (λ (xs : List CounterDigit). (c : Contents) (f : Family) → Holds new c f → f s.net ≡ f chain.net / 2 ^ bits_below xs place
+      % 2 ^ width_at nodes n) d own.value in
+      let wired : IsWired new nodes timing taps (signal_at words n).net s.net n (K.Part place) =
+      record { chain = chain.net; first = tap_of 0 chain (reads_some old r (ap is_wired e) 0 (omega (arith, one))) is; shows = shows } in
+      record {
+        adds = adds_more (1 + 15 * length (operands_at nodes n)) made.adds (omega arith);
+        some = sym (ap is_wired e);
+        shows = (
+          record { signal = own.signal; bits = own.width },
+          subst (λ k. IsWired new nodes timing taps (signal_at words n).net s.net n k) (sym e) wired,
+        );
+      }
+
+  -- the signals that a hold reads
+  pub record IsHoldRead (from store : Signal) : Type 0 where
+    pub first : from ≡ read_signal layout.stages late words (read_at (reads_at layout n) 0)
+    pub second : store ≡ read_signal layout.stages late words (read_at (reads_at layout n) 1)
+
+  pub hold_added : (old new : Module) → AreTyped nodes → n < length nodes → IsReadable old nodes layout late words n → kind_at nodes n ≡ K.Hold
+      → (time : ℕ) (from store kept s : Signal) → time ≡ time_at timing n → kept ≡ signal_at words n → IsHoldRead from store
+      → MakesHeld old new timing.position.net timing.ticks.net time store.net from kept.net s
+      → AddsWord old new nodes layout late words timing n (Some s)
+  hold_added old new t h r e time from store kept s at k reads made =
+      let taps = taps_at layout late words n in
+      let count = t.holds n h e in
+      let wires = ap is_wired e in
+      let first = t.firsts n h (ap is_like e) in
+      let one = r.typed 0 first.some (ap (λ x. takes x 0) e) in
+      let own : MakesHeld old new timing.position.net timing.ticks.net (time_at timing n) store.net from (signal_at words n).net s =
+      subst (λ (x : Signal). MakesHeld old new timing.position.net timing.ticks.net (time_at timing n) store.net from x.net s) k
+      (subst (λ x. MakesHeld old new timing.position.net timing.ticks.net x store.net from kept.net s) at made) in
+      let wired : IsWired new nodes timing taps (signal_at words n).net s.net n K.Hold = record {
+        from = from.net;
+        first = tap_of 0 from (reads_some old r wires 0 first.some) reads.first;
+        store = store.net;
+        second = tap_of 1 store (reads_some old r wires 1 (omega (arith, count))) reads.second;
+        on = own.on;
+        stores = own.stores;
+        shows = own.shows;
+      } in
+      record {
+        adds = adds_more (1 + 15 * length (operands_at nodes n)) own.adds (omega (arith, count));
+        some = sym wires;
+        shows = (
+          record {
+            signal = own.wide.signal;
+            bits = own.wide.width ∙ ap (λ (x : Signal). x.width) reads.first ∙ one.bits ∙ first.width;
+          },
+          subst (λ k. IsWired new nodes timing taps (signal_at words n).net s.net n k) (sym e) wired,
+        );
+      }
+
+  pub none_added : (m : Module) → is_wired (kind_at nodes n) ≡ false → AddsWord m m nodes layout late words timing n None
   none_added m e = record { adds = adds_none m (1 + 15 * length (operands_at nodes n)); some = sym e; shows = tt }
 
 pub not_wired : (k : Kind) → (k ≡ K.Output → ⊥) → ((word : Word) → k ≡ K.Constant word → ⊥)
-    → ((op : Op) (mode : RoundMode) (amount : ℕ) → k ≡ K.Operation op mode amount → ⊥) → (k ≡ K.Feed → ⊥) → is_wired k ≡ false
-not_wired K.Output a b c d = absurd (a refl)
-not_wired (K.Constant word) a b c d = absurd (b word refl)
-not_wired (K.Operation op mode amount) a b c d = absurd (c op mode amount refl)
-not_wired K.Feed a b c d = absurd (d refl)
-not_wired K.Input a b c d = refl
-not_wired K.Scalar a b c d = refl
-not_wired (K.Offset ticks) a b c d = refl
-not_wired K.Hold a b c d = refl
-not_wired K.Counter a b c d = refl
-not_wired K.Chain a b c d = refl
-not_wired (K.Part place) a b c d = refl
+    → ((op : Op) (mode : RoundMode) (amount : ℕ) → k ≡ K.Operation op mode amount → ⊥) → (k ≡ K.Feed → ⊥)
+    → ((place : ℕ) → k ≡ K.Part place → ⊥) → (k ≡ K.Hold → ⊥) → is_wired k ≡ false
+not_wired K.Output a b c d p h = absurd (a refl)
+not_wired (K.Constant word) a b c d p h = absurd (b word refl)
+not_wired (K.Operation op mode amount) a b c d p h = absurd (c op mode amount refl)
+not_wired K.Feed a b c d p h = absurd (d refl)
+not_wired K.Hold a b c d p h = absurd (h refl)
+not_wired (K.Part place) a b c d p h = absurd (p place refl)
+not_wired K.Input a b c d p h = refl
+not_wired K.Scalar a b c d p h = refl
+not_wired (K.Offset ticks) a b c d p h = refl
+not_wired K.Counter a b c d p h = refl
+not_wired K.Chain a b c d p h = refl

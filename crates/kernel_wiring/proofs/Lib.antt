@@ -1,7 +1,8 @@
 pub mod Typing
 pub mod Sums
 mod Stages
+mod Below
+mod Mapped
 mod Building
 pub mod Readable
 pub mod Stepping
-pub mod Tapping

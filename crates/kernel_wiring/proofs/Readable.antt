@@ -1,5 +1,33 @@
 -- What a layout says of the signals that nodes read.
-use Rattle.std.proofs.Common.{◌≡◌, ◌∙◌, ℕ, zero, suc, ◌+◌, ◌-◌, ◌≤◌, ◌<◌, Bool, true, false, cond, eqb, List, [], ◌∷◌, map, length, get_or, refl, ap, sym, subst, arith, inr, ⊎_elim}
+use Rattle.std.proofs.Common.{
+  ◌≡◌,
+  ◌∙◌,
+  ℕ,
+  zero,
+  suc,
+  ◌+◌,
+  ◌-◌,
+  ◌≤◌,
+  ◌<◌,
+  Bool,
+  true,
+  false,
+  cond,
+  eqb,
+  List,
+  [],
+  ◌∷◌,
+  map,
+  length,
+  get_or,
+  refl,
+  ap,
+  sym,
+  subst,
+  arith,
+  inr,
+  ⊎_elim,
+}
 use Rattle.std.specs.Prelude.{ℤ, pos, ◌-ℤ◌, Contains}
 use Rattle.std.proofs.lemmas.Bool.{false≢true, cases_Bool}
 use Rattle.digraph.specs.Graph.{reads_of}
@@ -10,27 +38,28 @@ use Rattle.offset_edges.specs.declared.edge.Edge.{Edge}
 use Rattle.offset_edges.specs.declared.source.Source.{Source}
 use Rattle.offset_edges.specs.Edges.{kind_at, operands_at, operand_at, width_at, source_of, is_steady, is_offset, edges_of}
 use Rattle.offset_edges.proofs.NodeLemmas.{IsOrderly}
-use Rattle.offset_edges.proofs.SourceLemmas.{kind_cases, source_past, source_here}
+use Rattle.offset_edges.proofs.SourceLemmas.{kind_cases, source_past, source_here, source_known}
 use Rattle.kernel_layout.specs.declared.layout.Layout.{Layout}
 use Rattle.kernel_layout.specs.declared.reads.Read.{Read}
 use Rattle.kernel_layout.specs.Reads.{no_read, read_at, reads_count, behind_of, direct_of, IsRead}
 use Rattle.kernel_layout.proofs.Sourcing.{edge_among, among_within, among_is}
 use Rattle.kernel_wiring.specs.Words.{has_word, is_wired, reads_at, stages_at, IsLaidOut}
 use Rattle.kernel_wiring.specs.OneNode.{takes}
-use Rattle.kernel_wiring.proofs.Typing.{is_stream, is_copy, AreTyped}
+use Rattle.kernel_wiring.proofs.Typing.{is_like, AreTyped}
 
-stream_word : (k : Kind) → is_offset k ≡ false → is_stream k ≡ true → has_word k ≡ true
-stream_word (K.Offset ticks) f e = absurd (false≢true (sym f))
-stream_word K.Output f e = absurd (false≢true e)
-stream_word K.Chain f e = absurd (false≢true e)
-stream_word K.Input f e = refl
-stream_word K.Scalar f e = refl
-stream_word (K.Constant word) f e = refl
-stream_word (K.Operation op mode amount) f e = refl
-stream_word K.Feed f e = refl
-stream_word K.Hold f e = refl
-stream_word K.Counter f e = refl
-stream_word (K.Part place) f e = refl
+-- all nodes but offsets have words
+stays_word : (k : Kind) → is_offset k ≡ false → has_word k ≡ true
+stays_word (K.Offset ticks) f = absurd (false≢true (sym f))
+stays_word K.Output f = refl
+stays_word K.Chain f = refl
+stays_word K.Input f = refl
+stays_word K.Scalar f = refl
+stays_word (K.Constant word) f = refl
+stays_word (K.Operation op mode amount) f = refl
+stays_word K.Feed f = refl
+stays_word K.Hold f = refl
+stays_word K.Counter f = refl
+stays_word (K.Part place) f = refl
 
 wired_stays : (k : Kind) → is_wired k ≡ true → is_offset k ≡ false
 wired_stays (K.Offset ticks) e = absurd (false≢true e)
@@ -54,9 +83,9 @@ takes_wired (K.Offset ticks) place e = absurd (false≢true e)
 takes_wired K.Chain place e = absurd (false≢true e)
 takes_wired K.Input place e = absurd (false≢true e)
 takes_wired K.Scalar place e = absurd (false≢true e)
-takes_wired K.Hold place e = absurd (false≢true e)
+takes_wired K.Hold place e = refl
 takes_wired K.Counter place e = absurd (false≢true e)
-takes_wired (K.Part at) place e = absurd (false≢true e)
+takes_wired (K.Part at) place e = refl
 
 -- a direct read is among those of the graph
 pub direct_has : (rs : List Read) (p : ℕ) → p < length rs → (get_or rs p no_read).behind ≡ 0
@@ -98,58 +127,30 @@ count_stays true size p h = absurd (omega (arith, h))
 count_stays false size p h = refl
 
 module _ (nodes : List Node) (o : IsOrderly nodes) (t : AreTyped nodes) where
-  -- what a stream is read as has a word of its width
-  pub record IsSourced (n : ℕ) : Type 0 where
-    pub width : width_at nodes (source_of nodes n).node ≡ width_at nodes n
-    pub word : has_word (kind_at nodes (source_of nodes n).node) ≡ true
+  -- what a node is read as has words of its width
+  width_here : (n : ℕ) → n < length nodes → is_offset (kind_at nodes n) ≡ false → width_at nodes (source_of nodes n).node ≡ width_at nodes n
+  width_here n h f = ap (λ (s : Source). width_at nodes s.node) (source_here nodes o n h f)
 
-  sourced_here : (n : ℕ) → n < length nodes → is_offset (kind_at nodes n) ≡ false → is_stream (kind_at nodes n) ≡ true → IsSourced n
-  sourced_here n h f e =
-      let same : (source_of nodes n).node ≡ n = ap (λ (s : Source). s.node) (source_here nodes o n h f) in
-      record {
-        width = ap (width_at nodes) same;
-        word = ap (λ v. has_word (kind_at nodes v)) same ∙ stream_word (kind_at nodes n) f e;
-      }
+  width_past : (n : ℕ) (ticks : ℤ) → n < length nodes → kind_at nodes n ≡ K.Offset ticks
+      → width_at nodes (source_of nodes (operand_at nodes n 0)).node ≡ width_at nodes (operand_at nodes n 0)
+      → width_at nodes (source_of nodes n).node ≡ width_at nodes n
+  width_past n ticks h e r =
+      ap (λ (s : Source). width_at nodes s.node) (source_past nodes o n ticks h e) ∙ r ∙ (t.firsts n h (ap is_like e)).width
 
-  sourced_past : (n : ℕ) (ticks : ℤ) → n < length nodes → kind_at nodes n ≡ K.Offset ticks → IsSourced (operand_at nodes n 0) → IsSourced n
-  sourced_past n ticks h e r =
-      let same : (source_of nodes n).node ≡ (source_of nodes (operand_at nodes n 0)).node = ap (λ (s : Source). s.node)
-      (source_past nodes o n ticks h e) in
-      record {
-        width = ap (width_at nodes) same ∙ r.width ∙ (t.offsets n ticks h e).width;
-        word = ap (λ v. has_word (kind_at nodes v)) same ∙ r.word;
-      }
-
-  sourced : (m n : ℕ) → n ≤ m → n < length nodes → is_stream (kind_at nodes n) ≡ true → IsSourced n
-  sourced zero n l h s = ⊎_elim
+  width_within : (m n : ℕ) → n ≤ m → n < length nodes → width_at nodes (source_of nodes n).node ≡ width_at nodes n
+  width_within zero n l h = ⊎_elim
       (λ (p : (ticks : ℤ) × (kind_at nodes n ≡ K.Offset ticks)). let e = (o.offsets n p.0 h p.1).1 in absurd (omega (arith, e, l)))
-      (λ (f : is_offset (kind_at nodes n) ≡ false). sourced_here n h f s)
+      (λ (f : is_offset (kind_at nodes n) ≡ false). width_here n h f)
       (kind_cases (kind_at nodes n))
-  sourced (suc m) n l h s = ⊎_elim
+  width_within (suc m) n l h = ⊎_elim
       (λ (p : (ticks : ℤ) × (kind_at nodes n ≡ K.Offset ticks)).
       let e = (o.offsets n p.0 h p.1).1 in
-      sourced_past n p.0 h p.1 (sourced m (operand_at nodes n 0) (omega (arith, e, l)) (omega (arith, e, h)) (t.offsets n p.0 h p.1).stream))
-      (λ (f : is_offset (kind_at nodes n) ≡ false). sourced_here n h f s)
+      width_past n p.0 h p.1 (width_within m (operand_at nodes n 0) (omega (arith, e, l)) (omega (arith, e, h))))
+      (λ (f : is_offset (kind_at nodes n) ≡ false). width_here n h f)
       (kind_cases (kind_at nodes n))
 
-  -- each operand that wires take is a stream
-  takes_stream : (n : ℕ) (k : Kind) → n < length nodes → kind_at nodes n ≡ k → (place : ℕ) → place < length (operands_at nodes n)
-      → takes k place ≡ true → is_stream (kind_at nodes (operand_at nodes n place)) ≡ true
-  takes_stream n K.Output h e place l q =
-      let zero_place : place ≡ 0 = grind (arith, q) in
-      subst (λ p. is_stream (kind_at nodes (operand_at nodes n p)) ≡ true) (sym zero_place) (t.copies n h (ap is_copy e)).stream
-  takes_stream n K.Feed h e place l q =
-      let zero_place : place ≡ 0 = grind (arith, q) in
-      subst (λ p. is_stream (kind_at nodes (operand_at nodes n p)) ≡ true) (sym zero_place) (t.copies n h (ap is_copy e)).stream
-  takes_stream n (K.Operation op mode amount) h e place l q = t.streams n op mode amount h e place l
-  takes_stream n (K.Offset ticks) h e place l q = absurd (false≢true q)
-  takes_stream n K.Chain h e place l q = absurd (false≢true q)
-  takes_stream n K.Input h e place l q = absurd (false≢true q)
-  takes_stream n K.Scalar h e place l q = absurd (false≢true q)
-  takes_stream n (K.Constant word) h e place l q = absurd (false≢true q)
-  takes_stream n K.Hold h e place l q = absurd (false≢true q)
-  takes_stream n K.Counter h e place l q = absurd (false≢true q)
-  takes_stream n (K.Part at) h e place l q = absurd (false≢true q)
+  source_width : (n : ℕ) → n < length nodes → width_at nodes (source_of nodes n).node ≡ width_at nodes n
+  source_width n h = width_within n n (omega arith) h
 
   module _ (layout : Layout) (laid : IsLaidOut nodes layout) where
     -- a read of a node
@@ -158,10 +159,8 @@ module _ (nodes : List Node) (o : IsOrderly nodes) (t : AreTyped nodes) where
       pub inside : (read_at (reads_at layout n) place).source < length nodes
       pub kept : ((read_at (reads_at layout n) place).behind ≡ 0 → ⊥)
           → Contains (stages_at layout.stages (read_at (reads_at layout n) place).source) (read_at (reads_at layout n) place).behind
-      pub typed :
-          takes (kind_at nodes n) place ≡ true
-          → (width_at nodes (read_at (reads_at layout n) place).source ≡ width_at nodes (operand_at nodes n place)) ×
-          (has_word (kind_at nodes (read_at (reads_at layout n) place).source) ≡ true)
+      pub width : width_at nodes (read_at (reads_at layout n) place).source ≡ width_at nodes (operand_at nodes n place)
+      pub word : has_word (kind_at nodes (read_at (reads_at layout n) place).source) ≡ true
       pub ranked : (read_at (reads_at layout n) place).behind ≡ 0
           → get_or laid.is.order.rank (read_at (reads_at layout n) place).source 0 < get_or laid.is.order.rank n 0
 
@@ -211,10 +210,9 @@ module _ (nodes : List Node) (o : IsOrderly nodes) (t : AreTyped nodes) where
           below = below;
           inside = r.inside;
           kept = λ moves. read_kept n i h stays below (read_at (reads_at layout n) i) r moves;
-          typed = λ q.
-              let operand = operand_at nodes n i in
-              let w = sourced operand operand (omega arith) (o.operands n i h below) (takes_stream n (kind_at nodes n) h refl i below q) in
-              (ap (width_at nodes) r.source ∙ w.width, ap (λ v. has_word (kind_at nodes v)) r.source ∙ w.word);
+          width = ap (width_at nodes) r.source ∙ source_width (operand_at nodes n i) (o.operands n i h below);
+          word = ap (λ v. has_word (kind_at nodes v)) r.source ∙ stays_word (kind_at nodes (source_of nodes (operand_at nodes n i)).node)
+              (source_known nodes o (operand_at nodes n i) (o.operands n i h below)).stream;
           ranked = λ z. read_ranked n i h l z;
         }
 

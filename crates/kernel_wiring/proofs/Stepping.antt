@@ -1,5 +1,35 @@
 -- Nodes that have their wires, one after another.
-use Rattle.std.proofs.Common.{◌≡◌, ◌∙◌, ℕ, zero, suc, ◌+◌, ◌*◌, ◌≤◌, ◌<◌, Bool, true, false, cond, eqb, List, [], ◌∷◌, map, length, get_or, slice_set, Some, None, refl, ap, sym, subst, arith, ⊎_elim}
+use Rattle.std.proofs.Common.{
+  ◌≡◌,
+  ◌∙◌,
+  ℕ,
+  zero,
+  suc,
+  ◌+◌,
+  ◌*◌,
+  ◌≤◌,
+  ◌<◌,
+  Bool,
+  true,
+  false,
+  cond,
+  eqb,
+  List,
+  [],
+  ◌∷◌,
+  map,
+  length,
+  get_or,
+  slice_set,
+  Some,
+  None,
+  refl,
+  ap,
+  sym,
+  subst,
+  arith,
+  ⊎_elim,
+}
 use Rattle.std.specs.Prelude.{All, Contains, sum_by}
 use Rattle.std.proofs.lemmas.List.Sums.{sum_by-cons}
 use Rattle.std.proofs.lemmas.Bool.{false≢true, cases_Bool, cases_eq}
@@ -23,10 +53,35 @@ use Rattle.offset_edges.proofs.NodeLemmas.{IsOrderly}
 use Rattle.kernel_layout.specs.declared.layout.Layout.{Layout}
 use Rattle.kernel_layout.specs.declared.reads.Read.{Read}
 use Rattle.kernel_layout.specs.Reads.{no_read, read_at}
-use Rattle.kernel_wiring.specs.Words.{has_word, is_wired, no_signal, signal_at, stages_at, late_at, late_of, read_signal, read_net, reads_at, taps_at, IsWordOf, AreGiven, AreLate, IsLaidOut, IsReadIn}
-use Rattle.kernel_wiring.specs.OneNode.{IsWired, takes, IsReadable, operand_count, AddsWord}
+use Rattle.kernel_wiring.specs.Words.{
+  has_word,
+  is_wired,
+  no_signal,
+  signal_at,
+  stages_at,
+  late_at,
+  late_of,
+  read_signal,
+  read_net,
+  reads_at,
+  signals_at,
+  control_among,
+  control_at,
+  taps_at,
+  IsWordOf,
+  is_given,
+  AreGiven,
+  AreLate,
+  IsLaidOut,
+  IsReadIn,
+}
+use Rattle.kernel_control.specs.Nets.{HasWidth, MayEnable}
+use Rattle.kernel_wiring.specs.declared.timing.Timing.{Timing}
+use Rattle.kernel_wiring.specs.Timing.{IsTiming}
+use Rattle.kernel_wiring.specs.OneNode.{IsWired, IsReadable, operand_count, AddsWord}
 use Rattle.kernel_wiring.specs.AllNodes.{AddsOnlyWires, AddsNodes}
-use Rattle.kernel_wiring.proofs.Typing.{AreTyped}
+use Rattle.kernel_wiring.proofs.Typing.{takes_bit, AreTyped}
+use Rattle.kernel_wiring.proofs.Mapped.{get_map, length_map}
 use Rattle.kernel_wiring.proofs.Sums.{sum_below, sum_of_list, sum_apart}
 use Rattle.kernel_wiring.proofs.Stages.{is_zero, not_zero}
 use Rattle.kernel_wiring.proofs.Readable.{takes_wired, read_of, reads_all, node_in, place_of}
@@ -85,37 +140,87 @@ same_nets stages late words after (r ∷ reads) same =
     one true e = same 0 (omega arith) (grind (arith, e))
     one false e = refl
 
+-- ---- controls
+
+control_bit : (m : Module) (k : Kind) (signals : List Signal)
+    → ((i : ℕ) → takes_bit k i ≡ true → i < length signals → HasWidth m 1 (get_or signals i no_signal)) → MayEnable m (control_among k signals)
+control_bit m K.Input [] bit = tt
+control_bit m K.Input (s ∷ signals) bit = bit 0 refl (omega arith)
+control_bit m K.Output [] bit = tt
+control_bit m K.Output (s ∷ []) bit = tt
+control_bit m K.Output (s ∷ c ∷ signals) bit = bit 1 refl (omega arith)
+control_bit m K.Scalar signals bit = tt
+control_bit m (K.Constant word) signals bit = tt
+control_bit m (K.Operation op mode amount) signals bit = tt
+control_bit m (K.Offset ticks) signals bit = tt
+control_bit m K.Feed signals bit = tt
+control_bit m K.Hold signals bit = tt
+control_bit m K.Counter signals bit = tt
+control_bit m K.Chain signals bit = tt
+control_bit m (K.Part place) signals bit = tt
+
 -- ---- what a module keeps
 
-pub wired_kept : (m n : Module) → ((c : Contents) (f : Family) → Holds n c f → Holds m c f)
-    → (nodes : List Node) (taps : List ℕ) (net v : ℕ) (k : Kind) → IsWired m nodes taps net v k → IsWired n nodes taps net v k
-wired_kept m n before nodes taps net v K.Output h = h
-wired_kept m n before nodes taps net v (K.Constant word) h = λ c f q. h c f (before c f q)
-wired_kept m n before nodes taps net v (K.Operation op mode amount) h = λ c f q. h c f (before c f q)
-wired_kept m n before nodes taps net v K.Feed h = h
-wired_kept m n before nodes taps net v K.Input h = tt
-wired_kept m n before nodes taps net v K.Scalar h = tt
-wired_kept m n before nodes taps net v (K.Offset ticks) h = tt
-wired_kept m n before nodes taps net v K.Hold h = tt
-wired_kept m n before nodes taps net v K.Counter h = tt
-wired_kept m n before nodes taps net v K.Chain h = tt
-wired_kept m n before nodes taps net v (K.Part place) h = tt
+wired_kept : (m n : Module) → ((c : Contents) (f : Family) → Holds n c f → Holds m c f)
+    → (nodes : List Node) (timing : Timing) (taps : List ℕ) (kept net v : ℕ) (k : Kind) → IsWired m nodes timing taps kept net v k
+    → IsWired n nodes timing taps kept net v k
+wired_kept m n before nodes timing taps kept net v K.Output h = h
+wired_kept m n before nodes timing taps kept net v (K.Constant word) h = λ c f q. h c f (before c f q)
+wired_kept m n before nodes timing taps kept net v (K.Operation op mode amount) h = λ c f q. h c f (before c f q)
+wired_kept m n before nodes timing taps kept net v K.Feed h = h
+wired_kept m n before nodes timing taps kept net v (K.Part place) h =
+    record { chain = h.chain; first = h.first; shows = λ c f q. h.shows c f (before c f q) }
+wired_kept m n before nodes timing taps kept net v K.Hold h = record {
+  from = h.from;
+  first = h.first;
+  store = h.store;
+  second = h.second;
+  on = h.on;
+  stores = λ c f q. h.stores c f (before c f q);
+  shows = λ c f q. h.shows c f (before c f q);
+}
+wired_kept m n before nodes timing taps kept net v K.Input h = tt
+wired_kept m n before nodes timing taps kept net v K.Scalar h = tt
+wired_kept m n before nodes timing taps kept net v (K.Offset ticks) h = tt
+wired_kept m n before nodes timing taps kept net v K.Counter h = tt
+wired_kept m n before nodes timing taps kept net v K.Chain h = tt
 
-none_wired : (m : Module) (nodes : List Node) (taps : List ℕ) (net v : ℕ) (k : Kind) → is_wired k ≡ false → IsWired m nodes taps net v k
-none_wired m nodes taps net v K.Output e = absurd (false≢true (sym e))
-none_wired m nodes taps net v (K.Constant word) e = absurd (false≢true (sym e))
-none_wired m nodes taps net v (K.Operation op mode amount) e = absurd (false≢true (sym e))
-none_wired m nodes taps net v K.Feed e = absurd (false≢true (sym e))
-none_wired m nodes taps net v K.Input e = tt
-none_wired m nodes taps net v K.Scalar e = tt
-none_wired m nodes taps net v (K.Offset ticks) e = tt
-none_wired m nodes taps net v K.Hold e = tt
-none_wired m nodes taps net v K.Counter e = tt
-none_wired m nodes taps net v K.Chain e = tt
-none_wired m nodes taps net v (K.Part place) e = tt
+none_wired : (m : Module) (nodes : List Node) (timing : Timing) (taps : List ℕ) (kept net v : ℕ) (k : Kind) → is_wired k ≡ false
+    → IsWired m nodes timing taps kept net v k
+none_wired m nodes timing taps kept net v K.Output e = absurd (false≢true (sym e))
+none_wired m nodes timing taps kept net v (K.Constant word) e = absurd (false≢true (sym e))
+none_wired m nodes timing taps kept net v (K.Operation op mode amount) e = absurd (false≢true (sym e))
+none_wired m nodes timing taps kept net v K.Feed e = absurd (false≢true (sym e))
+none_wired m nodes timing taps kept net v K.Hold e = absurd (false≢true (sym e))
+none_wired m nodes timing taps kept net v (K.Part place) e = absurd (false≢true (sym e))
+none_wired m nodes timing taps kept net v K.Input e = tt
+none_wired m nodes timing taps kept net v K.Scalar e = tt
+none_wired m nodes timing taps kept net v (K.Offset ticks) e = tt
+none_wired m nodes timing taps kept net v K.Counter e = tt
+none_wired m nodes timing taps kept net v K.Chain e = tt
+
+-- a word that gets no wires is given
+given_word : (k : Kind) → has_word k ≡ true → is_wired k ≡ false → is_given k ≡ true
+given_word K.Output h e = absurd (false≢true (sym e))
+given_word (K.Constant word) h e = absurd (false≢true (sym e))
+given_word (K.Operation op mode amount) h e = absurd (false≢true (sym e))
+given_word K.Feed h e = absurd (false≢true (sym e))
+given_word K.Hold h e = absurd (false≢true (sym e))
+given_word (K.Part place) h e = absurd (false≢true (sym e))
+given_word (K.Offset ticks) h e = absurd (false≢true h)
+given_word K.Input h e = refl
+given_word K.Scalar h e = refl
+given_word K.Counter h e = refl
+given_word K.Chain h e = refl
 
 word_kept : {m n : Module} {nodes : List Node} {v : ℕ} {s : Signal} → Extends m n → IsWordOf m nodes v s → IsWordOf n nodes v s
 word_kept {s = s} e h = record { signal = e.keeps s h.signal; bits = h.bits }
+
+wide_kept : {m n : Module} {w : ℕ} {s : Signal} → Extends m n → HasWidth m w s → HasWidth n w s
+wide_kept {s = s} e h = record { signal = e.keeps s h.signal; width = h.width }
+
+pub timing_kept : {m n : Module} {nodes : List Node} {timing : Timing} → Extends m n → IsTiming m nodes timing → IsTiming n nodes timing
+timing_kept e t = record { position = wide_kept e t.position; ticks = wide_kept e t.ticks; counted = t.counted; small = t.small }
 
 pub only_same : (m : Module) → IsSound m → AddsOnlyWires m m 0
 only_same m sound = record {
@@ -180,31 +285,34 @@ first_more nodes layout old m n k w adds =
     subst (λ i. AddsOnlyWires old n (first_wires nodes layout i)) next
     (only_more old m n (first_wires nodes layout k) (node_wires nodes (node_of layout k)) w adds)
 
-pub record AreWired (nodes : List Node) (layout : Layout) (late : List (List Signal)) (old m : Module) (before words : List Signal) (k : ℕ) : Type 0 where
+pub record AreWired (nodes : List Node) (layout : Layout) (late : List (List Signal)) (timing : Timing) (old m : Module)
+    (before words : List Signal) (k : ℕ) : Type 0 where
   pub wires : AddsOnlyWires old m (first_wires nodes layout k)
   pub size : length words ≡ length before
   pub given : (u : ℕ) → is_wired (kind_at nodes u) ≡ false → signal_at words u ≡ signal_at before u
+  pub fresh : (j : ℕ) → k ≤ j → j < length layout.order → signal_at words (node_of layout j) ≡ signal_at before (node_of layout j)
   pub done : (j : ℕ) → j < k → is_wired (kind_at nodes (node_of layout j)) ≡ true
       → IsWordOf m nodes (node_of layout j) (signal_at words (node_of layout j))
   pub built : (j : ℕ) → j < k
-      → IsWired m nodes (taps_at layout late words (node_of layout j)) (signal_at words (node_of layout j)).net (node_of layout j)
-      (kind_at nodes (node_of layout j))
+      → IsWired m nodes timing (taps_at layout late words (node_of layout j)) (signal_at before (node_of layout j)).net
+      (signal_at words (node_of layout j)).net (node_of layout j) (kind_at nodes (node_of layout j))
 
-pub none_yet : (nodes : List Node) (layout : Layout) (late : List (List Signal)) (old : Module) (before : List Signal) → IsSound old
-    → AreWired nodes layout late old old before before 0
-none_yet nodes layout late old before sound = record {
+pub none_yet : (nodes : List Node) (layout : Layout) (late : List (List Signal)) (timing : Timing) (old : Module) (before : List Signal)
+    → IsSound old → AreWired nodes layout late timing old old before before 0
+none_yet nodes layout late timing old before sound = record {
   wires = only_same old sound;
   size = refl;
   given = λ u e. refl;
+  fresh = λ j h l. refl;
   done = λ j h. absurd (omega (arith, h));
   built = λ j h. absurd (omega (arith, h));
 }
 
 module _ (nodes : List Node) (o : IsOrderly nodes) (t : AreTyped nodes) (layout : Layout) (laid : IsLaidOut nodes layout) (late : List (List Signal))
-    (old : Module) (before : List Signal)
+    (timing : Timing) (old : Module) (before : List Signal)
     (shown : AreLate old nodes layout.stages late) (first : AreGiven old nodes before) where
   -- the word of a node that comes before number k of the order
-  word_there : (m : Module) (words : List Signal) (k : ℕ) → AreWired nodes layout late old m before words k → (u : ℕ) → u < length nodes
+  word_there : (m : Module) (words : List Signal) (k : ℕ) → AreWired nodes layout late timing old m before words k → (u : ℕ) → u < length nodes
       → has_word (kind_at nodes u) ≡ true
       → (is_wired (kind_at nodes u) ≡ true → get_or laid.is.order.rank u 0 < k + 1) → IsWordOf m nodes u (signal_at words u)
   word_there m words k w u h has earlier = ⊎_elim
@@ -215,10 +323,10 @@ module _ (nodes : List Node) (o : IsOrderly nodes) (t : AreTyped nodes) (layout 
       let q : p.place < k = omega (arith, r, l) in
       subst (λ v. IsWordOf m nodes v (signal_at words v)) p.node (w.done p.place q (ap (λ v. is_wired (kind_at nodes v)) p.node ∙ e)))
       (λ (e : is_wired (kind_at nodes u) ≡ false).
-      subst (λ s. IsWordOf m nodes u s) (sym (w.given u e)) (word_kept w.wires.extends (first.each u h has e)))
+      subst (λ s. IsWordOf m nodes u s) (sym (w.given u e)) (word_kept w.wires.extends (first.each u h (given_word (kind_at nodes u) has e))))
       (cases_Bool (is_wired (kind_at nodes u)))
 
-  read_in : (m : Module) (words : List Signal) (k : ℕ) → AreWired nodes layout late old m before words k → (n i : ℕ) → n < length nodes
+  read_in : (m : Module) (words : List Signal) (k : ℕ) → AreWired nodes layout late timing old m before words k → (n i : ℕ) → n < length nodes
       → i < length (reads_at layout n)
       → IsReadIn layout.stages late words (read_at (reads_at layout n) i)
   read_in m words k w n i h l =
@@ -238,39 +346,43 @@ module _ (nodes : List Node) (o : IsOrderly nodes) (t : AreTyped nodes) (layout 
         };
       }
 
-  read_typed : (m : Module) (words : List Signal) (k : ℕ) → k < length layout.order → AreWired nodes layout late old m before words k → (n i : ℕ)
-      → n ≡ node_of layout k → n < length nodes
-      → i < length (reads_at layout n) → takes (kind_at nodes n) i ≡ true → IsWordOf m nodes (operand_at nodes n i)
-      (read_signal layout.stages late words (read_at (reads_at layout n) i))
-  read_typed m words k lt w n i e h l q =
+  -- a read has the width of its operand, if it is late or its source has a word
+  read_typed : (m : Module) (words : List Signal) → Extends old m → (n i : ℕ) → n < length nodes → i < length (reads_at layout n)
+      → ((read_at (reads_at layout n) i).behind ≡ 0 → IsWordOf m nodes (read_at (reads_at layout n) i).source
+      (signal_at words (read_at (reads_at layout n) i).source))
+      → IsWordOf m nodes (operand_at nodes n i) (read_signal layout.stages late words (read_at (reads_at layout n) i))
+  read_typed m words x n i h l now =
       let r = read_of nodes o t layout laid n i h l in
       let read = read_at (reads_at layout n) i in
-      let typed = r.typed q in
-      let place : get_or laid.is.order.rank n 0 ≡ k + 1 = ap (λ v. get_or laid.is.order.rank v 0) e ∙ laid.is.order.placed.place k lt in
-      let now : read.behind ≡ 0 → IsWordOf m nodes read.source (signal_at words read.source) =
-      λ z. word_there m words k w read.source r.inside typed.1 (λ x. let a = r.ranked z in omega (arith, a, place)) in
       let then : (read.behind ≡ 0 → ⊥) → IsWordOf m nodes read.source
       (late_of (stages_at layout.stages read.source) (late_at late read.source) read.behind) =
-      λ moves. word_kept w.wires.extends
+      λ moves. word_kept x
       (late_word (IsWordOf old nodes read.source) (stages_at layout.stages read.source) (late_at late read.source) read.behind
       (shown.same read.source r.inside) (shown.each read.source r.inside) (r.kept moves)) in
-      by_test (eqb read.behind 0) refl read (λ s x. record { signal = x.signal; bits = x.bits ∙ typed.0 }) now then
+      let word = by_test read (eqb read.behind 0) refl now then in
+      record { signal = word.signal; bits = word.bits ∙ r.width }
     where
-      by_test : (b : Bool) → (eqb (read_at (reads_at layout n) i).behind 0 ≡ b) → (read : Read)
-          → ((s : Signal) → IsWordOf m nodes (read_at (reads_at layout n) i).source s → IsWordOf m nodes (operand_at nodes n i) s)
-          → ((read_at (reads_at layout n) i).behind ≡ 0 → IsWordOf m nodes (read_at (reads_at layout n) i).source
-          (signal_at words (read_at (reads_at layout n) i).source))
-          → (((read_at (reads_at layout n) i).behind ≡ 0 → ⊥) → IsWordOf m nodes (read_at (reads_at layout n) i).source
-          (late_of (stages_at layout.stages (read_at (reads_at layout n) i).source) (late_at late (read_at (reads_at layout n) i).source)
-          (read_at (reads_at layout n) i).behind))
-          → IsWordOf m nodes (operand_at nodes n i) (cond b (signal_at words (read_at (reads_at layout n) i).source)
-          (late_of (stages_at layout.stages (read_at (reads_at layout n) i).source) (late_at late (read_at (reads_at layout n) i).source)
-          (read_at (reads_at layout n) i).behind))
-      by_test true e read same now then = same _ (now (is_zero _ e))
-      by_test false e read same now then = same _ (then (not_zero _ e))
+      by_test : (read : Read) (b : Bool) → eqb read.behind 0 ≡ b
+          → (read.behind ≡ 0 → IsWordOf m nodes read.source (signal_at words read.source))
+          → ((read.behind ≡ 0 → ⊥) → IsWordOf m nodes read.source
+          (late_of (stages_at layout.stages read.source) (late_at late read.source) read.behind))
+          → IsWordOf m nodes read.source (cond b (signal_at words read.source)
+          (late_of (stages_at layout.stages read.source) (late_at late read.source) read.behind))
+      by_test read true e now then = now (is_zero _ e)
+      by_test read false e now then = then (not_zero _ e)
+
+  -- so it is with what node number k of the order reads
+  read_before : (m : Module) (words : List Signal) (k n i : ℕ) → k < length layout.order → n ≡ node_of layout k
+      → AreWired nodes layout late timing old m before words k → n < length nodes → i < length (reads_at layout n)
+      → IsWordOf m nodes (operand_at nodes n i) (read_signal layout.stages late words (read_at (reads_at layout n) i))
+  read_before m words k n i lt e w h l =
+      let r = read_of nodes o t layout laid n i h l in
+      let place : get_or laid.is.order.rank n 0 ≡ k + 1 = ap (λ v. get_or laid.is.order.rank v 0) e ∙ laid.is.order.placed.place k lt in
+      read_typed m words w.wires.extends n i h l
+      (λ z. word_there m words k w (read_at (reads_at layout n) i).source r.inside r.word (λ x. let a = r.ranked z in omega (arith, a, place)))
 
   pub readable : (m : Module) (words : List Signal) (k n : ℕ) → k < length layout.order → n ≡ node_of layout k
-      → AreWired nodes layout late old m before words k → IsReadable m nodes layout late words n
+      → AreWired nodes layout late timing old m before words k → IsReadable m nodes layout late words n
   readable m words k n lt e w =
       let h : n < length nodes = subst (λ v. v < length nodes) (sym e) (node_in nodes o t layout laid k lt) in
       let c = laid.is.reads.counted in
@@ -280,8 +392,17 @@ module _ (nodes : List Node) (o : IsOrderly nodes) (t : AreTyped nodes) (layout 
         each = λ i d l. subst (λ r. IsReadIn layout.stages late words r) (get_or_default (reads_at layout n) i no_read d l) (read_in m words k w n i h l);
         typed = λ i l q.
             let all = reads_all nodes o t layout laid n h (takes_wired (kind_at nodes n) i q) in
-            read_typed m words k lt w n i e h (omega (arith, all, l)) q;
+            read_before m words k n i lt e w h (omega (arith, all, l));
       }
+
+  -- what a hold keeps is there
+  pub kept_there : (m : Module) (words : List Signal) (k n : ℕ) → k < length layout.order → n ≡ node_of layout k
+      → AreWired nodes layout late timing old m before words k → kind_at nodes n ≡ K.Hold → IsWordOf m nodes n (signal_at words n)
+  kept_there m words k n lt e w hold =
+      let h : n < length nodes = subst (λ v. v < length nodes) (sym e) (node_in nodes o t layout laid k lt) in
+      let same : signal_at words n ≡ signal_at before n =
+      subst (λ v. signal_at words v ≡ signal_at before v) (sym e) (w.fresh k (omega arith) lt) in
+      subst (λ s. IsWordOf m nodes n s) (sym same) (word_kept w.wires.extends (first.each n h (ap is_given hold)))
 
   -- a node of the order reads the same nets when the word of a later one is written
   taps_kept : (words : List Signal) (s : Signal) (k j : ℕ) → k < length layout.order → j ≤ k
@@ -307,16 +428,24 @@ module _ (nodes : List Node) (o : IsOrderly nodes) (t : AreTyped nodes) (layout 
       (λ u. get_or laid.is.order.rank u 0) e in
       omega (arith, a, b, c, l)
 
+  apart_after : (k j : ℕ) → k + 1 ≤ j → j < length layout.order → node_of layout k ≡ node_of layout j → ⊥
+  apart_after k j l lj e = apart k j (omega (arith, l)) lj (sym e)
+
+  -- the net of node number j of the order has its word
+  abbrev IsBuiltAt : Module → List Signal → ℕ → Type 0
+  IsBuiltAt m words j = IsWired m nodes timing (taps_at layout late words (node_of layout j)) (signal_at before (node_of layout j)).net
+      (signal_at words (node_of layout j)).net (node_of layout j) (kind_at nodes (node_of layout j))
+
   -- one node more, which has wires
   pub wires_more : (m n : Module) (words : List Signal) (k v : ℕ) (s : Signal) → k < length layout.order → v ≡ node_of layout k
-      → AreWired nodes layout late old m before words k
-      → AddsWord m n nodes layout late words v (Some s) → AreWired nodes layout late old n before (slice_set words v s) (k + 1)
+      → AreWired nodes layout late timing old m before words k
+      → AddsWord m n nodes layout late words timing v (Some s) → AreWired nodes layout late timing old n before (slice_set words v s) (k + 1)
   wires_more m n words k v s lt e w a =
-      subst (λ x. AreWired nodes layout late old n before (slice_set words x s) (k + 1)) (sym e)
-      (more (subst (λ x. AddsWord m n nodes layout late words x (Some s)) e a))
+      subst (λ x. AreWired nodes layout late timing old n before (slice_set words x s) (k + 1)) (sym e)
+      (more (subst (λ x. AddsWord m n nodes layout late words timing x (Some s)) e a))
     where
-      more : AddsWord m n nodes layout late words (node_of layout k) (Some s)
-          → AreWired nodes layout late old n before (slice_set words (node_of layout k) s) (k + 1)
+      more : AddsWord m n nodes layout late words timing (node_of layout k) (Some s)
+          → AreWired nodes layout late timing old n before (slice_set words (node_of layout k) s) (k + 1)
       more a =
           let u = node_of layout k in
           let after = slice_set words u s in
@@ -332,27 +461,31 @@ module _ (nodes : List Node) (o : IsOrderly nodes) (t : AreTyped nodes) (layout 
           record {
             wires = first_more nodes layout old m n k w.wires a.adds;
             size = set_length words u s ∙ w.size;
+            fresh = λ j l lj. set_other words u (node_of layout j) s (apart_after k j l lj) ∙ w.fresh j (omega (arith, l)) lj;
             given = λ z q. set_other words u z s (λ y. false≢true (sym q ∙ ap (λ i. is_wired (kind_at nodes i)) (sym y) ∙ sym a.some)) ∙ w.given z q;
             done = each_more (λ j. is_wired (kind_at nodes (node_of layout j)) ≡ true → IsWordOf n nodes (node_of layout j)
                 (signal_at after (node_of layout j))) k
                 (λ j l q. subst (λ z. IsWordOf n nodes (node_of layout j) z) (sym (others j l)) (word_kept x (w.done j l q)))
                 (λ q. subst (λ z. IsWordOf n nodes u z) (sym mine) a.shows.0);
-            built = each_more (λ j. IsWired n nodes (taps_at layout late after (node_of layout j)) (signal_at after (node_of layout j)).net
-                (node_of layout j) (kind_at nodes (node_of layout j))) k
-                (λ j l. subst (λ (z : Signal). IsWired n nodes (taps_at layout late after (node_of layout j)) z.net (node_of layout j)
-                (kind_at nodes (node_of layout j))) (sym (others j l))
-                (subst (λ taps. IsWired n nodes taps (signal_at words (node_of layout j)).net (node_of layout j) (kind_at nodes (node_of layout j)))
+            built = each_more (IsBuiltAt n after) k
+                (λ j l.
+                let v = node_of layout j in
+                subst (λ (z : Signal). IsWired n nodes timing (taps_at layout late after v) (signal_at before v).net z.net v (kind_at nodes v))
+                (sym (others j l))
+                (subst (λ taps. IsWired n nodes timing taps (signal_at before v).net (signal_at words v).net v (kind_at nodes v))
                 (sym (taps_kept words s k j lt (omega (arith, l))))
-                (wired_kept m n x.before nodes (taps_at layout late words (node_of layout j)) (signal_at words (node_of layout j)).net
-                (node_of layout j) (kind_at nodes (node_of layout j)) (w.built j l))))
-                (subst (λ (z : Signal). IsWired n nodes (taps_at layout late after u) z.net u (kind_at nodes u)) (sym mine)
-                (subst (λ taps. IsWired n nodes taps s.net u (kind_at nodes u)) (sym (taps_kept words s k k lt (omega arith))) a.shows.1));
+                (wired_kept m n x.before nodes timing (taps_at layout late words v) (signal_at before v).net (signal_at words v).net v (kind_at nodes v)
+                (w.built j l))))
+                (subst (λ (z : Signal). IsWired n nodes timing (taps_at layout late after u) (signal_at before u).net z.net u (kind_at nodes u)) (sym mine)
+                (subst (λ taps. IsWired n nodes timing taps (signal_at before u).net s.net u (kind_at nodes u)) (sym (taps_kept words s k k lt (omega arith)))
+                (subst (λ (z : Signal). IsWired n nodes timing (taps_at layout late words u) z.net s.net u (kind_at nodes u))
+                (w.fresh k (omega arith) lt) a.shows.1)));
           }
 
   -- one node more, whose word is given
   pub given_more : (m n : Module) (words : List Signal) (k v : ℕ) → k < length layout.order → v ≡ node_of layout k
-      → AreWired nodes layout late old m before words k
-      → AddsWord m n nodes layout late words v None → AreWired nodes layout late old n before words (k + 1)
+      → AreWired nodes layout late timing old m before words k
+      → AddsWord m n nodes layout late words timing v None → AreWired nodes layout late timing old n before words (k + 1)
   given_more m n words k v lt e w a =
       let u = node_of layout k in
       let none : is_wired (kind_at nodes u) ≡ false = ap (λ z. is_wired (kind_at nodes z)) (sym e) ∙ sym a.some in
@@ -361,20 +494,43 @@ module _ (nodes : List Node) (o : IsOrderly nodes) (t : AreTyped nodes) (layout 
         wires = first_more nodes layout old m n k w.wires (subst (λ z. AddsWires m n (node_wires nodes z)) e a.adds);
         size = w.size;
         given = w.given;
+        fresh = λ j l lj. w.fresh j (omega (arith, l)) lj;
         done = each_more (λ j. is_wired (kind_at nodes (node_of layout j)) ≡ true → IsWordOf n nodes (node_of layout j)
             (signal_at words (node_of layout j))) k
             (λ j l q. word_kept x (w.done j l q))
             (λ q. absurd (false≢true (sym none ∙ q)));
-        built = each_more (λ j. IsWired n nodes (taps_at layout late words (node_of layout j)) (signal_at words (node_of layout j)).net
-            (node_of layout j) (kind_at nodes (node_of layout j))) k
-            (λ j l. wired_kept m n x.before nodes (taps_at layout late words (node_of layout j)) (signal_at words (node_of layout j)).net
-            (node_of layout j) (kind_at nodes (node_of layout j)) (w.built j l))
-            (none_wired n nodes (taps_at layout late words u) (signal_at words u).net u (kind_at nodes u) none);
+        built = each_more (IsBuiltAt n words) k
+            (λ j l.
+            let v = node_of layout j in
+            wired_kept m n x.before nodes timing (taps_at layout late words v) (signal_at before v).net (signal_at words v).net v (kind_at nodes v)
+            (w.built j l))
+            (none_wired n nodes timing (taps_at layout late words u) (signal_at before u).net (signal_at words u).net u (kind_at nodes u) none);
       }
 
-  -- all of them
-  pub all_wired : (m : Module) (words : List Signal) (k : ℕ) → k ≡ length layout.order → AreWired nodes layout late old m before words k
-      → AddsNodes old m nodes layout late before words
+  -- ---- all of them
+
+  word_end : (m : Module) (words : List Signal) (k : ℕ) → k ≡ length layout.order → AreWired nodes layout late timing old m before words k
+      → (u : ℕ) → u < length nodes → has_word (kind_at nodes u) ≡ true → IsWordOf m nodes u (signal_at words u)
+  word_end m words k e w u h has = word_there m words k w u h has
+      (λ q. let p = place_of nodes o t layout laid u h in let r = p.rank in let l = p.within in omega (arith, r, l, e))
+
+  -- the control of a port is a bit
+  control_end : (m : Module) (words : List Signal) (k : ℕ) → k ≡ length layout.order → AreWired nodes layout late timing old m before words k
+      → (n : ℕ) → n < length nodes → MayEnable m (control_at nodes layout late words n)
+  control_end m words k e w n h =
+      let reads = reads_at layout n in
+      let signals = signals_at layout late words n in
+      control_bit m (kind_at nodes n) signals (λ i q l.
+      let size = length_map (read_signal layout.stages late words) reads in
+      let inside : i < length reads = omega (arith, size, l) in
+      let r = read_of nodes o t layout laid n i h inside in
+      let word = read_typed m words w.wires.extends n i h inside
+      (λ z. word_end m words k e w (read_at reads i).source r.inside r.word) in
+      subst (λ s. HasWidth m 1 s) (sym (get_map (read_signal layout.stages late words) reads i no_signal no_read inside))
+      (record { signal = word.signal; width = word.bits ∙ t.bits n i h q r.below }))
+
+  pub all_wired : (m : Module) (words : List Signal) (k : ℕ) → k ≡ length layout.order → AreWired nodes layout late timing old m before words k
+      → AddsNodes old m nodes layout late timing before words
   all_wired m words k e w = record {
     wires =
         let few : first_wires nodes layout (length layout.order) ≤ sum_below (node_wires nodes) (length nodes) =
@@ -387,11 +543,11 @@ module _ (nodes : List Node) (o : IsOrderly nodes) (t : AreTyped nodes) (layout 
         only_less old m (first_wires nodes layout k) (length nodes + 15 * operand_count nodes) (omega (arith, few, each, all, end)) w.wires;
     counted = w.size;
     given = w.given;
-    words = λ u h has. word_there m words k w u h has
-        (λ q. let p = place_of nodes o t layout laid u h in let r = p.rank in let l = p.within in omega (arith, r, l, e));
+    words = word_end m words k e w;
     built = λ u h.
         let p = place_of nodes o t layout laid u h in
         let l = p.within in
-        subst (λ v. IsWired m nodes (taps_at layout late words v) (signal_at words v).net v (kind_at nodes v)) p.node
+        subst (λ v. IsWired m nodes timing (taps_at layout late words v) (signal_at before v).net (signal_at words v).net v (kind_at nodes v)) p.node
         (w.built p.place (omega (arith, l, e)));
+    controls = control_end m words k e w;
   }

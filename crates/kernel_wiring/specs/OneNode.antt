@@ -4,11 +4,17 @@ use Rattle.std.specs.Prelude.{
   ℕ,
   ◌+◌,
   ◌*◌,
+  ◌/◌,
+  ◌%◌,
+  ◌^◌,
   ◌<◌,
   Bool,
   true,
   false,
+  ◌&&◌,
   ◌==◌,
+  nat_eq,
+  if◌then◌else◌,
   List,
   map,
   length,
@@ -20,48 +26,88 @@ use Rattle.std.specs.Prelude.{
   slice_get,
   sum_by,
 }
+use Rattle.counter_chains.specs.Chains.{bits_below}
 use Rattle.fix_arith.specs.Table.{applied}
 use Rattle.rtl_ir.specs.declared.design.Module.{Module}
-use Rattle.rtl_ir.specs.Value.{Family, Contents}
+use Rattle.rtl_ir.specs.Value.{Family, Contents, bit}
 use Rattle.rtl_ir.specs.Grow.{Holds}
 use Rattle.rtl_build.specs.declared.signal.Signal.{Signal}
 use Rattle.rtl_build.specs.Wires.{AddsWires}
 use Rattle.stream_graph.specs.declared.node.Kind.{Kind}
 use Rattle.stream_graph.specs.declared.node.Kind.TheVariants as K
 use Rattle.stream_graph.specs.declared.node.Node.{Node}
-use Rattle.offset_edges.specs.Edges.{kind_at, operands_at, operand_at}
-use Rattle.stream_equations.specs.Equations.{type_at}
+use Rattle.offset_edges.specs.Edges.{kind_at, width_at, operands_at, operand_at}
+use Rattle.stream_equations.specs.Equations.{type_at, digits_at}
+use Rattle.kernel_control.specs.Due.{is_in_ticks}
 use Rattle.kernel_layout.specs.declared.layout.Layout.{Layout}
-use Rattle.kernel_layout.specs.Reads.{read_at}
+use Rattle.kernel_wiring.specs.declared.timing.Timing.{Timing}
+use Rattle.kernel_wiring.specs.Timing.{time_at}
 use Rattle.kernel_wiring.specs.Words.{
   is_wired,
-  read_signal,
+  signal_at,
+  operand_signal,
   reads_at,
   taps_at,
   IsWordOf,
   IsReadIn,
 }
 
+-- the word of a part is that of its counter in the word of its chain
+pub record IsPartWord (m : Module) (nodes : List Node) (taps : List ℕ) (net n place : ℕ) : Type 0
+  where
+    pub chain : ℕ
+    pub first : slice_get taps 0 ≡ Some chain
+    pub shows :
+        (c : Contents) (f : Family)
+        → Holds m c f
+        → f net
+        ≡ f chain / 2 ^ bits_below (digits_at nodes (operand_at nodes n 0)) place
+        % 2 ^ width_at nodes n
+
+-- The word of a hold is its first operand's in the ticks of the run in which its second one is 1,
+-- and else the one that is kept.
+pub record IsHeldWord (m : Module) (timing : Timing) (taps : List ℕ) (kept net n : ℕ) : Type 0
+  where
+    pub from : ℕ
+    pub first : slice_get taps 0 ≡ Some from
+    pub store : ℕ
+    pub second : slice_get taps 1 ≡ Some store
+    pub on : ℕ
+    pub stores :
+        (c : Contents) (f : Family)
+        → Holds m c f
+        → f on
+        ≡ bit (is_in_ticks (f timing.position.net) (f timing.ticks.net) (time_at timing n)
+        && nat_eq (f store) 1)
+    pub shows :
+        (c : Contents) (f : Family)
+        → Holds m c f
+        → f net ≡ if nat_eq (f on) 1 then f from else f kept
+
 -- The net of a node of this kind has its word, if its taps have those of its operands: a constant's
--- bits, what an operation gives where it is defined, and for an output and a feed the first
--- operand's.
-abbrev pub IsWired : Module → List Node → List ℕ → ℕ → ℕ → Kind → Type 0
-IsWired m nodes taps net n K.Output = slice_get taps 0 ≡ Some net
-IsWired m nodes taps net n (K.Constant word) =
+-- bits, what an operation gives where it is defined, for an output and a feed the first operand's,
+-- for a part its counter's, and for a hold its first operand's or the one that is kept.
+abbrev pub IsWired : Module → List Node → Timing → List ℕ → ℕ → ℕ → ℕ → Kind → Type 0
+IsWired m nodes timing taps kept net n K.Output = slice_get taps 0 ≡ Some net
+IsWired m nodes timing taps kept net n (K.Constant word) =
     (c : Contents) (f : Family) → Holds m c f → f net ≡ word.bits
-IsWired m nodes taps net n (K.Operation op mode amount) =
+IsWired m nodes timing taps kept net n (K.Operation op mode amount) =
     (c : Contents) (f : Family)
     → Holds m c f
     → IfSome (applied op mode (map (type_at nodes) (operands_at nodes n)) (map f taps) amount
     (type_at nodes n)) (λ x. f net ≡ x)
-IsWired m nodes taps net n K.Feed = slice_get taps 0 ≡ Some net
-IsWired m nodes taps net n _ = Unit {0}
+IsWired m nodes timing taps kept net n K.Feed = slice_get taps 0 ≡ Some net
+IsWired m nodes timing taps kept net n (K.Part place) = IsPartWord m nodes taps net n place
+IsWired m nodes timing taps kept net n K.Hold = IsHeldWord m timing taps kept net n
+IsWired m nodes timing taps kept net n _ = Unit {0}
 
 -- the wires of a node of this kind take the word of the operand with this place
 abbrev pub takes : Kind → ℕ → Bool
 takes K.Output place = place == 0
 takes (K.Operation op mode amount) place = true
 takes K.Feed place = place == 0
+takes (K.Part part) place = true
+takes K.Hold place = true
 takes _ place = false
 
 -- All signals that a node reads are there, and those that its wires take stand in the module with
@@ -78,8 +124,7 @@ pub record IsReadable (m : Module) (nodes : List Node) (layout : Layout)
         (place : ℕ)
         → place < length (operands_at nodes n)
         → takes (kind_at nodes n) place ≡ true
-        → IsWordOf m nodes (operand_at nodes n place)
-        (read_signal layout.stages late words (read_at (reads_at layout n) place))
+        → IsWordOf m nodes (operand_at nodes n place) (operand_signal layout late words n place)
 
 -- how many operands all nodes have together
 abbrev pub operand_count : List Node → ℕ
@@ -88,11 +133,13 @@ operand_count nodes = sum_by (λ (node : Node). length node.operands) nodes
 -- The wires of a node were added, at most 15 an operand and one for a constant, if it is of a kind
 -- that gets them here, and the signal is that of its word.
 pub record AddsWord (old new : Module) (nodes : List Node) (layout : Layout)
-    (late : List (List Signal)) (words : List Signal) (n : ℕ) (word : Option Signal) : Type 0
+    (late : List (List Signal)) (words : List Signal) (timing : Timing) (n : ℕ)
+    (word : Option Signal) : Type 0
   where
     pub adds : AddsWires old new (1 + 15 * length (operands_at nodes n))
     pub some : is_some word ≡ is_wired (kind_at nodes n)
     pub shows :
         IfSome word (λ s.
         IsWordOf new nodes n s
-        × IsWired new nodes (taps_at layout late words n) s.net n (kind_at nodes n))
+        × IsWired new nodes timing (taps_at layout late words n) (signal_at words n).net s.net n
+        (kind_at nodes n))
