@@ -65,6 +65,11 @@ offset_free table nodes n e = ⊎_elim
     (λ (f : is_offset (kind_at nodes n) ≡ false). absurd (cc))
     (kind_cases (kind_at nodes n))
 
+-- a chain has no latency
+chain_free : (table : Table) (nodes : List Node) (n : ℕ) → kind_at nodes n ≡ K.Chain
+    → ticks_of table nodes n ≡ 0
+chain_free table nodes n e = ap (λ k. unwrap_or (latency_as table nodes n k) 0) e
+
 -- a kernel whose closed walks are covered is causal
 covered_causal : (ticks : ℕ → ℕ) (edges : List Edge) → AreCovered ticks edges → IsCausal edges
 covered_causal ticks edges c v j js w = let h = c v j js w in omega (arith, ints, clamps, h)
@@ -214,6 +219,7 @@ module _ (nodes : List Node) (schedule : Schedule) (scheduled : IsScheduled node
       begin = λ v h. begin v;
       most = λ v h. most v;
       offsets = λ v h e. ap (λ t. t v) same ∙ offset_free table nodes v e;
+      chains = λ v h e. ap (λ t. t v) same ∙ chain_free table nodes v e;
       legal = legal;
       laid = laid;
       near = λ k d h.

@@ -1,5 +1,39 @@
 -- What is left to do in a kernel's module: nothing.
-use Rattle.std.proofs.Common.{◌≡◌, ◌⊎◌, inl, inr, ℕ, zero, suc, ◌+◌, ◌*◌, ◌<◌, ◌≤◌, Bool, true, false, cond, eqb, eqb-true, List, [], ◌∷◌, ◌++◌, map, length, take, Some, refl, sym, ap, ◌∙◌, subst, arith, length-append}
+use Rattle.std.proofs.Common.{
+  ◌≡◌,
+  ◌⊎◌,
+  inl,
+  inr,
+  ℕ,
+  zero,
+  suc,
+  ◌+◌,
+  ◌*◌,
+  ◌<◌,
+  ◌≤◌,
+  Bool,
+  true,
+  false,
+  cond,
+  eqb,
+  eqb-true,
+  List,
+  [],
+  ◌∷◌,
+  ◌++◌,
+  map,
+  length,
+  take,
+  Option,
+  Some,
+  refl,
+  sym,
+  ap,
+  ◌∙◌,
+  subst,
+  arith,
+  length-append,
+}
 use Rattle.std.specs.Prelude.{All, slice_get, codes}
 use Rattle.std.proofs.lemmas.Bool.{false≢true}
 use Rattle.std.proofs.lemmas.List.Elements.{All-nil, All-cons}
@@ -14,6 +48,7 @@ use Rattle.rtl_ir.specs.Formed.{IsFormedModule, IsFormed}
 use Rattle.rtl_ir.specs.Rules.{IsAccepted, IsSound as KeepsRules, AllDiffer}
 use Rattle.rtl_ir.specs.Ports.{PortView, port_view, ports_of, host_input_ports, host_output_ports, output_port, net_at, port_net}
 use Rattle.rtl_build.specs.Wires.{is_output}
+use Rattle.rtl_build.specs.declared.signal.Signal.{Signal}
 use Rattle.rtl_delays.specs.declared.elements.Element.{Element}
 use Rattle.rtl_delays.specs.Steps.{writes_reg}
 use Rattle.rtl_delays.specs.Extends.{AddsNoRegister}
@@ -23,15 +58,27 @@ use Rattle.rtl_delays.specs.Stored.{net_bits, mem_bits, stored_bits}
 use Rattle.rtl_delays.proofs.Accepted.{keeps_rules, formed}
 use Rattle.rtl_delays.proofs.Added.{item_at, output_port as output_of}
 use Rattle.rtl_delays.proofs.Grown.{parted, one_item, reg_within, same_reg, below_or}
-use Rattle.rtl_delays.proofs.Kept.{written_kept}
 use Rattle.stream_graph.specs.declared.node.Node.{Node}
 use Rattle.kernel_control.specs.declared.handshakes.Handshake.{Handshake}
-use Rattle.kernel_control.specs.Ports.{scalar_ports, port_shape, module_ports, channels_of, scalars_of, inputs_of, outputs_of, first_input, first_output, ended_port, PortChannel}
+use Rattle.kernel_control.specs.Ports.{
+  scalar_ports,
+  port_shape,
+  module_ports,
+  channels_of,
+  scalars_of,
+  inputs_of,
+  outputs_of,
+  first_input,
+  first_output,
+  ended_port,
+  PortChannel,
+}
 use Rattle.kernel_control.specs.Nets.{told_ports}
 use Rattle.kernel_control.specs.Outputs.{AreDriven}
 use Rattle.kernel_ports.specs.declared.signals.StreamSignals.{StreamSignals}
 use Rattle.kernel_stages.specs.Chains.{is_register_of}
 use Rattle.kernel_stages.specs.Closing.{AreWritten}
+use Rattle.kernel_states.specs.States.{is_state_of}
 use Rattle.kernel_rtl.specs.Storage.{AddsRegistersFor}
 use Rattle.kernel_rtl.specs.Words.{data_nets}
 use Rattle.kernel_rtl.specs.Handshakes.{input_handshake, output_handshake}
@@ -95,18 +142,19 @@ no_port_register m alone k reg =
     false≢true (sym (alone.partial.port_wires k (omega (arith, lt, e))) ∙ reg)
 
 -- every register is written
-pub all_written : (a b c d e : Module) (position : ℕ) (es : List Element) → HasPortsAlone a → AddsRegistersFor a b position es → AddsNoRegister b c
-    → AddsNoRegister c d → AddsNoRegister d e → Grows d e → writes_reg position d.updates ≡ true → AreWritten e es
-    → (k : ℕ) → is_reg e k ≡ true → writes_reg k e.updates ≡ true
-all_written a b c d e position es alone only bc cd de g w ws k reg = by_test (eqb position k) refl (is_register_of es k) refl
+pub all_written : (a b f : Module) (position : ℕ) (states : List (Option Signal)) (es : List Element) → HasPortsAlone a
+    → AddsRegistersFor a b position states es → AddsNoRegister b f → writes_reg position f.updates ≡ true
+    → ((n : ℕ) → is_state_of states n ≡ true → writes_reg n f.updates ≡ true) → AreWritten f es
+    → (k : ℕ) → is_reg f k ≡ true → writes_reg k f.updates ≡ true
+all_written a b f position states es alone only bf w wt ws k reg =
+    by_test (eqb position k) refl (is_state_of states k) refl (is_register_of es k) refl
   where
-    at_b : is_reg b k ≡ true
-    at_b = bc k (cd k (de k reg))
-
-    by_test : (x : Bool) → eqb position k ≡ x → (y : Bool) → is_register_of es k ≡ y → writes_reg k e.updates ≡ true
-    by_test true p y q = ap (λ n. writes_reg n e.updates) (sym (eqb-true position k p)) ∙ written_kept d e position g w
-    by_test false p true q = ws k q
-    by_test false p false q = absurd (no_port_register a alone k (only k at_b p q))
+    by_test : (x : Bool) → eqb position k ≡ x → (y : Bool) → is_state_of states k ≡ y → (z : Bool) → is_register_of es k ≡ z
+        → writes_reg k f.updates ≡ true
+    by_test true p y q z r = ap (λ n. writes_reg n f.updates) (sym (eqb-true position k p)) ∙ w
+    by_test false p true q z r = wt k q
+    by_test false p false q true r = ws k r
+    by_test false p false q false r = absurd (no_port_register a alone k (only k (bf k reg) p q r))
 
 -- ---- outputs
 
@@ -251,18 +299,18 @@ all_driven m n nodes partial ports g ready word valid ended k out =
     whole = ((λ o. absurd (false≢true o)), ((λ o. absurd (false≢true o)), ((λ o. absurd (false≢true o)), ((λ o. absurd (false≢true o)), from_four))))
 
 -- what the control drives, by the ports
-pub told_inputs : (m : Module) (times : ℕ → ℕ) (xs : List StreamSignals) (rest : List Handshake)
-    → AreDriven m (told_ports (map (input_handshake times) xs ++ rest))
-    → All (λ (x : StreamSignals). is_driven x.ready.net m.assigns ≡ true) xs × AreDriven m (told_ports rest)
-told_inputs m times [] rest h = (All-nil (λ (x : StreamSignals). is_driven x.ready.net m.assigns ≡ true), h)
-told_inputs m times (x ∷ xs) rest h =
-    let r = told_inputs m times xs rest h.1 in
-    (All-cons (λ (y : StreamSignals). is_driven y.ready.net m.assigns ≡ true) x xs h.0 r.0, r.1)
+module _ (m : Module) (times : ℕ → ℕ) (enables : ℕ → Option Signal) where
+  pub told_inputs : (xs : List StreamSignals) (rest : List Handshake) → AreDriven m (told_ports (map (input_handshake times enables) xs ++ rest))
+      → All (λ (x : StreamSignals). is_driven x.ready.net m.assigns ≡ true) xs × AreDriven m (told_ports rest)
+  told_inputs [] rest h = (All-nil (λ (x : StreamSignals). is_driven x.ready.net m.assigns ≡ true), h)
+  told_inputs (x ∷ xs) rest h =
+      let r = told_inputs xs rest h.1 in
+      (All-cons (λ (y : StreamSignals). is_driven y.ready.net m.assigns ≡ true) x xs h.0 r.0, r.1)
 
-pub told_outputs : (m : Module) (times : ℕ → ℕ) (ys : List StreamSignals) → AreDriven m (told_ports (map (output_handshake times) ys))
-    → All (λ (y : StreamSignals). is_driven y.valid.net m.assigns ≡ true) ys
-told_outputs m times [] h = All-nil (λ (x : StreamSignals). is_driven x.valid.net m.assigns ≡ true)
-told_outputs m times (y ∷ ys) h = All-cons (λ (x : StreamSignals). is_driven x.valid.net m.assigns ≡ true) y ys h.0 (told_outputs m times ys h.1)
+  pub told_outputs : (ys : List StreamSignals) → AreDriven m (told_ports (map (output_handshake times enables) ys))
+      → All (λ (y : StreamSignals). is_driven y.valid.net m.assigns ≡ true) ys
+  told_outputs [] h = All-nil (λ (x : StreamSignals). is_driven x.valid.net m.assigns ≡ true)
+  told_outputs (y ∷ ys) h = All-cons (λ (x : StreamSignals). is_driven x.valid.net m.assigns ≡ true) y ys h.0 (told_outputs ys h.1)
 
 pub data_driven : (m : Module) (ys : List StreamSignals) → AreDriven m (data_nets ys) → All (λ (y : StreamSignals). is_driven y.word.net m.assigns ≡ true) ys
 data_driven m [] h = All-nil (λ (x : StreamSignals). is_driven x.word.net m.assigns ≡ true)

@@ -1,12 +1,40 @@
 -- What each step of a kernel's module asks for, from what the steps before it left.
-use Rattle.std.proofs.Common.{◌≡◌, ◌⊎◌, inl, inr, ℕ, ◌+◌, ◌<◌, ◌≤◌, ◌^◌, true, false, List, [], ◌∷◌, map, length, get_or, None, refl, sym, ap, ◌∙◌, subst, arith, ⊎_elim}
-use Rattle.std.specs.Prelude.{ℤ, pos, ◌≤ℤ◌, All, Contains}
+use Rattle.std.proofs.Common.{
+  ◌≡◌,
+  ◌⊎◌,
+  inl,
+  inr,
+  ℕ,
+  ◌+◌,
+  ◌<◌,
+  ◌≤◌,
+  ◌^◌,
+  true,
+  false,
+  eqb,
+  List,
+  [],
+  ◌∷◌,
+  map,
+  length,
+  get_or,
+  Option,
+  None,
+  refl,
+  sym,
+  ap,
+  ◌∙◌,
+  subst,
+  arith,
+  ⊎_elim,
+}
+use Rattle.std.specs.Prelude.{ℤ, pos, All, Contains, slice_index}
 use Rattle.std.proofs.lemmas.Bool.{cases_Bool, false≢true}
 use Rattle.std.proofs.lemmas.List.Elements.{All-append}
+use Rattle.std.proofs.lemmas.List.{get_or_default}
 use Rattle.cycle_find.specs.Constraints.{Numbers, numbers_of}
 use Rattle.rtl_ir.specs.declared.design.Module.{Module}
 use Rattle.rtl_build.specs.declared.signal.Signal.{Signal}
-use Rattle.rtl_delays.specs.declared.elements.Element.{Element}
 use Rattle.rtl_delays.specs.Extends.{Extends}
 use Rattle.rtl_delays.specs.Driven.{is_driven, KeepsUndriven}
 use Rattle.rtl_delays.specs.Steps.{writes_reg}
@@ -17,30 +45,39 @@ use Rattle.stream_graph.specs.declared.node.Kind.{Kind}
 use Rattle.stream_graph.specs.declared.node.Kind.TheVariants as K
 use Rattle.stream_graph.specs.declared.node.Node.{Node}
 use Rattle.offset_edges.specs.Edges.{kind_at, width_at, is_offset, edges_of, IsEdge}
+use Rattle.kernel_control.specs.declared.handshakes.Handshake.{Handshake}
 use Rattle.kernel_control.specs.Ports.{channels_of, inputs_of, outputs_of, ended_port, first_input, first_output}
-use Rattle.kernel_control.specs.Nets.{HasWidth, HasBitOutput, IsHandshake, AreControlNets, told_ports, told_nets, nodes_of}
+use Rattle.kernel_control.specs.Nets.{HasWidth, HasBitOutput, MayEnable, IsHandshake, AreControlNets, told_ports, told_nets, nodes_of}
 use Rattle.kernel_control.specs.Outputs.{AreUndriven, is_one_of}
 use Rattle.kernel_control.proofs.Built.{nodes_channels}
 use Rattle.kernel_layout.specs.declared.layout.Layout.{Layout}
 use Rattle.kernel_layout.specs.Stages.{IsReadBehind}
+use Rattle.kernel_ports.specs.declared.signals.NodeSignal.{NodeSignal}
 use Rattle.kernel_ports.specs.declared.signals.StreamSignals.{StreamSignals}
 use Rattle.kernel_ports.specs.declared.signals.KernelSignals.{KernelSignals}
-use Rattle.kernel_ports.specs.HasKernelPorts.{channel_of, IsInputPort, IsOutputPort, HasKernelPorts}
+use Rattle.kernel_ports.specs.HasKernelPorts.{channel_of, IsScalarPort, IsInputPort, IsOutputPort, HasKernelPorts}
 use Rattle.kernel_stages.specs.Numbers.{stages_at}
 use Rattle.kernel_stages.specs.Chains.{joined, word_at, AreChains, AreWide, AreFreeIn}
-use Rattle.kernel_stages.specs.Closing.{MayFollowWords}
+use Rattle.kernel_stages.specs.Closing.{MayFollowWords, LeavesOthers}
 use Rattle.kernel_stages.proofs.Chaining.{chains_length}
-use Rattle.kernel_wiring.specs.Words.{has_word}
+use Rattle.kernel_states.specs.States.{AreFree as AreFreeStates}
+use Rattle.kernel_states.specs.declared.registers.AdvanceNets.{AdvanceNets}
+use Rattle.kernel_states.specs.Closing.{AreAdvanceNets, HaveWords, ClosesStates}
+use Rattle.kernel_wiring.specs.declared.timing.Timing.{Timing}
+use Rattle.kernel_wiring.specs.Timing.{IsTiming, time_at}
+use Rattle.kernel_wiring.specs.Words.{has_word, signal_at}
+use Rattle.kernel_wiring.specs.Controls.{AreThere, AreControls}
 use Rattle.kernel_rtl.specs.declared.storage.Storage.{Storage}
-use Rattle.kernel_rtl.specs.Planned.{is_plain_kind, IsPlain, IsPlanned, times_of, widths_of}
+use Rattle.kernel_rtl.specs.Planned.{IsPlanned, times_of, widths_of}
 use Rattle.kernel_rtl.specs.Storage.{AddsStorage}
-use Rattle.kernel_rtl.specs.Words.{data_nets, HasStreams, AddsWords}
-use Rattle.kernel_rtl.specs.Handshakes.{IsTimed, input_handshake, output_handshake, handshakes_of, control_nets, AddsControl}
+use Rattle.kernel_rtl.specs.Words.{late_signals, data_nets, HasStreams, AddsWords}
+use Rattle.kernel_rtl.specs.Handshakes.{IsTimed, enable_at, input_handshake, output_handshake, handshakes_of, control_nets, AddsControl}
 use Rattle.kernel_rtl.proofs.Numbers.{all_mapped, all_unmapped, all_weaker, all_both, IsNodeOf, inputs_are, outputs_are}
-use Rattle.kernel_rtl.proofs.Running.{small_time}
 use Rattle.kernel_rtl.proofs.Taps.{stage_length}
+use Rattle.kernel_rtl.proofs.Running.{small_time}
 use Rattle.kernel_rtl.proofs.Wording.{wide_at, width_is}
-use Rattle.kernel_rtl.proofs.Places.{AreNumbered, rise_under, undriven_from, ended_is, data_rise, told_rise, ended_other, told_other, ended_untold}
+use Rattle.kernel_rtl.proofs.Starting.{states_end, states_left, early_register}
+use Rattle.kernel_rtl.proofs.Places.{AreNumbered, unequal, rise_under, undriven_from, ended_is, data_rise, told_rise, ended_other, told_other, ended_untold}
 
 -- ---- ports in larger modules
 
@@ -64,6 +101,9 @@ output_port_on m n nodes s e h = record {
   ready = width_on m n 1 s.ready e h.ready;
 }
 
+scalar_port_on : (m n : Module) (nodes : List Node) (s : NodeSignal) → Extends m n → IsScalarPort nodes m s → IsScalarPort nodes n s
+scalar_port_on m n nodes s e h = record { signal = width_on m n (width_at nodes s.node) s.signal e h.signal }
+
 pub nodes_by : (xs : List StreamSignals) → nodes_of (map channel_of xs) ≡ map (λ (s : StreamSignals). s.node) xs
 nodes_by [] = refl
 nodes_by (x ∷ xs) = ap (λ l. x.node ∷ l) (nodes_by xs)
@@ -86,8 +126,22 @@ pub output_nodes : (kernel : Kernel) (m : Module) (ports : KernelSignals) → Ha
 output_nodes kernel m ports h =
     sym (nodes_by ports.outputs) ∙ ap nodes_of (outputs_at kernel m ports h) ∙ nodes_channels m (first_output kernel.nodes) (outputs_of kernel.nodes)
 
+pub input_kinds : (kernel : Kernel) (m : Module) (ports : KernelSignals) → HasKernelPorts kernel m ports
+    → All (λ (x : StreamSignals). IsNodeOf kernel.nodes K.Input x.node) ports.inputs
+input_kinds kernel m ports h =
+    all_unmapped (λ (x : StreamSignals). x.node) (IsNodeOf kernel.nodes K.Input) ports.inputs
+    (subst (All (IsNodeOf kernel.nodes K.Input)) (sym (input_nodes kernel m ports h)) (inputs_are kernel.nodes))
+
+pub output_kinds : (kernel : Kernel) (m : Module) (ports : KernelSignals) → HasKernelPorts kernel m ports
+    → All (λ (x : StreamSignals). IsNodeOf kernel.nodes K.Output x.node) ports.outputs
+output_kinds kernel m ports h =
+    all_unmapped (λ (x : StreamSignals). x.node) (IsNodeOf kernel.nodes K.Output) ports.outputs
+    (subst (All (IsNodeOf kernel.nodes K.Output)) (sym (output_nodes kernel m ports h)) (outputs_are kernel.nodes))
+
 pub streams_on : (kernel : Kernel) (m n : Module) (ports : KernelSignals) → HasKernelPorts kernel m ports → Extends m n → HasStreams n kernel.nodes ports
 streams_on kernel m n ports h e = record {
+  scalars = all_weaker (IsScalarPort kernel.nodes m) (IsScalarPort kernel.nodes n) ports.scalars h.scalars (λ s q. scalar_port_on m n kernel.nodes s e q);
+  scalar_nodes = h.scalar_nodes;
   inputs = all_weaker (IsInputPort kernel.nodes m) (IsInputPort kernel.nodes n) ports.inputs h.inputs (λ s q. input_port_on m n kernel.nodes s e q);
   outputs = all_weaker (IsOutputPort kernel.nodes m) (IsOutputPort kernel.nodes n) ports.outputs h.outputs (λ s q. output_port_on m n kernel.nodes s e q);
   input_nodes = input_nodes kernel m ports h;
@@ -103,12 +157,6 @@ numbered kernel m ports h = record {
   outputs = outputs_at kernel m ports h;
   last = ap (λ q. q.ended) (h.nets 0);
 }
-
--- whatever the list of delays is called
-pub words_named : (b c : Module) (nodes : List Node) (layout : Layout) (ports : KernelSignals) (given delays : List (List Element)) (words : List Signal)
-    → given ≡ delays
-    → AddsWords b c nodes layout ports given words → AddsWords b c nodes layout ports delays words
-words_named b c nodes layout ports given delays words e w = subst (λ es. AddsWords b c nodes layout ports es words) e w
 
 -- ---- outputs without a value
 
@@ -142,27 +190,40 @@ module _ (kernel : Kernel) (a b : Module) (ports : KernelSignals) (p : HasKernel
       undriven_from b (first_output kernel.nodes) (ended_port kernel.nodes) (data_nets ports.outputs) rise
       (free_later a b s.undriven p.alone.assigns (data_nets ports.outputs) under)
 
-  module _ (layout : Layout) (c : Module) (words : List Signal) (w : AddsWords b c kernel.nodes layout ports storage.delays words) where
+  -- by what the module knows in which tick a node is
+  pub is_timing : (timing : Timing) → timing.position ≡ storage.position → timing.ticks ≡ ports.ticks → length timing.times ≡ length kernel.nodes
+      → ((v : ℕ) → v < length kernel.nodes → time_at timing v ≤ 2 ^ 46) → IsTiming b kernel.nodes timing
+  is_timing timing position ticks counted small = record {
+    position = subst (HasWidth b 48) (sym position) (record { signal = s.wide.signal; width = s.wide.width });
+    ticks = subst (HasWidth b 48) (sym ticks) (width_on a b 48 ports.ticks s.extends p.ticks);
+    counted = counted;
+    small = λ k d lt.
+        subst (λ x. x ≤ 2 ^ 46) (get_or_default timing.times k 0 d lt) (small k (omega (arith, lt, counted)));
+  }
+
+  module _ (layout : Layout) (timing : Timing) (c : Module) (words : List Signal) (w : AddsWords b c kernel.nodes layout ports storage timing words) where
     free_at : (k : ℕ) → k < length a.nets → is_one_of (data_nets ports.outputs) k ≡ false → is_driven k c.assigns ≡ false
     free_at k lt other =
         let more = more_nets s.extends.grows in
         w.leaves k (omega (arith, lt, more)) (s.undriven k lt (none_driven a k p.alone.assigns)) other
 
-    pub told_undriven : (times : ℕ → ℕ) → AreUndriven c (told_nets (control_nets ports storage.position) (handshakes_of times ports))
-    told_undriven times =
+    pub told_undriven : (times : ℕ → ℕ) (enables : ℕ → Option Signal)
+        → AreUndriven c (told_nets (control_nets ports storage.position) (handshakes_of times enables ports))
+    told_undriven times enables =
         let xs = ports.inputs in
         let ys = ports.outputs in
         let last = ports.ended.net in
-        let ns = told_ports (handshakes_of times ports) in
-        let rise = told_rise a kernel.nodes xs ys last n times in
+        let ns = told_ports (handshakes_of times enables ports) in
+        let rise = told_rise a kernel.nodes xs ys last n times enables in
         let top = last_port in
         let P : ℕ → Type 0 = λ k. k < ended_port kernel.nodes in
         let Q : ℕ → Type 0 = λ k. is_one_of (data_nets ys) k ≡ false in
-        let both = all_both P Q ns (rise_under (first_input kernel.nodes) (ended_port kernel.nodes) ns rise) (told_other a kernel.nodes xs ys last n times) in
+        let both = all_both P Q ns (rise_under (first_input kernel.nodes) (ended_port kernel.nodes) ns rise)
+        (told_other a kernel.nodes xs ys last n times enables) in
         let free : All (λ k. is_driven k c.assigns ≡ false) ns =
         all_weaker (λ k. P k × Q k) (λ k. is_driven k c.assigns ≡ false) ns both (λ k h. let lt = h.0 in free_at k (omega (arith, lt, top)) h.1) in (
           free_at last p.ended.output.net (ended_other a kernel.nodes xs ys last n),
-          ended_untold a kernel.nodes xs ys last n times,
+          ended_untold a kernel.nodes xs ys last n times enables,
           undriven_from c (first_input kernel.nodes) (ended_port kernel.nodes) ns rise free,
         )
 
@@ -188,83 +249,102 @@ module _ (kernel : Kernel) (a b : Module) (ports : KernelSignals) (p : HasKernel
       ended = output_on a c ports.ended to_c p.ended;
     }
 
-    pub handshakes_stand : (times : List ℤ) → ((v : ℕ) → v < length kernel.nodes → pos 0 ≤ℤ numbers_of times v)
-        → ((v : ℕ) → v < length kernel.nodes → numbers_of times v ≤ℤ pos (2 ^ 46)) → All (IsHandshake c) (handshakes_of (times_of times) ports)
-    handshakes_stand times begin most =
-        let H : StreamSignals → Type 0 = λ x. IsHandshake c (input_handshake (times_of times) x) in
-        let G : StreamSignals → Type 0 = λ y. IsHandshake c (output_handshake (times_of times) y) in
-        let in_kinds = all_unmapped (λ (x : StreamSignals). x.node) (IsNodeOf kernel.nodes K.Input) ports.inputs
-        (subst (All (IsNodeOf kernel.nodes K.Input)) (sym (input_nodes kernel a ports p)) (inputs_are kernel.nodes)) in
-        let out_kinds = all_unmapped (λ (x : StreamSignals). x.node) (IsNodeOf kernel.nodes K.Output) ports.outputs
-        (subst (All (IsNodeOf kernel.nodes K.Output)) (sym (output_nodes kernel a ports p)) (outputs_are kernel.nodes)) in
-        let ins = all_both (IsInputPort kernel.nodes a) (λ (x : StreamSignals). IsNodeOf kernel.nodes K.Input x.node) ports.inputs p.inputs in_kinds in
-        let outs = all_both (IsOutputPort kernel.nodes a) (λ (x : StreamSignals). IsNodeOf kernel.nodes K.Output x.node) ports.outputs p.outputs out_kinds in
-        All-append (IsHandshake c) (map (input_handshake (times_of times)) ports.inputs) (map (output_handshake (times_of times)) ports.outputs)
-        (all_mapped (input_handshake (times_of times)) (IsHandshake c) ports.inputs
-        (all_weaker (λ (x : StreamSignals). IsInputPort kernel.nodes a x × IsNodeOf kernel.nodes K.Input x.node) H ports.inputs ins
-        (λ x h. record {
-          small = small_time (numbers_of times x.node) (begin x.node h.1.within) (most x.node h.1.within);
-          waits_for = width_on a c 1 x.valid to_c h.0.valid;
-          answer = output_on a c x.ready to_c h.0.ready;
-        })))
-        (all_mapped (output_handshake (times_of times)) (IsHandshake c) ports.outputs
-        (all_weaker (λ (x : StreamSignals). IsOutputPort kernel.nodes a x × IsNodeOf kernel.nodes K.Output x.node) G ports.outputs outs
-        (λ x h. record {
-          small = small_time (numbers_of times x.node) (begin x.node h.1.within) (most x.node h.1.within);
-          waits_for = width_on a c 1 x.ready to_c h.0.ready;
-          answer = output_on a c x.valid to_c h.0.valid;
-        })))
+    module _ (enables : List (Option Signal)) (controls : AreControls kernel.nodes layout (late_signals storage.delays) words enables)
+        (small : (v : ℕ) → v < length kernel.nodes → time_at timing v ≤ 2 ^ 46) where
+      may_enable : (v : ℕ) → v < length kernel.nodes → MayEnable c (enable_at enables v)
+      may_enable v lt = subst (MayEnable c) (sym (controls.each v lt)) (w.controls v lt)
 
-    -- ---- delays
+      pub handshakes_stand : All (IsHandshake c) (handshakes_of (time_at timing) (enable_at enables) ports)
+      handshakes_stand =
+          let input = input_handshake (time_at timing) (enable_at enables) in
+          let output = output_handshake (time_at timing) (enable_at enables) in
+          let ins = all_both (IsInputPort kernel.nodes a) (λ (x : StreamSignals). IsNodeOf kernel.nodes K.Input x.node) ports.inputs p.inputs
+          (input_kinds kernel a ports p) in
+          let outs = all_both (IsOutputPort kernel.nodes a) (λ (x : StreamSignals). IsNodeOf kernel.nodes K.Output x.node) ports.outputs p.outputs
+          (output_kinds kernel a ports p) in
+          All-append (IsHandshake c) (map input ports.inputs) (map output ports.outputs)
+          (all_mapped input (IsHandshake c) ports.inputs
+          (all_weaker (λ (x : StreamSignals). IsInputPort kernel.nodes a x × IsNodeOf kernel.nodes K.Input x.node)
+          (λ (x : StreamSignals). IsHandshake c (input x)) ports.inputs ins
+          (λ x h. record {
+            small = small x.node h.1.within;
+            enable = may_enable x.node h.1.within;
+            waits_for = width_on a c 1 x.valid to_c h.0.valid;
+            answer = output_on a c x.ready to_c h.0.ready;
+          })))
+          (all_mapped output (IsHandshake c) ports.outputs
+          (all_weaker (λ (x : StreamSignals). IsOutputPort kernel.nodes a x × IsNodeOf kernel.nodes K.Output x.node)
+          (λ (x : StreamSignals). IsHandshake c (output x)) ports.outputs outs
+          (λ x h. record {
+            small = small x.node h.1.within;
+            enable = may_enable x.node h.1.within;
+            waits_for = width_on a c 1 x.ready to_c h.0.ready;
+            answer = output_on a c x.valid to_c h.0.valid;
+          })))
 
-    pub delays_free : (d : Module) (times : ℕ → ℕ) (run : Signal) → AddsControl c d (control_nets ports storage.position) (handshakes_of times ports) run
-        → AreFreeIn d (joined storage.delays)
-    delays_free d times run t =
-        let at = storage.position.net in
-        let kept = frees_kept b c w.extends w.updates (at + 1) s.memory (joined storage.delays) (length b.nets) (length b.mems) s.free in
-        record {
-          reg = at + 1;
-          mem = s.memory;
-          nets = length b.nets;
-          mems = length b.mems;
-          free = frees_left c d at None t.extends t.others (at + 1) s.memory (omega arith) (λ j le. refl) (joined storage.delays) (length b.nets)
-              (length b.mems) kept;
-        }
+      is_timed : length timing.times ≡ length kernel.nodes → (k : Kind) (xs : List StreamSignals)
+          → All (λ (x : StreamSignals). IsNodeOf kernel.nodes k x.node) xs → All (IsTimed timing.times enables) xs
+      is_timed counted k xs kinds =
+          let size = controls.counted in
+          all_weaker (λ (x : StreamSignals). IsNodeOf kernel.nodes k x.node) (IsTimed timing.times enables) xs kinds
+          (λ x h. let lt = h.within in record { timed = omega (arith, lt, counted); controlled = omega (arith, lt, size) })
 
--- ---- times
+      pub inputs_timed : length timing.times ≡ length kernel.nodes → All (IsTimed timing.times enables) ports.inputs
+      inputs_timed counted = is_timed counted K.Input ports.inputs (input_kinds kernel a ports p)
 
-pub inputs_timed : (kernel : Kernel) (m : Module) (ports : KernelSignals) (times : List ℤ) → HasKernelPorts kernel m ports
-    → length kernel.nodes ≤ length times
-    → ((v : ℕ) → v < length kernel.nodes → pos 0 ≤ℤ numbers_of times v) → All (IsTimed times) ports.inputs
-inputs_timed kernel m ports times p le begin =
-    all_weaker (λ (x : StreamSignals). IsNodeOf kernel.nodes K.Input x.node) (IsTimed times) ports.inputs
-    (all_unmapped (λ (x : StreamSignals). x.node) (IsNodeOf kernel.nodes K.Input) ports.inputs
-    (subst (All (IsNodeOf kernel.nodes K.Input)) (sym (input_nodes kernel m ports p)) (inputs_are kernel.nodes)))
-    (λ x h. record { within = let lt = h.within in omega (arith, lt, le); begin = begin x.node h.within })
+      pub outputs_timed : length timing.times ≡ length kernel.nodes → All (IsTimed timing.times enables) ports.outputs
+      outputs_timed counted = is_timed counted K.Output ports.outputs (output_kinds kernel a ports p)
 
-pub outputs_timed : (kernel : Kernel) (m : Module) (ports : KernelSignals) (times : List ℤ) → HasKernelPorts kernel m ports
-    → length kernel.nodes ≤ length times
-    → ((v : ℕ) → v < length kernel.nodes → pos 0 ≤ℤ numbers_of times v) → All (IsTimed times) ports.outputs
-outputs_timed kernel m ports times p le begin =
-    all_weaker (λ (x : StreamSignals). IsNodeOf kernel.nodes K.Output x.node) (IsTimed times) ports.outputs
-    (all_unmapped (λ (x : StreamSignals). x.node) (IsNodeOf kernel.nodes K.Output) ports.outputs
-    (subst (All (IsNodeOf kernel.nodes K.Output)) (sym (output_nodes kernel m ports p)) (outputs_are kernel.nodes)))
-    (λ x h. record { within = let lt = h.within in omega (arith, lt, le); begin = begin x.node h.within })
+    -- ---- registers that nothing writes yet
 
--- ---- words that delays follow
+    module _ (d : Module) (hs : List Handshake) (run : Signal) (t : AddsControl c d (control_nets ports storage.position) hs run) where
+      pub delays_free : AreFreeIn d (joined storage.delays)
+      delays_free =
+          let at = storage.position.net in
+          let after = states_end b (at + 1) storage.states s.between s.states_free in
+          let kept = frees_kept b c w.extends w.updates s.between s.memory (joined storage.delays) (length b.nets) (length b.mems) s.free in
+          record {
+            reg = s.between;
+            mem = s.memory;
+            nets = length b.nets;
+            mems = length b.mems;
+            free = frees_left c d at None t.extends t.others s.between s.memory (omega (arith, after)) (λ j le. refl) (joined storage.delays)
+                (length b.nets) (length b.mems) kept;
+          }
 
-plain_word : (k : Kind) → is_plain_kind k ≡ true → is_offset k ≡ false → has_word k ≡ true
-plain_word K.Input p h = refl
-plain_word K.Output p h = refl
-plain_word (K.Constant word) p h = refl
-plain_word (K.Operation op mode amount) p h = refl
-plain_word K.Feed p h = refl
-plain_word (K.Offset ticks) p h = absurd (false≢true (sym h))
-plain_word K.Scalar p h = absurd (false≢true p)
-plain_word K.Hold p h = absurd (false≢true p)
-plain_word K.Counter p h = absurd (false≢true p)
-plain_word K.Chain p h = absurd (false≢true p)
-plain_word (K.Part place) p h = absurd (false≢true p)
+      pub states_free : (e : Module) → LeavesOthers d e (joined storage.delays) → AreFreeStates e (storage.position.net + 1) storage.states s.between
+      states_free e others =
+          let at = storage.position.net in
+          states_left b e (at + 1) s.between
+          (λ r lo hi none.
+          let early = early_register b s.between s.memory (joined storage.delays) (length b.nets) (length b.mems) s.free r hi in
+          let other : eqb at r ≡ false = unequal at r (λ same. omega (arith, lo, same)) in
+          others.regs r (t.others.regs r (ap (writes_reg r) w.updates ∙ none) other) early)
+          (at + 1) storage.states (omega arith) s.states_free
+
+      pub advance_nets : (e : Module) → Extends d e → AreAdvanceNets e (record { run = run; reset = ports.reset; position = storage.position })
+      advance_nets e x =
+          let from_b = extends_on w.extends (extends_on t.extends x) in
+          record {
+            run = width_on d e 1 run x t.one;
+            reset = width_on a e 1 ports.reset (extends_on s.extends from_b) p.reset;
+            position = record { signal = from_b.keeps storage.position s.wide.signal; width = s.wide.width };
+          }
+
+-- ---- words that delays and states follow
+
+word_there : (k : Kind) → is_offset k ≡ false → has_word k ≡ true
+word_there (K.Offset ticks) h = absurd (false≢true (sym h))
+word_there K.Input h = refl
+word_there K.Output h = refl
+word_there K.Scalar h = refl
+word_there (K.Constant word) h = refl
+word_there (K.Operation op mode amount) h = refl
+word_there K.Feed h = refl
+word_there K.Hold h = refl
+word_there K.Counter h = refl
+word_there K.Chain h = refl
+word_there (K.Part place) h = refl
 
 first_item : (xs : List ℕ) (j : ℕ) → j < length xs → Contains xs (get_or xs 0 0)
 first_item [] j lt = absurd (omega arith)
@@ -284,21 +364,62 @@ kept_node nodes ticks times u behind edges none some (inr read) =
     ap (λ v. is_offset (kind_at nodes v)) (sym read.2) ∙ edge.source
 
 -- the words may be followed by the delays
-pub words_follow : (nodes : List Node) (times : Numbers) (layout : Layout) (ports : KernelSignals) (delays : List (List Element)) (words : List Signal)
-    (b c d : Module) → IsPlain nodes
-    → IsPlanned nodes times layout → All (IsEdge nodes) (edges_of nodes) → AreChains layout.stages delays → AreWide (widths_of nodes) delays
-    → AddsWords b c nodes layout ports delays words → Extends c d → MayFollowWords d words delays
-words_follow nodes times layout ports delays words b c d plain planned edges late wide w e u lu j dd lj =
-    let long = chains_length layout.stages delays late in
+pub words_follow : (nodes : List Node) (times : Numbers) (layout : Layout) (ports : KernelSignals) (storage : Storage) (timing : Timing)
+    (words : List Signal) (b c d : Module) → IsPlanned nodes times layout → All (IsEdge nodes) (edges_of nodes)
+    → AreChains layout.stages storage.delays → AreWide (widths_of nodes) storage.delays
+    → AddsWords b c nodes layout ports storage timing words → Extends c d → MayFollowWords d words storage.delays
+words_follow nodes times layout ports storage timing words b c d planned edges late wide w e u lu j dd lj =
+    let long = chains_length layout.stages storage.delays late in
     let counted = planned.laid.stages.counted in
     let lt : u < length nodes = omega (arith, lu, long, counted) in
-    let len = stage_length layout.stages delays u late lu in
+    let len = stage_length layout.stages storage.delays u late lu in
     let stages = stages_at layout.stages u in
     let has = first_item stages j (omega (arith, lj, len)) in
     let q = ((planned.laid.stages.each u lt).each (get_or stages 0 0)).0 has in
     let f = kept_node nodes planned.ticks times u (get_or stages 0 0) edges (planned.offsets u lt) q.0 q.1 in
-    let word = w.stand u lt (plain_word (kind_at nodes u) (plain.kinds u lt) f) in
+    let word = w.stand u lt (word_there (kind_at nodes u) f) in
     record {
       signal = e.keeps (word_at words u) word.signal;
-      width = word.bits ∙ sym (width_is nodes u lt) ∙ sym (wide_at (widths_of nodes) delays u wide lu j dd lj);
+      width = word.bits ∙ sym (width_is nodes u lt) ∙ sym (wide_at (widths_of nodes) storage.delays u wide lu j dd lj);
     }
+
+-- the words of holds may be taken by their registers
+pub have_words : (nodes : List Node) (layout : Layout) (ports : KernelSignals) (storage : Storage) (timing : Timing) (words : List Signal)
+    (b c e : Module) → AddsWords b c nodes layout ports storage timing words → Extends c e → HaveWords e nodes words
+have_words nodes layout ports storage timing words b c e w x n lt kind =
+    let counted = w.counted in
+    let word = w.stand n lt (ap has_word kind) in
+    (omega (arith, lt, counted), record { signal = x.keeps (signal_at words n) word.signal; width = word.bits })
+
+-- ---- times
+
+-- the times are small
+pub small_times : (nodes : List Node) (times : List ℤ) (layout : Layout) (timing : Timing) → IsPlanned nodes (numbers_of times) layout
+    → ((v : ℕ) → v < length nodes → time_at timing v ≡ times_of times v) → (v : ℕ) → v < length nodes → time_at timing v ≤ 2 ^ 46
+small_times _ times layout timing planned timed v lt =
+    subst (λ time. time ≤ 2 ^ 46) (sym (timed v lt)) (small_time (numbers_of times v) (planned.begin v lt) (planned.most v lt))
+
+-- ---- whatever the lists are called
+
+pub there_named : (nodes : List Node) (layout : Layout) (late late' : List (List Signal)) (words words' : List Signal) → late' ≡ late → words' ≡ words
+    → AreThere layout late words nodes → AreThere layout late' words' nodes
+there_named nodes layout late late' words words' e g h =
+    subst (λ l. AreThere layout l words' nodes) (sym e) (subst (λ ws. AreThere layout late ws nodes) (sym g) h)
+
+pub controls_named : (nodes : List Node) (layout : Layout) (late late' : List (List Signal)) (words words' : List Signal)
+    (enables enables' : List (Option Signal)) → late ≡ late' → words ≡ words' → enables' ≡ enables → AreControls nodes layout late words enables
+    → AreControls nodes layout late' words' enables'
+controls_named nodes layout late late' words words' enables enables' e g i h =
+    subst (λ l. AreControls nodes layout l words' enables') e
+    (subst (λ ws. AreControls nodes layout late ws enables') g (subst (AreControls nodes layout late words) (sym i) h))
+
+pub control_named : (c d : Module) (ports : KernelSignals) (timing : Timing) (position : Signal) (hs : List Handshake) (run : Signal)
+    → timing.position ≡ position → AddsControl c d (control_nets ports timing.position) hs run → AddsControl c d (control_nets ports position) hs run
+control_named c d ports timing position hs run e t = subst (λ s. AddsControl c d (control_nets ports s) hs run) e t
+
+pub states_named : (e f : Module) (nodes : List Node) (times times' : List ℕ) (words words' : List Signal) (nets : AdvanceNets)
+    (states states' : List (Option Signal)) → times ≡ times' → words ≡ words' → states ≡ states'
+    → ClosesStates e f nodes (slice_index times) words nets states → ClosesStates e f nodes (slice_index times') words' nets states'
+states_named e f nodes times times' words words' nets states states' i j k y =
+    subst (λ ts. ClosesStates e f nodes (slice_index ts) words' nets states') i
+    (subst (λ ws. ClosesStates e f nodes (slice_index times) ws nets states') j (subst (ClosesStates e f nodes (slice_index times) words nets) k y))

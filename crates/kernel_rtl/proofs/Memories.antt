@@ -1,5 +1,31 @@
 -- How many memories the module of a kernel has.
-use Rattle.std.proofs.Common.{◌≡◌, ◌⊎◌, inl, inr, ℕ, zero, suc, ◌+◌, ◌*◌, ◌<◌, ◌≤◌, true, cond, List, [], ◌∷◌, ◌++◌, length, Some, refl, sym, ap, ◌∙◌, arith, length-append}
+use Rattle.std.proofs.Common.{
+  ◌≡◌,
+  ◌⊎◌,
+  inl,
+  inr,
+  ℕ,
+  zero,
+  suc,
+  ◌+◌,
+  ◌*◌,
+  ◌<◌,
+  ◌≤◌,
+  true,
+  cond,
+  List,
+  [],
+  ◌∷◌,
+  ◌++◌,
+  length,
+  Some,
+  refl,
+  sym,
+  ap,
+  ◌∙◌,
+  arith,
+  length-append,
+}
 use Rattle.std.specs.Prelude.{slice_get}
 use Rattle.std.proofs.Math.Nat.{mul-pos}
 use Rattle.rtl_ir.specs.declared.design.Module.{Module}
@@ -98,16 +124,17 @@ position_mems l m s alone p =
         by_item x.0 x.1 (parted l.nets g.more_nets s.net x.0 (ap (λ q. slice_get q s.net) (sym g.nets) ∙ x.1))
 
 -- the memories after each step together
-pub mem_count : (a b c d e : Module) (nodes : List Node) (stages : List (List ℕ)) (storage : Storage) → HasPortsAlone a → AddsStorage a b nodes stages storage
-    → Extends b c → Extends c d → Extends d e
-    → stored_bits c ≡ stored_bits b → stored_bits d ≡ stored_bits c → stored_bits e ≡ stored_bits d
-    → length e.mems ≤ ring_count stages
-mem_count a b c d e nodes stages storage alone s x y z f g h =
+pub mem_count : (a b c d e f : Module) (nodes : List Node) (stages : List (List ℕ)) (storage : Storage) → HasPortsAlone a
+    → AddsStorage a b nodes stages storage → Extends b c → Extends c d → Extends d e
+    → stored_bits c ≡ stored_bits b → stored_bits d ≡ stored_bits c → stored_bits e ≡ stored_bits d → f.mems ≡ e.mems
+    → length f.mems ≤ ring_count stages
+mem_count a b c d e f nodes stages storage alone s x y z p q r same =
     let at_c : IsPartial c = x.partial (s.extends.partial alone.partial) in
     let at_d : IsPartial d = y.partial at_c in
     let none : length a.mems ≡ 0 = ap length alone.mems in
     let first = s.mems in
-    let words = mems_by_stored b c x.grows f at_c in
-    let control = mems_by_stored c d y.grows g at_d in
-    let closed = mems_by_stored d e z.grows h (z.partial at_d) in
-    omega (arith, none, first, words, control, closed)
+    let words = mems_by_stored b c x.grows p at_c in
+    let control = mems_by_stored c d y.grows q at_d in
+    let closed = mems_by_stored d e z.grows r (z.partial at_d) in
+    let last = ap length same in
+    omega (arith, none, first, words, control, closed, last)

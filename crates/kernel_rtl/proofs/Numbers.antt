@@ -1,5 +1,30 @@
 -- The numbers of nodes of a kind, and lists by their items.
-use Rattle.std.proofs.Common.{◌≡◌, ℕ, zero, suc, ◌+◌, ◌<◌, ◌≤◌, Bool, true, false, cond, List, [], ◌∷◌, map, length, get_or, Some, refl, sym, ap, ◌∙◌, subst, arith}
+use Rattle.std.proofs.Common.{
+  ◌≡◌,
+  ℕ,
+  zero,
+  suc,
+  ◌+◌,
+  ◌<◌,
+  ◌≤◌,
+  Bool,
+  true,
+  false,
+  cond,
+  List,
+  [],
+  ◌∷◌,
+  map,
+  length,
+  get_or,
+  Some,
+  refl,
+  sym,
+  ap,
+  ◌∙◌,
+  subst,
+  arith,
+}
 use Rattle.std.specs.Prelude.{All, slice_get}
 use Rattle.std.proofs.lemmas.Bool.{false≢true}
 use Rattle.std.proofs.lemmas.List.Elements.{All-nil, All-cons}
@@ -7,7 +32,7 @@ use Rattle.stream_graph.specs.declared.node.Kind.{Kind}
 use Rattle.stream_graph.specs.declared.node.Kind.TheVariants as K
 use Rattle.stream_graph.specs.declared.node.Node.{Node}
 use Rattle.offset_edges.specs.Edges.{kind_at}
-use Rattle.kernel_control.specs.Ports.{is_input, is_output, numbers_from, inputs_of, outputs_of}
+use Rattle.kernel_control.specs.Ports.{is_input, is_output, is_scalar, numbers_from, scalars_of, inputs_of, outputs_of}
 use Rattle.kernel_control.specs.Refines.{greatest_time}
 
 -- ---- lists
@@ -131,22 +156,40 @@ is_the_output K.Counter h = absurd (false≢true h)
 is_the_output K.Chain h = absurd (false≢true h)
 is_the_output (K.Part place) h = absurd (false≢true h)
 
+pub is_the_scalar : (k : Kind) → is_scalar k ≡ true → k ≡ K.Scalar
+is_the_scalar K.Scalar h = refl
+is_the_scalar K.Input h = absurd (false≢true h)
+is_the_scalar K.Output h = absurd (false≢true h)
+is_the_scalar (K.Constant word) h = absurd (false≢true h)
+is_the_scalar (K.Operation op mode amount) h = absurd (false≢true h)
+is_the_scalar (K.Offset ticks) h = absurd (false≢true h)
+is_the_scalar K.Feed h = absurd (false≢true h)
+is_the_scalar K.Hold h = absurd (false≢true h)
+is_the_scalar K.Counter h = absurd (false≢true h)
+is_the_scalar K.Chain h = absurd (false≢true h)
+is_the_scalar (K.Part place) h = absurd (false≢true h)
+
 -- the inputs are nodes that are inputs
 pub record IsNodeOf (nodes : List Node) (of : Kind) (n : ℕ) : Type 0 where
   pub within : n < length nodes
   pub kind : kind_at nodes n ≡ of
 
-pub inputs_are : (nodes : List Node) → All (IsNodeOf nodes K.Input) (inputs_of nodes)
-inputs_are nodes = all_weaker (IsOfKind is_input 0 nodes) (IsNodeOf nodes K.Input) (inputs_of nodes) (all_of_kind is_input 0 nodes)
+are_of : (is_kind : Kind → Bool) (of : Kind) (nodes : List Node) → ((k : Kind) → is_kind k ≡ true → k ≡ of)
+    → All (IsNodeOf nodes of) (numbers_from is_kind 0 nodes)
+are_of is_kind of nodes known =
+    all_weaker (IsOfKind is_kind 0 nodes) (IsNodeOf nodes of) (numbers_from is_kind 0 nodes) (all_of_kind is_kind 0 nodes)
     (λ n h.
     let same : n ≡ h.at = let e = h.sum in omega (arith, e) in
-    subst (IsNodeOf nodes K.Input) (sym same) (record { within = h.within; kind = is_the_input (kind_at nodes h.at) h.kind }))
+    subst (IsNodeOf nodes of) (sym same) (record { within = h.within; kind = known (kind_at nodes h.at) h.kind }))
+
+pub inputs_are : (nodes : List Node) → All (IsNodeOf nodes K.Input) (inputs_of nodes)
+inputs_are nodes = are_of is_input K.Input nodes is_the_input
 
 pub outputs_are : (nodes : List Node) → All (IsNodeOf nodes K.Output) (outputs_of nodes)
-outputs_are nodes = all_weaker (IsOfKind is_output 0 nodes) (IsNodeOf nodes K.Output) (outputs_of nodes) (all_of_kind is_output 0 nodes)
-    (λ n h.
-    let same : n ≡ h.at = let e = h.sum in omega (arith, e) in
-    subst (IsNodeOf nodes K.Output) (sym same) (record { within = h.within; kind = is_the_output (kind_at nodes h.at) h.kind }))
+outputs_are nodes = are_of is_output K.Output nodes is_the_output
+
+pub scalars_are : (nodes : List Node) → All (IsNodeOf nodes K.Scalar) (scalars_of nodes)
+scalars_are nodes = are_of is_scalar K.Scalar nodes is_the_scalar
 
 pub greatest_small : (times : ℕ → ℕ) (b : ℕ) (ns : List ℕ) → All (λ n. times n ≤ b) ns → greatest_time times ns ≤ b
 greatest_small times b [] h = omega arith

@@ -1,15 +1,52 @@
 -- The numbers of the nets of a kernel's ports, and which of them differ.
-use Rattle.std.proofs.Common.{◌≡◌, ℕ, suc, ◌+◌, ◌*◌, ◌<◌, ◌≤◌, false, eqb, List, [], ◌∷◌, ◌++◌, map, length, refl, sym, ap, ◌∙◌, subst, arith, length-append}
+use Rattle.std.proofs.Common.{
+  ◌≡◌,
+  ℕ,
+  suc,
+  ◌+◌,
+  ◌*◌,
+  ◌<◌,
+  ◌≤◌,
+  false,
+  eqb,
+  List,
+  [],
+  ◌∷◌,
+  ◌++◌,
+  map,
+  length,
+  Option,
+  refl,
+  sym,
+  ap,
+  ◌∙◌,
+  subst,
+  arith,
+  length-append,
+}
 use Rattle.std.specs.Prelude.{All, codes}
 use Rattle.std.proofs.lemmas.List.Elements.{All-nil, All-cons, All-append}
 use Rattle.rtl_ir.specs.declared.design.Module.{Module}
 use Rattle.rtl_ir.specs.Ports.{PortView, ports_of, port_view, port_net, net_at, host_input_ports, host_output_ports, output_port}
+use Rattle.rtl_build.specs.declared.signal.Signal.{Signal}
 use Rattle.rtl_delays.specs.Driven.{is_driven}
 use Rattle.rtl_delays.specs.Partial.{IsPartial}
 use Rattle.rtl_delays.proofs.Added.{item_at}
 use Rattle.rtl_delays.proofs.Lists.{or_both}
 use Rattle.stream_graph.specs.declared.node.Node.{Node}
-use Rattle.kernel_control.specs.Ports.{scalar_ports, port_shape, module_ports, channels_of, scalars_of, inputs_of, outputs_of, first_input, first_output, ended_port, PortChannel}
+use Rattle.kernel_control.specs.Ports.{
+  scalar_ports,
+  port_shape,
+  module_ports,
+  channels_of,
+  scalars_of,
+  inputs_of,
+  outputs_of,
+  first_input,
+  first_output,
+  ended_port,
+  PortChannel,
+}
 use Rattle.kernel_control.specs.Nets.{told_ports}
 use Rattle.kernel_control.specs.Outputs.{is_one_of, AreUndriven}
 use Rattle.kernel_ports.specs.declared.signals.StreamSignals.{StreamSignals}
@@ -39,7 +76,7 @@ rise_on lo mid hi [] [] h g = omega (arith, h, g)
 rise_on lo mid hi [] (y ∷ ys) h g = ((let a = g.0 in omega (arith, a, h)), g.1)
 rise_on lo mid hi (x ∷ xs) ys h g = (h.0, rise_on (x + 1) mid hi xs ys h.1 g)
 
-unequal : (a b : ℕ) → (a ≡ b → ⊥) → eqb a b ≡ false
+pub unequal : (a b : ℕ) → (a ≡ b → ⊥) → eqb a b ≡ false
 unequal a b h = grind (arith, h)
 
 pub none_of : (ns : List ℕ) (n : ℕ) → All (λ k. k ≡ n → ⊥) ns → is_one_of ns n ≡ false
@@ -144,11 +181,12 @@ map_map : {A B C : Type 0} (f : A → B) (g : B → C) (xs : List A) → map g (
 map_map f g [] = refl
 map_map f g (x ∷ xs) = ap (λ l. g (f x) ∷ l) (map_map f g xs)
 
-told_are : (times : ℕ → ℕ) (xs ys : List StreamSignals) → told_ports (map (input_handshake times) xs ++ map (output_handshake times) ys)
+told_are : (times : ℕ → ℕ) (enables : ℕ → Option Signal) (xs ys : List StreamSignals)
+    → told_ports (map (input_handshake times enables) xs ++ map (output_handshake times enables) ys)
     ≡ readies_of (map channel_of xs) ++ valids_of (map channel_of ys)
-told_are times [] [] = refl
-told_are times [] (y ∷ ys) = ap (λ l. y.valid.net ∷ l) (told_are times [] ys)
-told_are times (x ∷ xs) ys = ap (λ l. x.ready.net ∷ l) (told_are times xs ys)
+told_are times enables [] [] = refl
+told_are times enables [] (y ∷ ys) = ap (λ l. y.valid.net ∷ l) (told_are times enables [] ys)
+told_are times enables (x ∷ xs) ys = ap (λ l. x.ready.net ∷ l) (told_are times enables xs ys)
 
 -- What is known of the nets of a kernel's ports.
 pub record AreNumbered (m : Module) (nodes : List Node) (xs ys : List StreamSignals) (ended : ℕ) : Type 0 where
@@ -186,16 +224,16 @@ module _ (m : Module) (nodes : List Node) (xs ys : List StreamSignals) (ended : 
   data_places = subst (All (IsPlace (first_output nodes) 0)) (sym data_are)
       (thirds_place (first_output nodes) 0 (first_output nodes) (outputs_of nodes) (record { step = 0; is = omega arith }))
 
-  abbrev told : (ℕ → ℕ) → List ℕ
-  told times = told_ports (map (input_handshake times) xs ++ map (output_handshake times) ys)
+  abbrev pub told : (ℕ → ℕ) → (ℕ → Option Signal) → List ℕ
+  told times enables = told_ports (map (input_handshake times enables) xs ++ map (output_handshake times enables) ys)
 
-  told_split : (times : ℕ → ℕ) → told times ≡ thirds (first_input nodes + 2) (inputs_of nodes) ++ thirds (first_output nodes + 1) (outputs_of nodes)
-  told_split times = told_are times xs ys ∙ ap (λ l. l ++ valids_of (map channel_of ys)) ready_are
+  told_split : (times : ℕ → ℕ) (enables : ℕ → Option Signal)
+      → told times enables ≡ thirds (first_input nodes + 2) (inputs_of nodes) ++ thirds (first_output nodes + 1) (outputs_of nodes)
+  told_split times enables = told_are times enables xs ys ∙ ap (λ l. l ++ valids_of (map channel_of ys)) ready_are
       ∙ ap (λ l. thirds (first_input nodes + 2) (inputs_of nodes) ++ l) valid_are
 
-  pub told_rise : (times : ℕ → ℕ) → Rise (first_input nodes) (ended_port nodes)
-      (told_ports (map (input_handshake times) xs ++ map (output_handshake times) ys))
-  told_rise times = subst (Rise (first_input nodes) (ended_port nodes)) (sym (told_split times))
+  pub told_rise : (times : ℕ → ℕ) (enables : ℕ → Option Signal) → Rise (first_input nodes) (ended_port nodes) (told times enables)
+  told_rise times enables = subst (Rise (first_input nodes) (ended_port nodes)) (sym (told_split times enables))
       (rise_on (first_input nodes) (first_output nodes) (ended_port nodes) (thirds (first_input nodes + 2) (inputs_of nodes))
       (thirds (first_output nodes + 1) (outputs_of nodes))
       (thirds_rise (first_input nodes) (first_input nodes + 2) (first_output nodes) (inputs_of nodes) (omega arith) (omega arith) (omega arith))
@@ -217,11 +255,10 @@ module _ (m : Module) (nodes : List Node) (xs ys : List StreamSignals) (ended : 
       (rise_under (first_output nodes) (ended_port nodes) (data_nets ys) data_rise)
       (λ j q e. let a = ended_is in omega (arith, q, e, a)))
 
-  pub told_other : (times : ℕ → ℕ) → All (λ k. is_one_of (data_nets ys) k ≡ false)
-      (told_ports (map (input_handshake times) xs ++ map (output_handshake times) ys))
-  told_other times =
+  pub told_other : (times : ℕ → ℕ) (enables : ℕ → Option Signal) → All (λ k. is_one_of (data_nets ys) k ≡ false) (told times enables)
+  told_other times enables =
       let P : ℕ → Type 0 = λ k. is_one_of (data_nets ys) k ≡ false in
-      subst (All P) (sym (told_split times))
+      subst (All P) (sym (told_split times enables))
       (All-append P (thirds (first_input nodes + 2) (inputs_of nodes)) (thirds (first_output nodes + 1) (outputs_of nodes))
       (all_weaker (λ j. j < first_output nodes) P (thirds (first_input nodes + 2) (inputs_of nodes))
       (rise_under (first_input nodes) (first_output nodes) (thirds (first_input nodes + 2) (inputs_of nodes))
@@ -231,9 +268,10 @@ module _ (m : Module) (nodes : List Node) (xs ys : List StreamSignals) (ended : 
       (thirds_place (first_output nodes) 1 (first_output nodes + 1) (outputs_of nodes) (record { step = 0; is = omega arith }))
       (λ j q. valid_other j q)))
 
-  pub ended_untold : (times : ℕ → ℕ) → is_one_of (told_ports (map (input_handshake times) xs ++ map (output_handshake times) ys)) ended ≡ false
-  ended_untold times =
-      let ns = told_ports (map (input_handshake times) xs ++ map (output_handshake times) ys) in
+  pub ended_untold : (times : ℕ → ℕ) (enables : ℕ → Option Signal) → is_one_of (told times enables) ended ≡ false
+  ended_untold times enables =
+      let ns = told times enables in
       none_of ns ended
-      (all_weaker (λ j. j < ended_port nodes) (λ j. j ≡ ended → ⊥) ns (rise_under (first_input nodes) (ended_port nodes) ns (told_rise times))
+      (all_weaker (λ j. j < ended_port nodes) (λ j. j ≡ ended → ⊥) ns
+      (rise_under (first_input nodes) (ended_port nodes) ns (told_rise times enables))
       (λ j q e. let a = ended_is in omega (arith, q, e, a)))

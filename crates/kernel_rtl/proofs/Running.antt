@@ -1,219 +1,404 @@
 -- The parts of a kernel in the module that is built.
-use Rattle.std.proofs.Common.{◌≡◌, ℕ, zero, suc, ◌<◌, ◌≤◌, ◌^◌, Bool, true, false, ◌&&◌, ltb, List, [], ◌∷◌, ◌++◌, map, length, None, refl, sym, ap, ◌∙◌, subst, arith}
-use Rattle.std.specs.Prelude.{ℤ, pos, ◌≤ℤ◌, unsigned_abs, All, slice_get}
+use Rattle.std.proofs.Common.{
+  ◌≡◌,
+  ℕ,
+  suc,
+  ◌+◌,
+  ◌-◌,
+  ◌/◌,
+  ◌%◌,
+  ◌^◌,
+  ◌<◌,
+  ◌≤◌,
+  true,
+  false,
+  cond,
+  eqb,
+  ltb,
+  leb,
+  ◌&&◌,
+  List,
+  [],
+  ◌∷◌,
+  ◌++◌,
+  map,
+  length,
+  get_or,
+  Some,
+  refl,
+  sym,
+  ap,
+  ◌∙◌,
+  subst,
+  arith,
+  ⊎_elim,
+}
+use Rattle.std.specs.Prelude.{ℤ, pos, ◌-ℤ◌, ◌≤ℤ◌, unsigned_abs, All, slice_get}
+use Rattle.std.proofs.Math.Nat.{mod-eq_of_lt}
 use Rattle.std.proofs.lemmas.Bool.{false≢true}
-use Rattle.std.proofs.lemmas.Bool.Decides.{nat_tests}
 use Rattle.std.proofs.lemmas.Int.{ints}
 use Rattle.std.proofs.lemmas.List.Elements.{All-append}
 use Rattle.cycle_find.specs.Constraints.{Numbers}
+use Rattle.counter_chains.specs.declared.digits.CounterDigit.{CounterDigit}
+use Rattle.counter_chains.specs.Digits.{IsDigit}
+use Rattle.counter_chains.specs.Chains.{part_at, chain_at, bits_below}
 use Rattle.rtl_ir.specs.declared.design.Module.{Module}
-use Rattle.rtl_ir.specs.Value.{Family, Contents}
+use Rattle.rtl_ir.specs.Value.{Family, Contents, bit}
 use Rattle.rtl_ir.specs.Grow.{Holds}
 use Rattle.rtl_build.specs.declared.signal.Signal.{Signal}
-use Rattle.rtl_delays.specs.declared.elements.Element.{Element}
 use Rattle.rtl_delays.specs.Extends.{Extends, AllOff, KeepsStill}
 use Rattle.stream_graph.specs.declared.node.Kind.{Kind}
 use Rattle.stream_graph.specs.declared.node.Kind.TheVariants as K
 use Rattle.stream_graph.specs.declared.node.Node.{Node}
-use Rattle.offset_edges.specs.Edges.{kind_at, operands_at, is_offset}
-use Rattle.stream_equations.specs.Equations.{control_in}
-use Rattle.kernel_control.specs.Ports.{ModuleNets, PortChannel, inputs_of, outputs_of}
+use Rattle.offset_edges.specs.declared.source.Source.{Source}
+use Rattle.offset_edges.specs.Edges.{kind_at, width_at, operands_at, operand_at, source_of, is_steady, is_offset}
+use Rattle.offset_edges.proofs.SourceLemmas.{source_here}
+use Rattle.stream_equations.specs.Equations.{digits_at, control_in}
+use Rattle.kernel_control.specs.Ports.{ModuleNets, PortChannel, scalars_of, inputs_of, outputs_of}
+use Rattle.kernel_control.specs.Due.{is_in_ticks, is_let}
 use Rattle.kernel_control.specs.Refines.{is_active, last_time}
 use Rattle.kernel_control.specs.IsControl.{IsControl}
 use Rattle.kernel_layout.specs.declared.layout.Layout.{Layout}
+use Rattle.kernel_ports.specs.declared.signals.NodeSignal.{NodeSignal}
 use Rattle.kernel_ports.specs.declared.signals.StreamSignals.{StreamSignals}
 use Rattle.kernel_ports.specs.declared.signals.KernelSignals.{KernelSignals}
-use Rattle.kernel_ports.specs.HasKernelPorts.{channel_of}
-use Rattle.kernel_refinement.specs.Built.{control_tap, is_let, is_shown, has_taps, TapsOf, HasWord, NodeBuilt, OutputBuilt, ControlsPorts, IsBuilt}
-use Rattle.kernel_wiring.specs.Words.{signal_at, read_net, reads_at, taps_at}
-use Rattle.kernel_wiring.specs.OneNode.{IsWired}
-use Rattle.kernel_rtl.specs.Planned.{is_plain_kind, IsPlain}
-use Rattle.kernel_rtl.specs.Words.{IsGivenWord, late_signals, IsDriven, AddsWords}
-use Rattle.kernel_rtl.proofs.Numbers.{map_length, map_get, all_mapped, all_unmapped, all_both, all_weaker, IsNodeOf, inputs_are, outputs_are, greatest_small}
-use Rattle.kernel_rtl.proofs.Taps.{standing, IsKept, counted_reads, taps_of}
+use Rattle.kernel_ports.specs.HasKernelPorts.{channel_of, nets_by}
+use Rattle.kernel_refinement.specs.States.{Counts, IsCounter, IsPosition}
+use Rattle.kernel_refinement.specs.Built.{
+  Layout as Standing,
+  edge_from,
+  control_tap,
+  is_shown,
+  has_taps,
+  IsBehind,
+  TapOf,
+  TapsOf,
+  IsPortWord,
+  IsScalarWord,
+  IsHoldWord,
+  HasWord,
+  NodeBuilt,
+  OutputBuilt,
+  IsBuilt,
+}
+use Rattle.kernel_refinement.proofs.Parting.{parts_count}
+use Rattle.kernel_states.specs.Digits.{counts, IsCounting, IsAlone, IsPartOf}
+use Rattle.kernel_states.specs.States.{has_state, state_at, AreStates}
+use Rattle.kernel_states.specs.Closing.{AreCounters, AreKeepers}
+use Rattle.kernel_wiring.specs.declared.timing.Timing.{Timing}
+use Rattle.kernel_wiring.specs.Timing.{time_at}
+use Rattle.kernel_wiring.specs.Words.{signal_at, taps_at}
+use Rattle.kernel_wiring.specs.OneNode.{IsPartWord, IsHeldWord, IsWired}
+use Rattle.kernel_rtl.specs.declared.storage.Storage.{Storage}
+use Rattle.kernel_rtl.specs.Words.{IsGivenWord, IsGivenScalar, late_signals, net_or_zero, IsDriven, AddsWords}
+use Rattle.kernel_rtl.proofs.Numbers.{map_get, all_mapped, all_unmapped, all_both, all_weaker, IsNodeOf, inputs_are, outputs_are, greatest_small}
+use Rattle.kernel_rtl.proofs.Taps.{standing, IsKept, taps_of}
+use Rattle.kernel_rtl.proofs.Wording.{state_of}
 
--- ---- controls
+-- ---- counters
 
-get_none : (operands taps : List ℕ) (i : ℕ) → length taps ≡ length operands → slice_get operands i ≡ None → slice_get taps i ≡ None
-get_none [] [] i same h = refl
-get_none [] (t ∷ ts) i same h = absurd (omega (arith, same))
-get_none (o ∷ os) [] i same h = absurd (omega (arith, same))
-get_none (o ∷ os) (t ∷ ts) zero same h = absurd (cc)
-get_none (o ∷ os) (t ∷ ts) (suc i) same h = get_none os ts i (omega (arith, same)) h
+-- a counter by another name of its words
+counts_same : (run to time : ℕ) (word other : ℕ → ℕ) → ((t : ℕ) → word t ≡ other t) → (p : ℕ) (vs : List Family) → Counts run to time word p vs
+    → Counts run to time other p vs
+counts_same run to time word other same p [] h = tt
+counts_same run to time word other same p (v ∷ vs) h = (
+  λ later few. h.0 later few ∙ same (p - time),
+  counts_same run to time word other same (cond (eqb (v run) 1) (suc p) p) vs h.1,
+)
 
-control_none : (k : Kind) (operands taps : List ℕ) → (is_offset k ≡ false → length taps ≡ length operands) → control_in k operands ≡ None
-    → control_in k taps ≡ None
-control_none K.Input operands taps same h = get_none operands taps 0 (same refl) h
-control_none K.Output operands taps same h = get_none operands taps 1 (same refl) h
-control_none K.Hold operands taps same h = get_none operands taps 1 (same refl) h
-control_none K.Scalar operands taps same h = refl
-control_none (K.Constant word) operands taps same h = refl
-control_none (K.Operation op mode amount) operands taps same h = refl
-control_none (K.Offset ticks) operands taps same h = refl
-control_none K.Feed operands taps same h = refl
-control_none K.Counter operands taps same h = refl
-control_none K.Chain operands taps same h = refl
-control_none (K.Part place) operands taps same h = refl
+counter_same : (m : Module) (run reset to time : ℕ) (word other : ℕ → ℕ) → ((t : ℕ) → word t ≡ other t) → IsCounter m run reset to time word
+    → IsCounter m run reset to time other
+counter_same m run reset to time word other same h c v vs s e none = counts_same run to time word other same 0 vs (h c v vs s e none)
 
-past_kind : (nodes : List Node) (n : ℕ) → length nodes ≤ n → kind_at nodes n ≡ K.Scalar
-past_kind [] n h = refl
-past_kind (x ∷ xs) zero h = absurd (omega arith)
-past_kind (x ∷ xs) (suc n) h = past_kind xs n (omega arith)
+-- a chain of one counter has its words
+alone_at : (digits : List CounterDigit) (t : ℕ) → length digits ≡ 1 → chain_at digits t ≡ part_at digits 0 t
+alone_at [] t one = absurd (omega (arith, one))
+alone_at (d ∷ []) t one = omega arith
+alone_at (d ∷ e ∷ later) t one = absurd (omega (arith, one))
 
-taps_offset : (k : Kind) → has_taps k ≡ true → is_offset k ≡ false
-taps_offset (K.Offset ticks) h = absurd (false≢true h)
-taps_offset K.Input h = refl
-taps_offset K.Output h = refl
-taps_offset K.Scalar h = refl
-taps_offset (K.Constant word) h = refl
-taps_offset (K.Operation op mode amount) h = refl
-taps_offset K.Feed h = refl
-taps_offset K.Hold h = refl
-taps_offset K.Counter h = refl
-taps_offset K.Chain h = refl
-taps_offset (K.Part place) h = refl
+-- ---- holds
 
-and_true : (a : Bool) → a && true ≡ a
-and_true true = refl
-and_true false = refl
+-- a position is in a tick of the run as the sum of 48 bits says
+in_ticks : (time count p : ℕ) → time ≤ 2 ^ 46 → count ≤ 2 ^ 40 → is_in_ticks p count time ≡ is_active time count p
+in_ticks time count p small few =
+    let sum : (time + count) % 2 ^ 48 ≡ time + count = mod-eq_of_lt (omega (arith, small, few)) in
+    ap (λ n. leb time p && ltb p n) sum
 
-below_or_not : (n k : ℕ) → (n < k → ⊥) → k ≤ n
-below_or_not n k h = omega (arith, h)
-
--- ---- one node
-
-word_of : (m n : Module) (nodes : List Node) (times : ℕ → ℕ) (q : ModuleNets) (run : ℕ) (layout : Layout) (delays : List (List Element))
-    (words : List Signal) (rank : List ℕ)
-    (inputs : List StreamSignals) → q.inputs ≡ map channel_of inputs → ((c : Contents) (f : Family) → Holds n c f → Holds m c f)
-    → (v : ℕ) (k : Kind) → is_plain_kind k ≡ true → (k ≡ K.Input → IsGivenWord inputs words v)
-    → IsWired m nodes (taps_at layout (late_signals delays) words v) (signal_at words v).net v k
-    → HasWord n nodes times q run (standing layout delays words rank) v k
-word_of m n nodes times q run layout delays words rank inputs same before v K.Input plain given w =
-    let g = given refl in
-    record {
-      place = g.place;
-      port = channel_of g.port;
-      at = ap (λ xs. slice_get xs g.place) same ∙ map_get channel_of inputs g.place g.port g.at;
-      node = g.node;
-      word = sym (ap (λ (s : Signal). s.net) g.word);
-    }
-word_of m n nodes times q run layout delays words rank inputs same before v K.Output plain given w =
-    record { tap = (signal_at words v).net; first = w; same = λ c f h. refl }
-word_of m n nodes times q run layout delays words rank inputs same before v K.Feed plain given w =
-    record { tap = (signal_at words v).net; first = w; same = λ c f h. refl }
-word_of m n nodes times q run layout delays words rank inputs same before v (K.Constant word) plain given w = λ c f h. w c f (before c f h)
-word_of m n nodes times q run layout delays words rank inputs same before v (K.Operation op mode amount) plain given w = λ c f h. w c f (before c f h)
-word_of m n nodes times q run layout delays words rank inputs same before v (K.Offset ticks) plain given w = tt
-word_of m n nodes times q run layout delays words rank inputs same before v K.Scalar plain given w = absurd (false≢true plain)
-word_of m n nodes times q run layout delays words rank inputs same before v K.Hold plain given w = absurd (false≢true plain)
-word_of m n nodes times q run layout delays words rank inputs same before v K.Counter plain given w = absurd (false≢true plain)
-word_of m n nodes times q run layout delays words rank inputs same before v K.Chain plain given w = absurd (false≢true plain)
-word_of m n nodes times q run layout delays words rank inputs same before v (K.Part place) plain given w = absurd (false≢true plain)
+-- ---- times
 
 pub small_time : (x : ℤ) → pos 0 ≤ℤ x → x ≤ℤ pos (2 ^ 46) → unsigned_abs x ≤ 2 ^ 46
 small_time x a b = omega (arith, ints, a, b)
 
+-- a delay from a node of no latency
+delay_sum : (to from delay : ℕ) → ((pos to -ℤ pos from) -ℤ pos 0) -ℤ pos 0 ≡ pos delay → from + (0 + delay) ≡ to
+delay_sum to from delay h = omega (arith, ints, h)
+
+-- ---- taps
+
+-- the first operand is read from the first tap
+first_tap : (m : Module) (nodes : List Node) (ticks times : ℕ → ℕ) (run reset : ℕ) (l : Standing) (v : ℕ) (operands taps : List ℕ) (tap : ℕ)
+    → TapsOf m nodes ticks times run reset l v operands taps → slice_get taps 0 ≡ Some tap
+    → TapOf m nodes ticks times run reset l v (get_or operands 0 0) tap
+first_tap m nodes ticks times run reset l v [] [] tap h e = absurd (cc)
+first_tap m nodes ticks times run reset l v [] (t ∷ ts) tap h e = absurd h
+first_tap m nodes ticks times run reset l v (o ∷ os) [] tap h e = absurd h
+first_tap m nodes ticks times run reset l v (o ∷ os) (t ∷ ts) tap h e =
+    let same : t ≡ tap = cc in
+    subst (TapOf m nodes ticks times run reset l v o) same h.0
+
 -- ---- the module
 
--- What the calls leave of the module of a kernel, whose last form is n.
-pub record IsWhole (l m k n : Module) (nodes : List Node) (ticks : ℕ → ℕ) (times : Numbers) (layout : Layout) (ports : KernelSignals)
-    (delays : List (List Element)) (words : List Signal)
-    (rank : List ℕ) (run : ℕ) : Type 0
-  where
-    pub plain : IsPlain nodes
-    pub most : (v : ℕ) → v < length nodes → times v ≤ℤ pos (2 ^ 46)
-    pub kept : IsKept n nodes ticks times layout delays words rank run ports.reset.net
-    pub empty : l.updates ≡ []
-    pub added : AddsWords l m nodes layout ports delays words
-    pub controlled : Extends m k
-    pub control_still : KeepsStill m k run ports.reset.net
-    pub closed : Extends k n
-    pub close_still : KeepsStill k n run ports.reset.net
+-- what is known of the counters of a kernel
+pub record AreSound (nodes : List Node) : Type 0 where
+  pub counting : (n : ℕ) → n < length nodes → counts (kind_at nodes n) ≡ true → IsCounting nodes n
+  pub alone : (n : ℕ) → n < length nodes → kind_at nodes n ≡ K.Counter → IsAlone nodes n
+  pub parts : (n place : ℕ) → n < length nodes → kind_at nodes n ≡ K.Part place → IsPartOf nodes n place
 
-module _ (l m k n : Module) (nodes : List Node) (ticks : ℕ → ℕ) (times : Numbers) (layout : Layout) (ports : KernelSignals) (delays : List (List Element))
-    (words : List Signal)
-    (rank : List ℕ) (run : ℕ) (q : ModuleNets) (w : IsWhole l m k n nodes ticks times layout ports delays words rank run)
-    (inputs : q.inputs ≡ map channel_of ports.inputs) (outputs : q.outputs ≡ map channel_of ports.outputs) (reset : q.reset ≡ ports.reset.net)
+-- the word of a counter of a chain stands in its own bits
+abbrev pub HavePlaces : Type 0
+HavePlaces =
+    (digits : List CounterDigit) (place t : ℕ) (d : CounterDigit) → All IsDigit digits → slice_get digits place ≡ Some d
+    → chain_at digits t / 2 ^ bits_below digits place % 2 ^ d.bits ≡ part_at digits place t
+
+-- What the calls leave of the module of a kernel: it has its storage as l, its words as m, and n is
+-- its last form.
+pub record IsWhole (l m n : Module) (nodes : List Node) (ticks : ℕ → ℕ) (times : Numbers) (layout : Layout) (ports : KernelSignals) (storage : Storage)
+    (timing : Timing) (words : List Signal) (rank : List ℕ) (run : Signal) : Type 0
+  where
+    pub most : (v : ℕ) → v < length nodes → times v ≤ℤ pos (2 ^ 46)
+    pub chains : (v : ℕ) → v < length nodes → kind_at nodes v ≡ K.Chain → ticks v ≡ 0
+    pub digits : AreSound nodes
+    pub places : HavePlaces
+    pub kept : IsKept n nodes ticks times layout storage.delays words rank run.net ports.reset.net
+    pub empty : l.updates ≡ []
+    pub states : AreStates l nodes storage.states
+    pub position : timing.position ≡ storage.position
+    pub counted : timing.ticks ≡ ports.ticks
+    pub timed : (v : ℕ) → v < length nodes → time_at timing v ≡ unsigned_abs (times v)
+    pub added : AddsWords l m nodes layout ports storage timing words
+    pub grown : Extends m n
+    pub still : KeepsStill m n run.net ports.reset.net
+    pub counters :
+        AreCounters n nodes (time_at timing) (record { run = run; reset = ports.reset; position = storage.position }) storage.states
+    pub keepers : AreKeepers n nodes words (record { run = run; reset = ports.reset; position = storage.position }) storage.states
+
+module _ (l m n : Module) (nodes : List Node) (ticks : ℕ → ℕ) (times : Numbers) (layout : Layout) (ports : KernelSignals) (storage : Storage)
+    (timing : Timing) (words : List Signal) (rank : List ℕ) (run : Signal)
+    (w : IsWhole l m n nodes ticks times layout ports storage timing words rank run)
+    (scalar_nodes : map (λ (port : NodeSignal). port.node) ports.scalars ≡ scalars_of nodes)
     (output_nodes : map (λ (port : StreamSignals). port.node) ports.outputs ≡ outputs_of nodes) where
   abbrev pub now : ℕ → ℕ
   now = λ v. unsigned_abs (times v)
 
+  abbrev pub nets : ModuleNets
+  nets = nets_by ports storage.position.net
+
   before : (c : Contents) (f : Family) → Holds n c f → Holds m c f
-  before c f h = w.controlled.before c f (w.closed.before c f h)
+  before c f h = w.grown.before c f h
 
-  node_built : (v : ℕ) → v < length nodes → NodeBuilt n nodes ticks now q run (standing layout delays words rank) v
-  node_built v lt = record {
-    word = word_of m n nodes now q run layout delays words rank ports.inputs inputs before v (kind_at nodes v) (w.plain.kinds v lt) (w.added.given v lt)
-        (w.added.built v lt);
-    taps = λ has.
-        let P : ℕ → Type 0 = λ r. TapsOf n nodes ticks now run r (standing layout delays words rank) v (operands_at nodes v)
-        ((standing layout delays words rank).taps v) in
-        subst P (sym reset)
-        (taps_of n nodes ticks times layout delays words rank run ports.reset.net w.kept v lt (taps_offset (kind_at nodes v) has));
+  small : (v : ℕ) → v < length nodes → now v ≤ 2 ^ 46
+  small v lt = small_time (times v) (w.kept.begin v lt) (w.most v lt)
+
+  -- ---- the words of ports
+
+  port_word : (v : ℕ) → IsGivenWord ports.inputs words v → IsPortWord nets (standing layout storage.delays words rank) v
+  port_word v g = record {
+    place = g.place;
+    port = channel_of g.port;
+    at = map_get channel_of ports.inputs g.place g.port g.at;
+    node = g.own;
+    word = sym (ap (λ (s : Signal). s.net) g.is);
   }
 
-  taps_counted : (v : ℕ) → v < length nodes → is_offset (kind_at nodes v) ≡ false
-      → length ((standing layout delays words rank).taps v) ≡ length (operands_at nodes v)
-  taps_counted v lt f =
-      map_length (read_net layout.stages (late_signals delays) words) (reads_at layout v)
-      ∙ counted_reads n nodes ticks times layout delays words rank run ports.reset.net w.kept v lt f
+  scalar_word : (v : ℕ) → IsGivenScalar ports.scalars words v → IsScalarWord nodes nets (standing layout storage.delays words rank) v
+  scalar_word v g = record {
+    place = g.place;
+    node =
+        ap (λ ns. slice_get ns g.place) (sym scalar_nodes)
+        ∙ map_get (λ (port : NodeSignal). port.node) ports.scalars g.place g.port g.at
+        ∙ ap Some g.own;
+    net =
+        map_get (λ (port : NodeSignal). port.signal.net) ports.scalars g.place g.port g.at
+        ∙ ap (λ (s : Signal). Some s.net) (sym g.is);
+  }
 
-  no_control : (v : ℕ) → control_tap nodes (standing layout delays words rank) v ≡ None
-  no_control v = by_test (ltb v (length nodes)) refl
+  -- ---- the words of states
+
+  chain_word : (v : ℕ) → v < length nodes → counts (kind_at nodes v) ≡ true → has_state (kind_at nodes v) ≡ true
+      → IsPosition n run.net ports.reset.net storage.position.net
+      → IsCounter n run.net ports.reset.net (signal_at words v).net (now v) (chain_at (digits_at nodes v))
+  chain_word v lt count state position =
+      let s = state_of l nodes storage.states v w.states lt state in
+      let here = w.counters v s.register lt count s.at position in
+      let timed = subst (λ time. IsCounter n run.net ports.reset.net s.register.net time (chain_at (digits_at nodes v))) (w.timed v lt) here in
+      subst (λ (x : Signal). IsCounter n run.net ports.reset.net x.net (now v) (chain_at (digits_at nodes v)))
+      (sym (w.added.states v s.register lt count s.at)) timed
+
+  -- a part of a chain, whose tap is behind the chain
+  behind_chain : (v chain tap : ℕ) (word other part : ℕ → ℕ) → chain < length nodes → kind_at nodes chain ≡ K.Chain
+      → IsCounter n run.net ports.reset.net (signal_at words chain).net (now chain) word
+      → ((c : Contents) (f : Family) → Holds n c f → f (signal_at words v).net ≡ part (f tap)) → ((t : ℕ) → part (word t) ≡ other t)
+      → (s : Source) → s ≡ record { node = chain; offset = pos 0 }
+      → IsBehind n ticks now run.net ports.reset.net (standing layout storage.delays words rank) (record { from = s.node; to = v; offset = s.offset }) tap
+      → IsCounter n run.net ports.reset.net (signal_at words v).net (now v) other
+  behind_chain v chain tap word other part inside kind own shows same s e at =
+      let b = subst (λ (x : Source). IsBehind n ticks now run.net ports.reset.net (standing layout storage.delays words rank)
+      (record { from = x.node; to = v; offset = x.offset }) tap) e at in
+      let none = w.chains chain inside kind in
+      let waits : ((pos (now v) -ℤ pos (now chain)) -ℤ pos 0) -ℤ pos 0 ≡ pos b.delay =
+      ap (λ k. ((pos (now v) -ℤ pos (now chain)) -ℤ pos k) -ℤ pos 0) (sym none) ∙ b.waits in
+      let sum : now chain + (ticks chain + b.delay) ≡ now v = ap (λ k. now chain + (k + b.delay)) none ∙ delay_sum (now v) (now chain) b.delay waits in
+      subst (λ time. IsCounter n run.net ports.reset.net (signal_at words v).net time other) sum
+      (parts_count n run.net ports.reset.net (signal_at words chain).net tap (signal_at words v).net (now chain) (ticks chain + b.delay)
+      word other part own b.late shows same)
+
+  tapped_chain : (v chain tap : ℕ) (word other part : ℕ → ℕ) → chain < length nodes → kind_at nodes chain ≡ K.Chain
+      → IsCounter n run.net ports.reset.net (signal_at words chain).net (now chain) word
+      → ((c : Contents) (f : Family) → Holds n c f → f (signal_at words v).net ≡ part (f tap)) → ((t : ℕ) → part (word t) ≡ other t)
+      → TapOf n nodes ticks now run.net ports.reset.net (standing layout storage.delays words rank) v chain tap
+      → IsCounter n run.net ports.reset.net (signal_at words v).net (now v) other
+  tapped_chain v chain tap word other part inside kind own shows same t =
+      let source = source_here nodes w.kept.orderly chain inside (ap is_offset kind) in
+      ⊎_elim
+      (λ (q : (is_steady (kind_at nodes (source_of nodes chain).node) ≡ true) × (tap ≡ (signal_at words (source_of nodes chain).node).net)).
+      absurd (false≢true (sym (ap (λ (s : Source). is_steady (kind_at nodes s.node)) source ∙ ap is_steady kind) ∙ q.0)))
+      (λ (b : IsBehind n ticks now run.net ports.reset.net (standing layout storage.delays words rank) (edge_from nodes v chain) tap).
+      behind_chain v chain tap word other part inside kind own shows same (source_of nodes chain) source b)
+      t.shows
+
+  part_word : (v place : ℕ) → v < length nodes → kind_at nodes v ≡ K.Part place
+      → IsPosition n run.net ports.reset.net storage.position.net
+      → IsPartWord m nodes (taps_at layout (late_signals storage.delays) words v) (signal_at words v).net v place
+      → TapsOf n nodes ticks now run.net ports.reset.net (standing layout storage.delays words rank) v (operands_at nodes v)
+      (taps_at layout (late_signals storage.delays) words v)
+      → IsCounter n run.net ports.reset.net (signal_at words v).net (now v) (part_at (digits_at nodes (operand_at nodes v 0)) place)
+  part_word v place lt kind position shows taps =
+      let part = w.digits.parts v place lt kind in
+      let chain = operand_at nodes v 0 in
+      let digits = digits_at nodes chain in
+      let same : (t : ℕ) → chain_at digits t / 2 ^ bits_below digits place % 2 ^ width_at nodes v ≡ part_at digits place t = λ t.
+      ap (λ b. chain_at digits t / 2 ^ bits_below digits place % 2 ^ b) part.bits
+      ∙ w.places digits place t part.digit (w.digits.counting chain part.inside (ap counts part.chain)).digits part.at in
+      tapped_chain v chain shows.chain (chain_at digits) (part_at digits place) (λ x. x / 2 ^ bits_below digits place % 2 ^ width_at nodes v)
+      part.inside part.chain (chain_word chain part.inside (ap counts part.chain) (ap has_state part.chain) position)
+      (λ c f h. shows.shows c f (before c f h)) same
+      (first_tap n nodes ticks now run.net ports.reset.net (standing layout storage.delays words rank) v (operands_at nodes v)
+      (taps_at layout (late_signals storage.delays) words v) shows.chain taps shows.first)
+
+  hold_word : (v : ℕ) → v < length nodes → kind_at nodes v ≡ K.Hold
+      → IsHeldWord m timing (taps_at layout (late_signals storage.delays) words v) (net_or_zero (state_at storage.states v)) (signal_at words v).net v
+      → IsHoldWord n nodes now nets run.net (standing layout storage.delays words rank) v
+  hold_word v lt kind h =
+      let s = state_of l nodes storage.states v w.states lt (ap has_state kind) in
+      let kept : net_or_zero (state_at storage.states v) ≡ s.register.net = ap net_or_zero s.at in
+      let word : (c : Contents) (f : Family) → Holds n c f
+      → f (signal_at words v).net ≡ cond (eqb (f h.on) 1) (f h.from) (f s.register.net) = λ c f held.
+      h.shows c f (before c f held) ∙ ap (λ x. cond (eqb (f h.on) 1) (f h.from) (f x)) kept in
+      record {
+        tap = h.from;
+        first = h.first;
+        on = h.on;
+        store = λ c f count held is few within. h.stores c f (before c f held) ∙ ap bit (shown h.store h.second count f is few);
+        kept = s.register.net;
+        keeper = w.keepers v h.on h.from s.register lt kind s.at word;
+        word = word;
+      }
     where
-      by_test : (b : Bool) → ltb v (length nodes) ≡ b → control_tap nodes (standing layout delays words rank) v ≡ None
-      by_test true e =
-          let lt : v < length nodes = grind (arith, nat_tests, e) in
-          control_none (kind_at nodes v) (operands_at nodes v) ((standing layout delays words rank).taps v) (taps_counted v lt) (w.plain.controls v lt)
-      by_test false e =
-          let le : length nodes ≤ v = grind (arith, nat_tests, e) in
-          ap (λ kind. control_in kind ((standing layout delays words rank).taps v)) (past_kind nodes v le)
+      shown : (store : ℕ) → slice_get (taps_at layout (late_signals storage.delays) words v) 1 ≡ Some store → (count : ℕ) (f : Family)
+          → f ports.ticks.net ≡ count → count ≤ 2 ^ 40
+          → is_in_ticks (f timing.position.net) (f timing.ticks.net) (time_at timing v) && eqb (f store) 1
+          ≡ is_shown nodes now (standing layout storage.delays words rank) count v (f storage.position.net) f
+      shown store second count f is few =
+          let p = f storage.position.net in
+          let on = eqb (f store) 1 in
+          let control : control_tap nodes (standing layout storage.delays words rank) v ≡ Some store =
+          ap (λ k. control_in k (taps_at layout (late_signals storage.delays) words v)) kind ∙ second in
+          ap (λ (s : Signal). is_in_ticks (f s.net) (f timing.ticks.net) (time_at timing v) && on) w.position
+          ∙ ap (λ (s : Signal). is_in_ticks p (f s.net) (time_at timing v) && on) w.counted
+          ∙ ap (λ k. is_in_ticks p k (time_at timing v) && on) is
+          ∙ ap (λ time. is_in_ticks p count time && on) (w.timed v lt)
+          ∙ ap (λ b. b && on) (in_ticks (now v) count p (small v lt) few)
+          ∙ ap (λ o. is_active (now v) count p && is_let o f) (sym control)
 
-  shown_active : (count v p : ℕ) (f : Family) → is_shown nodes now (standing layout delays words rank) count v p f ≡ is_active (now v) count p
-  shown_active count v p f = ap (λ o. is_active (now v) count p && is_let o f) (no_control v) ∙ and_true (is_active (now v) count p)
+  -- ---- one node
 
-  controls : IsControl n nodes now q run → ControlsPorts n nodes now q run (standing layout delays words rank)
-  controls h = record {
-    position = record { register = h.position; cleared = h.cleared; steps = h.steps };
-    shows = λ timed c f count holds is le within due ends.
-        h.shows timed c f count holds is le within (λ v. due v ∙ shown_active count v (f q.position) f) ends;
-  }
+  word_of : (v : ℕ) (k : Kind) → v < length nodes → kind_at nodes v ≡ k → IsPosition n run.net ports.reset.net storage.position.net
+      → IsWired m nodes timing (taps_at layout (late_signals storage.delays) words v) (net_or_zero (state_at storage.states v)) (signal_at words v).net v k
+      → (has_taps k ≡ true
+      → TapsOf n nodes ticks now run.net ports.reset.net (standing layout storage.delays words rank) v (operands_at nodes v)
+      (taps_at layout (late_signals storage.delays) words v))
+      → HasWord n nodes now nets run.net (standing layout storage.delays words rank) v k
+  word_of v K.Input lt kind position x taps = port_word v (w.added.inputs v lt kind)
+  word_of v K.Scalar lt kind position x taps = scalar_word v (w.added.scalars v lt kind)
+  word_of v K.Output lt kind position x taps = record { tap = (signal_at words v).net; first = x; same = λ c f h. refl }
+  word_of v K.Feed lt kind position x taps = record { tap = (signal_at words v).net; first = x; same = λ c f h. refl }
+  word_of v (K.Constant word) lt kind position x taps = λ c f h. x c f (before c f h)
+  word_of v (K.Operation op mode amount) lt kind position x taps = λ c f h. x c f (before c f h)
+  word_of v (K.Offset ahead) lt kind position x taps = tt
+  word_of v K.Hold lt kind position x taps = hold_word v lt kind x
+  word_of v K.Counter lt kind position x taps =
+      counter_same n run.net ports.reset.net (signal_at words v).net (now v) (chain_at (digits_at nodes v)) (part_at (digits_at nodes v) 0)
+      (λ t. alone_at (digits_at nodes v) t (w.digits.alone v lt kind)) (chain_word v lt (ap counts kind) (ap has_state kind) position)
+  word_of v K.Chain lt kind position x taps = chain_word v lt (ap counts kind) (ap has_state kind) position
+  word_of v (K.Part place) lt kind position x taps = part_word v place lt kind position x (taps refl)
 
-  outputs_built : All (OutputBuilt n nodes (standing layout delays words rank)) q.outputs
+  taps_offset : (k : Kind) → has_taps k ≡ true → is_offset k ≡ false
+  taps_offset (K.Offset ahead) h = absurd (false≢true h)
+  taps_offset K.Input h = refl
+  taps_offset K.Output h = refl
+  taps_offset K.Scalar h = refl
+  taps_offset (K.Constant word) h = refl
+  taps_offset (K.Operation op mode amount) h = refl
+  taps_offset K.Feed h = refl
+  taps_offset K.Hold h = refl
+  taps_offset K.Counter h = refl
+  taps_offset K.Chain h = refl
+  taps_offset (K.Part place) h = refl
+
+  node_built : IsPosition n run.net ports.reset.net storage.position.net → (v : ℕ) → v < length nodes
+      → NodeBuilt n nodes ticks now nets run.net (standing layout storage.delays words rank) v
+  node_built position v lt =
+      let taps : has_taps (kind_at nodes v) ≡ true
+      → TapsOf n nodes ticks now run.net ports.reset.net (standing layout storage.delays words rank) v (operands_at nodes v)
+      (taps_at layout (late_signals storage.delays) words v) = λ has.
+      taps_of n nodes ticks times layout storage.delays words rank run.net ports.reset.net w.kept v lt (taps_offset (kind_at nodes v) has) in
+      record { word = word_of v (kind_at nodes v) lt refl position (w.added.built v lt) taps; taps = taps }
+
+  -- ---- the rest
+
+  outputs_built : All (OutputBuilt n nodes (standing layout storage.delays words rank)) (map channel_of ports.outputs)
   outputs_built =
       let kinds : All (λ (port : StreamSignals). IsNodeOf nodes K.Output port.node) ports.outputs =
       all_unmapped (λ (port : StreamSignals). port.node) (IsNodeOf nodes K.Output) ports.outputs
       (subst (All (IsNodeOf nodes K.Output)) (sym output_nodes) (outputs_are nodes)) in
       let both = all_both (λ (port : StreamSignals). IsNodeOf nodes K.Output port.node) (IsDriven m words) ports.outputs kinds w.added.shows in
-      let B : PortChannel → Type 0 = OutputBuilt n nodes (standing layout delays words rank) in
-      subst (All B) (sym outputs)
-      (all_mapped channel_of B ports.outputs
+      let B : PortChannel → Type 0 = OutputBuilt n nodes (standing layout storage.delays words rank) in
+      all_mapped channel_of B ports.outputs
       (all_weaker (λ (port : StreamSignals). IsNodeOf nodes K.Output port.node × IsDriven m words port)
       (λ (port : StreamSignals). B (channel_of port)) ports.outputs both
-      (λ port h. record { output = h.0.kind; word = λ c f held. h.1 c f (before c f held) })))
+      (λ port h. record { output = h.0.kind; word = λ c f held. h.1 c f (before c f held) }))
 
   small_last : last_time nodes now ≤ 2 ^ 46
   small_last =
       let P : ℕ → Type 0 = λ v. now v ≤ 2 ^ 46 in
-      let of : (v : ℕ) → v < length nodes → P v = λ v lt. small_time (times v) (w.kept.begin v lt) (w.most v lt) in
       greatest_small now (2 ^ 46) (inputs_of nodes ++ outputs_of nodes)
       (All-append P (inputs_of nodes) (outputs_of nodes)
-      (all_weaker (IsNodeOf nodes K.Input) P (inputs_of nodes) (inputs_are nodes) (λ v h. of v h.within))
-      (all_weaker (IsNodeOf nodes K.Output) P (outputs_of nodes) (outputs_are nodes) (λ v h. of v h.within)))
+      (all_weaker (IsNodeOf nodes K.Input) P (inputs_of nodes) (inputs_are nodes) (λ v h. small v h.within))
+      (all_weaker (IsNodeOf nodes K.Output) P (outputs_of nodes) (outputs_are nodes) (λ v h. small v h.within)))
 
-  still : (c : Contents) (f : Family) → Holds n c f → f run ≡ 0 → f q.reset ≡ 0 → AllOff f n.updates
-  still c f h r z =
-      let e : f ports.reset.net ≡ 0 = ap f (sym reset) ∙ z in
-      let hk = w.closed.before c f h in
-      let none : m.updates ≡ [] = w.added.updates ∙ w.empty in
-      w.close_still c f h r e (w.control_still c f hk r e (subst (AllOff f) (sym none) tt))
+  still : (c : Contents) (f : Family) → Holds n c f → f run.net ≡ 0 → f ports.reset.net ≡ 0 → AllOff f n.updates
+  still c f h r z = w.still c f h r z (subst (AllOff f) (sym (w.added.updates ∙ w.empty)) tt)
 
-  pub is_built : IsControl n nodes now q run → IsBuilt n nodes ticks now q run (standing layout delays words rank)
-  is_built h = record {
-    sound = w.closed.sound;
-    small = small_last;
-    control = controls h;
-    each = node_built;
-    outputs = outputs_built;
-    still = still;
-  }
+  pub is_built : IsControl n nodes now (control_tap nodes (standing layout storage.delays words rank)) nets run.net
+      → IsBuilt n nodes ticks now nets run.net (standing layout storage.delays words rank)
+  is_built h =
+      let position : IsPosition n run.net ports.reset.net storage.position.net =
+      record { register = h.position; cleared = h.cleared; steps = h.steps } in
+      record {
+        sound = w.grown.sound;
+        small = small_last;
+        control = record { position = position; shows = h.shows };
+        each = node_built position;
+        outputs = outputs_built;
+        still = still;
+      }

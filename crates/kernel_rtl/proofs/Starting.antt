@@ -1,5 +1,34 @@
 -- The position and the delays, as they are added.
-use Rattle.std.proofs.Common.{◌≡◌, ℕ, suc, ◌+◌, ◌<◌, ◌≤◌, true, List, [], ◌∷◌, ◌++◌, length, drop, get_or, Some, sym, ap, ◌∙◌, subst, arith, length-append, append_assoc, append-nil}
+use Rattle.std.proofs.Common.{
+  ◌≡◌,
+  ℕ,
+  suc,
+  ◌+◌,
+  ◌<◌,
+  ◌≤◌,
+  true,
+  false,
+  List,
+  [],
+  ◌∷◌,
+  ◌++◌,
+  length,
+  drop,
+  get_or,
+  Option,
+  Some,
+  None,
+  eqb,
+  refl,
+  sym,
+  ap,
+  ◌∙◌,
+  subst,
+  arith,
+  length-append,
+  append_assoc,
+  append-nil,
+}
 use Rattle.std.specs.Prelude.{All, slice_get, codes}
 use Rattle.std.specs.Option.{option_map}
 use Rattle.std.proofs.lemmas.List.Elements.{All-nil, All-cons}
@@ -12,6 +41,8 @@ use Rattle.rtl_ir.specs.Formed.{net_name}
 use Rattle.rtl_build.specs.declared.signal.Signal.{Signal}
 use Rattle.rtl_build.specs.Storage.{AddsRegister}
 use Rattle.rtl_delays.specs.declared.elements.Element.{Element}
+use Rattle.rtl_delays.specs.Extends.{Extends}
+use Rattle.rtl_delays.specs.Steps.{writes_reg}
 use Rattle.rtl_delays.specs.Names.MayName.{Position}
 use Rattle.rtl_delays.specs.Partial.{HasPortsAlone}
 use Rattle.rtl_delays.specs.Elements.{reg_of, mem_of, past, AreFree, HasElement}
@@ -19,7 +50,7 @@ use Rattle.rtl_delays.proofs.Begun.{no_position}
 use Rattle.rtl_delays.proofs.Extends.{register_extends, extends_on}
 use Rattle.rtl_delays.proofs.Grown.{same_name}
 use Rattle.rtl_delays.proofs.Kept.{register_one}
-use Rattle.rtl_delays.proofs.Lists.{get_last}
+use Rattle.rtl_delays.proofs.Lists.{get_last, or_both}
 use Rattle.rtl_delays.proofs.Stored.{register_stored}
 use Rattle.rtl_delays.proofs.Undriven.{register_undriven, undriven_on}
 use Rattle.stream_graph.specs.declared.kernel.Kernel.{Kernel}
@@ -31,8 +62,10 @@ use Rattle.kernel_layout.specs.declared.layout.Layout.{Layout}
 use Rattle.kernel_layout.specs.Stages.{AreStages}
 use Rattle.kernel_stages.specs.Numbers.{AreRising, IsWidth}
 use Rattle.kernel_stages.proofs.Lists.{drop_front, drop_all}
-use Rattle.kernel_stages.specs.Chains.{joined}
+use Rattle.kernel_stages.specs.Chains.{is_register_of}
 use Rattle.kernel_stages.specs.Starting.{AddsChains}
+use Rattle.kernel_states.specs.States.{state_at, IsState, AreStates, AreFree as AreFreeStates}
+use Rattle.kernel_states.specs.Starting.{AddsStates}
 use Rattle.kernel_rtl.specs.declared.storage.Storage.{Storage}
 use Rattle.kernel_rtl.specs.Planned.{AreNear, IsPlanned, widths_of}
 use Rattle.kernel_rtl.specs.Storage.{AddsPosition, AddsStorage}
@@ -58,15 +91,42 @@ position_added m n name s alone named a =
       stored = register_stored a;
     }
 
--- a free list begins where it has to
-begins : (m : Module) (a b k : ℕ) (es : List Element) (nets mems : ℕ) → a ≡ b → AreFree m a k es nets mems → AreFree m b k es nets mems
-begins m a b k es nets mems e h = subst (λ x. AreFree m x k es nets mems) e h
+-- ---- states in larger modules
 
-pub storage_added : (l m n : Module) (nodes : List Node) (widths : List ℕ) (stages : List (List ℕ)) (s : Storage) → HasPortsAlone l → widths ≡ widths_of nodes
-    → AddsPosition l m s.position → AddsChains m n widths stages s.delays → AddsStorage l n nodes stages s
-storage_added l m n nodes widths stages s alone same p h =
-    let c = subst (λ ws. AddsChains m n ws stages s.delays) same h in
-    let e = c.extends in
+pub states_on : (m n : Module) (nodes : List Node) (states : List (Option Signal)) → Extends m n → AreStates m nodes states → AreStates n nodes states
+states_on m n nodes states e h = record { counted = h.counted; each = λ k lt. on k (state_at states k) (h.each k lt) }
+  where
+    on : (k : ℕ) (o : Option Signal) → IsState m nodes k o → IsState n nodes k o
+    on k None q = q
+    on k (Some s) q = (q.0, record { signal = e.keeps s q.1.signal; register = e.registers s q.1.register; width = q.1.width })
+
+pub states_end : (m : Module) (k : ℕ) (states : List (Option Signal)) (nets : ℕ) → AreFreeStates m k states nets → k ≤ nets
+states_end m k [] nets h = h
+states_end m k (None ∷ states) nets h = states_end m k states nets h
+states_end m k (Some s ∷ states) nets h = let a = h.0 in let b = states_end m (s.net + 1) states nets h.2 in omega (arith, a, b)
+
+-- registers that were free still are, if none among their numbers was written
+module _ (m n : Module) (lo hi : ℕ) (left : (r : ℕ) → lo ≤ r → r < hi → writes_reg r m.updates ≡ false → writes_reg r n.updates ≡ false) where
+  pub states_left : (k : ℕ) (states : List (Option Signal)) → lo ≤ k → AreFreeStates m k states hi → AreFreeStates n k states hi
+  states_left k [] le h = h
+  states_left k (None ∷ states) le h = states_left k states le h
+  states_left k (Some s ∷ states) le h =
+      let a = h.0 in
+      let b = states_end m (s.net + 1) states hi h.2 in
+      (a, left s.net (omega (arith, a, le)) (omega (arith, b)) h.1, states_left (s.net + 1) states (omega (arith, a, le)) h.2)
+
+-- a free list begins where it has to
+starts : (m : Module) (a b : ℕ) (states : List (Option Signal)) (nets : ℕ) → a ≡ b → AreFreeStates m a states nets → AreFreeStates m b states nets
+starts m a b states nets e h = subst (λ x. AreFreeStates m x states nets) e h
+
+-- ---- all that is stored
+
+pub storage_added : (l m k n : Module) (nodes : List Node) (widths : List ℕ) (stages : List (List ℕ)) (s : Storage) → HasPortsAlone l
+    → widths ≡ widths_of nodes → AddsPosition l m s.position → AddsStates m k nodes s.states → AddsChains k n widths stages s.delays
+    → AddsStorage l n nodes stages s
+storage_added l m k n nodes widths stages s alone same p a h =
+    let c = subst (λ ws. AddsChains k n ws stages s.delays) same h in
+    let e = extends_on a.extends c.extends in
     record {
       extends = extends_on p.extends e;
       wide = record {
@@ -75,21 +135,39 @@ storage_added l m n nodes widths stages s alone same p h =
         width = p.wide.width;
       };
       named = same_name m n e.grows s.position.net p.wide.register.net ∙ p.named;
+      states = states_on k n nodes s.states c.extends a.are;
+      between = length k.nets;
+      states_free =
+          let at = s.position.net + 1 in
+          states_left k n at (length k.nets) (λ r lo hi none. ap (writes_reg r) c.updates ∙ none) at s.states (omega arith)
+          (starts k (length m.nets) at s.states (length k.nets) p.last a.free);
       late = c.late;
       widths = c.wide;
-      memory = length m.mems;
-      free = begins n (length m.nets) (s.position.net + 1) (length m.mems) (joined s.delays) (length n.nets) (length n.mems) p.last c.free;
-      updates = c.updates ∙ p.updates;
-      only = λ k reg other none. p.only k (c.only k reg none) other;
-      undriven = undriven_on l m n p.extends.grows p.undriven c.undriven;
-      stored = let a = p.stored in let b = c.stored in omega (arith, a, b);
-      nets = let a = p.nets in let b = c.nets in omega (arith, a, b);
-      mems = let a = position_mems l m s.position alone p in let b = c.mems in omega (arith, a, b);
+      memory = length k.mems;
+      free = c.free;
+      updates = c.updates ∙ a.updates ∙ p.updates;
+      only = λ r reg other state none. p.only r (a.only r (c.only r reg none) state) other;
+      undriven = undriven_on l m n p.extends.grows p.undriven (undriven_on m k n a.extends.grows a.undriven c.undriven);
+      stored = let x = p.stored in let y = a.stored in let z = c.stored in omega (arith, x, y, z);
+      nets = let x = p.nets in let y = a.nets in let z = c.nets in omega (arith, x, y, z);
+      mems = let x = position_mems l m s.position alone p in let y = ap length a.mems in let z = c.mems in omega (arith, x, y, z);
     }
 
 pub all_stand : (m : Module) (a b : ℕ) (es : List Element) (nets mems : ℕ) → AreFree m a b es nets mems → All (HasElement m) es
 all_stand m a b [] nets mems h = All-nil (HasElement m)
 all_stand m a b (e ∷ es) nets mems h = All-cons (HasElement m) e es h.2 (all_stand m (reg_of e + 1) (past b (mem_of e)) es nets mems h.4)
+
+-- numbers before the first free one are none of these
+pub early_register : (m : Module) (a b : ℕ) (es : List Element) (nets mems : ℕ) → AreFree m a b es nets mems → (r : ℕ) → r < a
+    → is_register_of es r ≡ false
+early_register m a b [] nets mems h r lt = refl
+early_register m a b (e ∷ es) nets mems h r lt =
+    let le = h.0 in
+    or_both (eqb (reg_of e) r) (is_register_of es r) (above (reg_of e) r (omega (arith, le, lt)))
+    (early_register m (reg_of e + 1) (past b (mem_of e)) es nets mems h.4 r (omega (arith, le, lt)))
+  where
+    above : (n k : ℕ) → k < n → eqb n k ≡ false
+    above n k q = grind (arith, q)
 
 -- ---- the stages of nodes
 

@@ -1,5 +1,34 @@
 -- The nets from which nodes read their operands.
-use Rattle.std.proofs.Common.{◌≡◌, ℕ, zero, suc, ◌+◌, ◌-◌, ◌<◌, inl, inr, Bool, true, false, cond, eqb, eqb-true, List, [], ◌∷◌, map, length, get_or, refl, sym, ap, ◌∙◌, subst, arith, ⊎_elim}
+use Rattle.std.proofs.Common.{
+  ◌≡◌,
+  ℕ,
+  zero,
+  suc,
+  ◌+◌,
+  ◌-◌,
+  ◌<◌,
+  inl,
+  inr,
+  Bool,
+  true,
+  false,
+  cond,
+  eqb,
+  eqb-true,
+  List,
+  [],
+  ◌∷◌,
+  map,
+  length,
+  get_or,
+  refl,
+  sym,
+  ap,
+  ◌∙◌,
+  subst,
+  arith,
+  ⊎_elim,
+}
 use Rattle.std.specs.Prelude.{ℤ, pos, ◌-ℤ◌, ◌≤ℤ◌, unsigned_abs, Contains}
 use Rattle.std.proofs.lemmas.Bool.{cases_Bool}
 use Rattle.std.proofs.lemmas.Int.{ints}
@@ -168,6 +197,25 @@ waiting to from offset delay ticks behind b d h = record {
   sum = omega (arith, ints, b, d, h);
 }
 
+-- ---- what is kept
+
+-- the word of a read is kept so late as it is read
+pub kept_stage : (nodes : List Node) (ticks : ℕ → ℕ) (times : Numbers) (stages : List (List ℕ)) → IsOrderly nodes
+    → AreAllStages nodes ticks times (length nodes) stages → (n i : ℕ) (read : Read) → n < length nodes → is_offset (kind_at nodes n) ≡ false
+    → i < length (operands_at nodes n) → IsRead nodes times n (operand_at nodes n i) read → (read.behind ≡ 0 → ⊥)
+    → Contains (stages_at stages read.source) read.behind
+kept_stage nodes ticks times stages orderly all n i read ln f li r waits =
+    let offset = (source_of nodes (operand_at nodes n i)).offset in
+    let moves : is_steady (kind_at nodes read.source) ≡ false = ⊎_elim
+    (λ (e : is_steady (kind_at nodes read.source) ≡ true). absurd (waits (r.steady e)))
+    (λ (e : is_steady (kind_at nodes read.source) ≡ false). e)
+    (cases_Bool (is_steady (kind_at nodes read.source))) in
+    let a = edge_among nodes n i ln f li (ap (λ u. is_steady (kind_at nodes u)) (sym r.source) ∙ moves) in
+    let at = among_is (edges_of nodes) a.0 _ (record { from = 0; to = 0; offset = pos 0 }) a.1 in
+    let late = ap (behind_of times) at ∙ ap (λ u. (times n -ℤ times u) -ℤ offset) (sym r.source) ∙ sym (r.moving moves) in
+    ((all.each read.source r.inside).each read.behind).1
+    (positive read.behind waits, inr (a.0, among_within (edges_of nodes) a.0 _ a.1, ap (λ (e : Edge). e.from) at ∙ sym r.source, late))
+
 -- ---- taps
 
 -- The word of a node is that of its signal, its taps are the nets of its reads, and its rank is that
@@ -251,10 +299,8 @@ module _ (m : Module) (nodes : List Node) (ticks : ℕ → ℕ) (times : Numbers
       ap (λ x. ((x -ℤ pos (now src)) -ℤ pos (ticks src)) -ℤ offset) (whole (times n) (kept.begin n ln))
       ∙ ap (λ x. ((times n -ℤ x) -ℤ pos (ticks src)) -ℤ offset) (whole (times src) (kept.begin src inside)) in
       let has : (read.behind ≡ 0 → ⊥) → Contains (stages_at layout.stages src) read.behind = λ some.
-      let e = (kept.stages.each src inside).each read.behind in
-      let from : (edge_at (edges_of nodes) j.0).from ≡ src = ap (λ (x : Edge). x.from) j.2 in
-      let late : behind_of times (edge_at (edges_of nodes) j.0) ≡ pos read.behind = ap (behind_of times) j.2 ∙ sym moving in
-      e.1 (positive read.behind some, inr (j.0, j.1, from, late)) in
+      subst (λ u. Contains (stages_at layout.stages u) read.behind) r.source
+      (kept_stage nodes ticks times layout.stages kept.orderly kept.stages n i read ln f li r some) in
       let tap = is_tap src read.behind read r.source refl inside has in
       record {
         delay = wt.wait;

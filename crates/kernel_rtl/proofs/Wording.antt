@@ -1,37 +1,86 @@
 -- The words of nodes, as they are added.
-use Rattle.std.proofs.Common.{◌≡◌, ℕ, zero, suc, ◌+◌, ◌<◌, true, false, List, [], ◌∷◌, ◌++◌, map, length, get_or, Some, refl, sym, ap, ◌∙◌, subst, arith}
-use Rattle.std.specs.Prelude.{All, slice_get}
+use Rattle.std.proofs.Common.{
+  ◌≡◌,
+  ℕ,
+  zero,
+  suc,
+  ◌<◌,
+  Bool,
+  true,
+  false,
+  cond,
+  eqb,
+  List,
+  [],
+  ◌∷◌,
+  ◌++◌,
+  map,
+  length,
+  get_or,
+  Option,
+  Some,
+  None,
+  refl,
+  sym,
+  ap,
+  ◌∙◌,
+  subst,
+  arith,
+}
+use Rattle.std.specs.Prelude.{All}
 use Rattle.std.proofs.lemmas.Bool.{false≢true}
 use Rattle.std.proofs.lemmas.List.Elements.{All-nil, All-cons}
+use Rattle.std.proofs.lemmas.List.{get_or_default}
 use Rattle.rtl_ir.specs.declared.design.Module.{Module}
 use Rattle.rtl_ir.specs.Value.{Family, Contents}
 use Rattle.rtl_ir.specs.Grow.{Holds}
 use Rattle.rtl_build.specs.declared.signal.Signal.{Signal}
 use Rattle.rtl_delays.specs.declared.elements.Element.{Element}
 use Rattle.rtl_delays.specs.Elements.{shown, HasElement}
+use Rattle.rtl_delays.specs.Extends.{Extends}
 use Rattle.rtl_delays.proofs.Extends.{more_nets, extends_on}
 use Rattle.rtl_delays.proofs.Kept.{no_register_on}
 use Rattle.rtl_delays.proofs.Started.{shown_signal}
 use Rattle.stream_graph.specs.declared.node.Kind.{Kind}
 use Rattle.stream_graph.specs.declared.node.Kind.TheVariants as K
 use Rattle.stream_graph.specs.declared.node.Node.{Node}
-use Rattle.offset_edges.specs.Edges.{kind_at, width_at}
-use Rattle.kernel_control.specs.Ports.{is_input, inputs_of}
+use Rattle.offset_edges.specs.Edges.{kind_at, operands_at, width_at, is_offset}
+use Rattle.offset_edges.proofs.NodeLemmas.{IsOrderly}
+use Rattle.kernel_control.specs.Nets.{MayEnable}
 use Rattle.kernel_control.specs.Outputs.{AreUndriven}
 use Rattle.kernel_control.proofs.Outs.{AllUnder, undriven_kept}
 use Rattle.kernel_layout.specs.declared.layout.Layout.{Layout}
+use Rattle.kernel_layout.specs.Reads.{no_read, read_at, reads_count}
+use Rattle.kernel_ports.specs.declared.signals.NodeSignal.{NodeSignal}
 use Rattle.kernel_ports.specs.declared.signals.StreamSignals.{StreamSignals}
 use Rattle.kernel_ports.specs.declared.signals.KernelSignals.{KernelSignals}
-use Rattle.kernel_ports.specs.HasKernelPorts.{IsInputPort, IsOutputPort}
+use Rattle.kernel_ports.specs.HasKernelPorts.{IsScalarPort, IsInputPort, IsOutputPort}
 use Rattle.kernel_stages.specs.Chains.{joined, chain_at, AreChains, AreWide}
 use Rattle.kernel_stages.proofs.Chaining.{chains_length}
-use Rattle.kernel_wiring.specs.Words.{has_word, is_wired, signal_at, taps_at, IsWordOf, AreGiven, AreLate}
+use Rattle.kernel_states.specs.Digits.{counts}
+use Rattle.kernel_states.specs.States.{has_state, state_at, IsState, IsStateRegister, AreStates}
+use Rattle.kernel_wiring.specs.declared.timing.Timing.{Timing}
+use Rattle.kernel_wiring.specs.Words.{has_word, is_wired, is_given, signal_at, reads_at, taps_at, control_at, IsWordOf, AreGiven, AreLate, IsLaidOut, IsReadIn}
 use Rattle.kernel_wiring.specs.OneNode.{IsWired}
 use Rattle.kernel_wiring.specs.AllNodes.{AddsNodes}
-use Rattle.kernel_rtl.specs.Planned.{is_plain_kind, IsPlain, widths_of}
-use Rattle.kernel_rtl.specs.Words.{IsGivenWord, AreGivenWords, late_signals, data_nets, MayBeDriven, DrivesWords, HasStreams, AddsWords}
-use Rattle.kernel_rtl.proofs.Numbers.{map_got, map_length, all_mapped, all_unmapped, all_weaker, all_both, item_at, has_number, IsNodeOf, inputs_are, outputs_are}
-use Rattle.kernel_rtl.proofs.Taps.{late_chain, stage_length}
+use Rattle.kernel_wiring.specs.Controls.{AreThere}
+use Rattle.kernel_rtl.specs.declared.storage.Storage.{Storage}
+use Rattle.kernel_rtl.specs.Planned.{widths_of}
+use Rattle.kernel_rtl.specs.Words.{
+  IsGivenBy,
+  IsGivenWord,
+  IsGivenScalar,
+  AreGivenWords,
+  late_signals,
+  data_nets,
+  net_or_zero,
+  MayBeDriven,
+  DrivesWords,
+  HasStreams,
+  AddsWords,
+}
+use Rattle.kernel_rtl.proofs.Numbers.{map_length, all_mapped, all_unmapped, all_weaker, all_both, item_at, IsNodeOf, scalars_are, inputs_are, outputs_are}
+use Rattle.kernel_rtl.proofs.Taps.{late_chain, stage_length, kept_stage}
 
 -- ---- delays
 
@@ -81,56 +130,76 @@ are_late m nodes stages delays counted late wide stand =
           subst (All (IsWordOf m nodes n)) (sym (late_chain delays n ln)) (all_mapped shown (IsWordOf m nodes n) (chain_at delays n) shows);
     }
 
--- ---- inputs
-
-zero_sum : (n : ℕ) → 0 + n ≡ n
-zero_sum n = omega arith
-
-pub given_input : (nodes : List Node) (inputs : List StreamSignals) (words : List Signal) (count : ℕ) → AreGivenWords count inputs words
-    → map (λ (port : StreamSignals). port.node) inputs ≡ inputs_of nodes → (n : ℕ) → n < length nodes → kind_at nodes n ≡ K.Input → IsGivenWord inputs words n
-given_input nodes inputs words count given same n lt kind =
-    let j = has_number is_input 0 nodes n lt (ap is_input kind) in
-    let at : slice_get (map (λ (port : StreamSignals). port.node) inputs) j.0 ≡ Some n = ap (λ xs. slice_get xs j.0) same ∙ j.1 ∙ ap Some (zero_sum n) in
-    let port = map_got (λ (p : StreamSignals). p.node) inputs j.0 n at in
-    subst (IsGivenWord inputs words) port.1.1 (given.each port.0 j.0 port.1.0)
-
--- of the plain kinds, inputs alone have words that are given
-only_inputs : (k : Kind) → is_plain_kind k ≡ true → has_word k ≡ true → is_wired k ≡ false → k ≡ K.Input
-only_inputs K.Input p h w = refl
-only_inputs K.Output p h w = absurd (false≢true (sym w))
-only_inputs (K.Constant word) p h w = absurd (false≢true (sym w))
-only_inputs (K.Operation op mode amount) p h w = absurd (false≢true (sym w))
-only_inputs K.Feed p h w = absurd (false≢true (sym w))
-only_inputs (K.Offset ticks) p h w = absurd (false≢true h)
-only_inputs K.Scalar p h w = absurd (false≢true p)
-only_inputs K.Hold p h w = absurd (false≢true p)
-only_inputs K.Counter p h w = absurd (false≢true p)
-only_inputs K.Chain p h w = absurd (false≢true p)
-only_inputs (K.Part place) p h w = absurd (false≢true p)
+-- ---- words that are given
 
 word_given : (m : Module) (nodes : List Node) (inputs : List StreamSignals) (words : List Signal) (n : ℕ) → All (IsInputPort nodes m) inputs
     → IsGivenWord inputs words n → IsWordOf m nodes n (signal_at words n)
 word_given m nodes inputs words n ports g =
     let p = item_at (IsInputPort nodes m) inputs ports g.place g.port g.at in
-    let here : IsWordOf m nodes n g.port.word = record { signal = p.word.signal; bits = p.word.width ∙ ap (width_at nodes) g.node } in
-    subst (IsWordOf m nodes n) (sym g.word) here
+    let here : IsWordOf m nodes n g.port.word = record { signal = p.word.signal; bits = p.word.width ∙ ap (width_at nodes) g.own } in
+    subst (IsWordOf m nodes n) (sym g.is) here
 
-pub are_given : (m : Module) (nodes : List Node) (ports : KernelSignals) (words : List Signal) → IsPlain nodes → HasStreams m nodes ports
-    → AreGivenWords (length nodes) ports.inputs words → AreGiven m nodes words
-are_given m nodes ports words plain streams given = record {
+scalar_given : (m : Module) (nodes : List Node) (scalars : List NodeSignal) (words : List Signal) (n : ℕ) → All (IsScalarPort nodes m) scalars
+    → IsGivenScalar scalars words n → IsWordOf m nodes n (signal_at words n)
+scalar_given m nodes scalars words n ports g =
+    let p = item_at (IsScalarPort nodes m) scalars ports g.place g.port g.at in
+    let here : IsWordOf m nodes n g.port.signal = record { signal = p.signal.signal; bits = p.signal.width ∙ ap (width_at nodes) g.own } in
+    subst (IsWordOf m nodes n) (sym g.is) here
+
+-- the register of a node that keeps a state
+pub record HasState (m : Module) (nodes : List Node) (states : List (Option Signal)) (n : ℕ) : Type 0 where
+  pub register : Signal
+  pub at : state_at states n ≡ Some register
+  pub stands : IsStateRegister m nodes n register
+
+pub state_of : (m : Module) (nodes : List Node) (states : List (Option Signal)) (n : ℕ) → AreStates m nodes states → n < length nodes
+    → has_state (kind_at nodes n) ≡ true → HasState m nodes states n
+state_of m nodes states n a lt has = by_state (state_at states n) refl (a.each n lt)
+  where
+    by_state : (o : Option Signal) → state_at states n ≡ o → IsState m nodes n o → HasState m nodes states n
+    by_state None e h = absurd (false≢true (sym h ∙ has))
+    by_state (Some s) e h = record { register = s; at = e; stands = h.1 }
+
+state_given : (m : Module) (nodes : List Node) (states : List (Option Signal)) (words : List Signal) (n : ℕ) → HasState m nodes states n
+    → ((s : Signal) → state_at states n ≡ Some s → signal_at words n ≡ s) → IsWordOf m nodes n (signal_at words n)
+state_given m nodes states words n h given =
+    let here : IsWordOf m nodes n h.register = record { signal = h.stands.signal; bits = h.stands.width } in
+    subst (IsWordOf m nodes n) (sym (given h.register h.at)) here
+
+pub are_given : (m : Module) (nodes : List Node) (ports : KernelSignals) (states : List (Option Signal)) (words : List Signal) → HasStreams m nodes ports
+    → AreStates m nodes states → AreGivenWords nodes ports states words → AreGiven m nodes words
+are_given m nodes ports states words streams stand given = record {
   counted = given.counted;
-  each = λ n lt has not_wired.
-      word_given m nodes ports.inputs words n streams.inputs
-      (given_input nodes ports.inputs words (length nodes) given streams.input_nodes n lt (only_inputs (kind_at nodes n) (plain.kinds n lt) has not_wired));
+  each = λ n lt has. by_kind n lt (kind_at nodes n) refl has;
 }
+  where
+    kept : (n : ℕ) → n < length nodes → has_state (kind_at nodes n) ≡ true → IsWordOf m nodes n (signal_at words n)
+    kept n lt has = state_given m nodes states words n (state_of m nodes states n stand lt has) (λ s e. given.kept n s lt e)
 
-pub inputs_within : (m : Module) (nodes : List Node) (ports : KernelSignals) → HasStreams m nodes ports
-    → All (λ (port : StreamSignals). port.node < length nodes) ports.inputs
-inputs_within m nodes ports h =
-    all_weaker (λ (port : StreamSignals). IsNodeOf nodes K.Input port.node) (λ (port : StreamSignals). port.node < length nodes) ports.inputs
-    (all_unmapped (λ (port : StreamSignals). port.node) (IsNodeOf nodes K.Input) ports.inputs
-    (subst (All (IsNodeOf nodes K.Input)) (sym h.input_nodes) (inputs_are nodes)))
-    (λ port q. q.within)
+    by_kind : (n : ℕ) → n < length nodes → (k : Kind) → kind_at nodes n ≡ k → is_given k ≡ true → IsWordOf m nodes n (signal_at words n)
+    by_kind n lt K.Input e has = word_given m nodes ports.inputs words n streams.inputs (given.inputs n lt e)
+    by_kind n lt K.Scalar e has = scalar_given m nodes ports.scalars words n streams.scalars (given.scalars n lt e)
+    by_kind n lt K.Hold e has = kept n lt (ap has_state e)
+    by_kind n lt K.Counter e has = kept n lt (ap has_state e)
+    by_kind n lt K.Chain e has = kept n lt (ap has_state e)
+    by_kind n lt K.Output e has = absurd (false≢true has)
+    by_kind n lt (K.Constant word) e has = absurd (false≢true has)
+    by_kind n lt (K.Operation op mode amount) e has = absurd (false≢true has)
+    by_kind n lt (K.Offset ticks) e has = absurd (false≢true has)
+    by_kind n lt K.Feed e has = absurd (false≢true has)
+    by_kind n lt (K.Part place) e has = absurd (false≢true has)
+
+pub input_ports : (m : Module) (nodes : List Node) (ports : KernelSignals) → HasStreams m nodes ports
+    → All (λ (port : StreamSignals). IsNodeOf nodes K.Input port.node) ports.inputs
+input_ports m nodes ports h =
+    all_unmapped (λ (port : StreamSignals). port.node) (IsNodeOf nodes K.Input) ports.inputs
+    (subst (All (IsNodeOf nodes K.Input)) (sym h.input_nodes) (inputs_are nodes))
+
+pub scalar_ports : (m : Module) (nodes : List Node) (ports : KernelSignals) → HasStreams m nodes ports
+    → All (λ (port : NodeSignal). IsNodeOf nodes K.Scalar port.node) ports.scalars
+scalar_ports m nodes ports h =
+    all_unmapped (λ (port : NodeSignal). port.node) (IsNodeOf nodes K.Scalar) ports.scalars
+    (subst (All (IsNodeOf nodes K.Scalar)) (sym h.scalar_nodes) (scalars_are nodes))
 
 pub output_ports : (m : Module) (nodes : List Node) (ports : KernelSignals) → HasStreams m nodes ports
     → All (λ (port : StreamSignals). IsNodeOf nodes K.Output port.node) ports.outputs
@@ -140,10 +209,10 @@ output_ports m nodes ports h =
 
 -- ---- outputs
 
-pub may_drive : (m n : Module) (nodes : List Node) (layout : Layout) (late : List (List Signal)) (before after : List Signal) (ports : KernelSignals)
-    → HasStreams m nodes ports
-    → length before ≡ length nodes → AddsNodes m n nodes layout late before after → All (MayBeDriven n after) ports.outputs
-may_drive m n nodes layout late before after ports h counted a =
+pub may_drive : (m n : Module) (nodes : List Node) (layout : Layout) (late : List (List Signal)) (timing : Timing) (before after : List Signal)
+    (ports : KernelSignals) → HasStreams m nodes ports → length before ≡ length nodes → AddsNodes m n nodes layout late timing before after
+    → All (MayBeDriven n after) ports.outputs
+may_drive m n nodes layout late timing before after ports h counted a =
     all_weaker (λ (port : StreamSignals). IsOutputPort nodes m port × IsNodeOf nodes K.Output port.node) (MayBeDriven n after) ports.outputs
     (all_both (IsOutputPort nodes m) (λ (port : StreamSignals). IsNodeOf nodes K.Output port.node) ports.outputs h.outputs (output_ports m nodes ports h))
     (λ port q.
@@ -160,71 +229,138 @@ data_under : (m : Module) (nodes : List Node) (ys : List StreamSignals) → All 
 data_under m nodes [] h = tt
 data_under m nodes (y ∷ ys) h = ((h 0 y (omega arith)).word.output.net, data_under m nodes ys (λ i d lt. h (suc i) d (omega arith)))
 
-pub still_undriven : (m n : Module) (nodes : List Node) (layout : Layout) (late : List (List Signal)) (before after : List Signal) (ports : KernelSignals)
-    → HasStreams m nodes ports
-    → AddsNodes m n nodes layout late before after → AreUndriven m (data_nets ports.outputs) → AreUndriven n (data_nets ports.outputs)
-still_undriven m n nodes layout late before after ports h a u =
+pub still_undriven : (m n : Module) (nodes : List Node) (layout : Layout) (late : List (List Signal)) (timing : Timing) (before after : List Signal)
+    (ports : KernelSignals) → HasStreams m nodes ports → AddsNodes m n nodes layout late timing before after → AreUndriven m (data_nets ports.outputs)
+    → AreUndriven n (data_nets ports.outputs)
+still_undriven m n nodes layout late timing before after ports h a u =
     undriven_kept m n a.wires.undriven (data_nets ports.outputs) (data_under m nodes ports.outputs h.outputs) u
+
+-- ---- words that are read
+
+some_count : (b : Bool) (size i : ℕ) → i < cond b 0 size → (b ≡ false) × (i < size)
+some_count true size i h = absurd (omega (arith, h))
+some_count false size i h = (refl, h)
+
+-- the words of all reads are there
+pub are_there : (m : Module) (nodes : List Node) (layout : Layout) (late : List (List Signal)) (words : List Signal) → IsOrderly nodes
+    → IsLaidOut nodes layout → AreLate m nodes layout.stages late → length words ≡ length nodes → AreThere layout late words nodes
+are_there m nodes layout late words o laid shows same n lt i d li =
+    let all = laid.is.reads.each n lt in
+    let counted = all.counted in
+    let below : i < reads_count nodes n = omega (arith, li, counted) in
+    let some = some_count (is_offset (kind_at nodes n)) (length (operands_at nodes n)) i below in
+    let read = read_at (reads_at layout n) i in
+    let r = all.each i below in
+    let inside = r.inside in
+    let stages = laid.is.stages.counted in
+    let signals = shows.counted in
+    let here : IsReadIn layout.stages late words read = record {
+      source = omega (arith, inside, same);
+      later = λ waits. record {
+        node = omega (arith, inside, stages);
+        known = omega (arith, inside, signals);
+        same = shows.same read.source inside;
+        kept = kept_stage nodes laid.ticks laid.times layout.stages o laid.is.stages n i read lt some.0 some.1 r waits;
+      };
+    } in
+    subst (IsReadIn layout.stages late words) (get_or_default (reads_at layout n) i no_read d li) here
 
 -- ---- all of it
 
-wired_kept : (m n : Module) (nodes : List Node) (taps : List ℕ) (net v : ℕ) (k : Kind) → ((c : Contents) (f : Family) → Holds n c f → Holds m c f)
-    → IsWired m nodes taps net v k → IsWired n nodes taps net v k
-wired_kept m n nodes taps net v K.Output before w = w
-wired_kept m n nodes taps net v (K.Constant word) before w = λ c f h. w c f (before c f h)
-wired_kept m n nodes taps net v (K.Operation op mode amount) before w = λ c f h. w c f (before c f h)
-wired_kept m n nodes taps net v K.Feed before w = w
-wired_kept m n nodes taps net v K.Input before w = tt
-wired_kept m n nodes taps net v K.Scalar before w = tt
-wired_kept m n nodes taps net v (K.Offset ticks) before w = tt
-wired_kept m n nodes taps net v K.Hold before w = tt
-wired_kept m n nodes taps net v K.Counter before w = tt
-wired_kept m n nodes taps net v K.Chain before w = tt
-wired_kept m n nodes taps net v (K.Part place) before w = tt
+-- wires in a larger module, and what a hold keeps by another name
+wired_on : (m n : Module) (nodes : List Node) (timing : Timing) (taps : List ℕ) (kept kept' net v : ℕ) (k : Kind)
+    → ((c : Contents) (f : Family) → Holds n c f → Holds m c f) → (k ≡ K.Hold → kept ≡ kept') → IsWired m nodes timing taps kept net v k
+    → IsWired n nodes timing taps kept' net v k
+wired_on m n nodes timing taps kept kept' net v K.Output before same w = w
+wired_on m n nodes timing taps kept kept' net v (K.Constant word) before same w = λ c f h. w c f (before c f h)
+wired_on m n nodes timing taps kept kept' net v (K.Operation op mode amount) before same w = λ c f h. w c f (before c f h)
+wired_on m n nodes timing taps kept kept' net v K.Feed before same w = w
+wired_on m n nodes timing taps kept kept' net v (K.Part place) before same w = record {
+  chain = w.chain;
+  first = w.first;
+  shows = λ c f h. w.shows c f (before c f h);
+}
+wired_on m n nodes timing taps kept kept' net v K.Hold before same w = record {
+  from = w.from;
+  first = w.first;
+  store = w.store;
+  second = w.second;
+  on = w.on;
+  stores = λ c f h. w.stores c f (before c f h);
+  shows = λ c f h. w.shows c f (before c f h) ∙ ap (λ x. cond (eqb (f w.on) 1) (f w.from) (f x)) (same refl);
+}
+wired_on m n nodes timing taps kept kept' net v K.Input before same w = tt
+wired_on m n nodes timing taps kept kept' net v K.Scalar before same w = tt
+wired_on m n nodes timing taps kept kept' net v (K.Offset ticks) before same w = tt
+wired_on m n nodes timing taps kept kept' net v K.Counter before same w = tt
+wired_on m n nodes timing taps kept kept' net v K.Chain before same w = tt
 
-pub words_added : (l m n : Module) (nodes : List Node) (layout : Layout) (ports : KernelSignals) (delays : List (List Element)) (before after : List Signal)
-    → HasStreams l nodes ports
-    → AreGivenWords (length nodes) ports.inputs before → AddsNodes l m nodes layout (late_signals delays) before after → DrivesWords m n after ports.outputs
-    → AddsWords l n nodes layout ports delays after
-words_added l m n nodes layout ports delays before after streams given a d =
-    let w = a.wires in
-    let e = d.extends in record {
-      extends = extends_on w.extends e;
-      updates = d.updates ∙ w.updates;
-      stored = d.stored ∙ w.stored;
-      nets = let x = ap length d.nets in let y = w.nets in omega (arith, x, y);
-      registers = no_register_on l m n w.registers d.registers;
-      leaves = λ k lt free none. d.leaves k (let q = more_nets w.extends.grows in omega (arith, q, lt)) (w.undriven k lt free) none;
-      driven = d.driven;
-      shows = d.shows;
-      counted = a.counted ∙ given.counted;
-      given = λ k lt kind.
-          let g = given_input nodes ports.inputs before (length nodes) given streams.input_nodes k lt kind in record {
-            place = g.place;
-            port = g.port;
-            at = g.at;
-            node = g.node;
-            word = a.given k (ap is_wired kind) ∙ g.word;
-          };
-      stand = λ k lt has. let q = a.words k lt has in record { signal = e.keeps (signal_at after k) q.signal; bits = q.bits };
-      built = λ k lt. wired_kept m n nodes (taps_at layout (late_signals delays) after k) (signal_at after k).net k (kind_at nodes k) e.before (a.built k lt);
-    }
+-- counters get no wires
+counts_given : (k : Kind) → counts k ≡ true → is_wired k ≡ false
+counts_given K.Counter h = refl
+counts_given K.Chain h = refl
+counts_given K.Input h = refl
+counts_given K.Scalar h = refl
+counts_given (K.Offset ticks) h = refl
+counts_given K.Output h = absurd (false≢true h)
+counts_given (K.Constant word) h = absurd (false≢true h)
+counts_given (K.Operation op mode amount) h = absurd (false≢true h)
+counts_given K.Feed h = absurd (false≢true h)
+counts_given K.Hold h = absurd (false≢true h)
+counts_given (K.Part place) h = absurd (false≢true h)
 
--- whatever the lists are called
-pub nodes_named : (m n : Module) (nodes : List Node) (layout : Layout) (late late' : List (List Signal)) (before before' after : List Signal) → late ≡ late'
-    → before ≡ before'
-    → AddsNodes m n nodes layout late before after → AddsNodes m n nodes layout late' before' after
-nodes_named m n nodes layout late late' before before' after e f a =
-    subst (λ l. AddsNodes m n nodes layout l before' after) e (subst (λ b. AddsNodes m n nodes layout late b after) f a)
+given_moved : {A : Type 0} (node : A → ℕ) (word : A → Signal) (ports : List A) (before after : List Signal) (n : ℕ)
+    → signal_at after n ≡ signal_at before n → IsGivenBy node word ports before n → IsGivenBy node word ports after n
+given_moved node word ports before after n same g =
+    record { place = g.place; port = g.port; at = g.at; own = g.own; is = same ∙ g.is }
 
-pub given_named : (n n' : ℕ) (inputs inputs' : List StreamSignals) (words : List Signal) → n ≡ n' → inputs ≡ inputs' → AreGivenWords n inputs words
-    → AreGivenWords n' inputs' words
-given_named n n' inputs inputs' words e f g = subst (λ k. AreGivenWords k inputs' words) e (subst (λ l. AreGivenWords n l words) f g)
+enable_on : (m n : Module) (o : Option Signal) → Extends m n → MayEnable m o → MayEnable n o
+enable_on m n None e h = tt
+enable_on m n (Some s) e h = record { signal = e.keeps s h.signal; width = h.width }
 
-pub within_named : (n n' : ℕ) (inputs inputs' : List StreamSignals) → n' ≡ n → inputs' ≡ inputs → All (λ (port : StreamSignals). port.node < n) inputs
-    → All (λ (port : StreamSignals). port.node < n') inputs'
-within_named n n' inputs inputs' e f h =
-    subst (λ k. All (λ (port : StreamSignals). port.node < k) inputs') (sym e) (subst (All (λ (port : StreamSignals). port.node < n)) (sym f) h)
+module _ (l m n : Module) (nodes : List Node) (layout : Layout) (ports : KernelSignals) (storage : Storage) (timing : Timing) (before after : List Signal)
+    (streams : HasStreams l nodes ports) (stand : AreStates l nodes storage.states) (given : AreGivenWords nodes ports storage.states before)
+    (a : AddsNodes l m nodes layout (late_signals storage.delays) timing before after) (d : DrivesWords m n after ports.outputs) where
+  -- what is given of a hold is its register
+  hold_kept : (k : ℕ) → k < length nodes → kind_at nodes k ≡ K.Hold → (signal_at before k).net ≡ net_or_zero (state_at storage.states k)
+  hold_kept k lt kind =
+      let s = state_of l nodes storage.states k stand lt (ap has_state kind) in
+      ap (λ (x : Signal). x.net) (given.kept k s.register lt s.at) ∙ sym (ap net_or_zero s.at)
+
+  pub words_added : AreThere layout (late_signals storage.delays) after nodes → AddsWords l n nodes layout ports storage timing after
+  words_added there =
+      let w = a.wires in
+      let e = d.extends in
+      record {
+        extends = extends_on w.extends e;
+        updates = d.updates ∙ w.updates;
+        stored = d.stored ∙ w.stored;
+        nets = let x = ap length d.nets in let y = w.nets in omega (arith, x, y);
+        registers = no_register_on l m n w.registers d.registers;
+        leaves = λ k lt free none. d.leaves k (let q = more_nets w.extends.grows in omega (arith, q, lt)) (w.undriven k lt free) none;
+        driven = d.driven;
+        shows = d.shows;
+        counted = a.counted ∙ given.counted;
+        inputs = λ k lt kind. given_moved (λ (p : StreamSignals). p.node) (λ (p : StreamSignals). p.word) ports.inputs before after k
+            (a.given k (ap is_wired kind)) (given.inputs k lt kind);
+        scalars = λ k lt kind. given_moved (λ (p : NodeSignal). p.node) (λ (p : NodeSignal). p.signal) ports.scalars before after k
+            (a.given k (ap is_wired kind)) (given.scalars k lt kind);
+        states = λ k s lt has at. a.given k (counts_given (kind_at nodes k) has) ∙ given.kept k s lt at;
+        stand = λ k lt has. let q = a.words k lt has in record { signal = e.keeps (signal_at after k) q.signal; bits = q.bits };
+        built = λ k lt.
+            wired_on m n nodes timing (taps_at layout (late_signals storage.delays) after k) (signal_at before k).net
+            (net_or_zero (state_at storage.states k)) (signal_at after k).net k (kind_at nodes k) e.before (hold_kept k lt) (a.built k lt);
+        there = there;
+        controls = λ k lt. enable_on m n (control_at nodes layout (late_signals storage.delays) after k) e (a.controls k lt);
+      }
+
+-- ---- whatever the lists are called
+
+pub nodes_named : (m n : Module) (nodes : List Node) (layout : Layout) (late late' : List (List Signal)) (timing : Timing)
+    (before before' after : List Signal) → late ≡ late' → before ≡ before' → AddsNodes m n nodes layout late timing before after
+    → AddsNodes m n nodes layout late' timing before' after
+nodes_named m n nodes layout late late' timing before before' after e f a =
+    subst (λ l. AddsNodes m n nodes layout l timing before' after) e (subst (λ b. AddsNodes m n nodes layout late timing b after) f a)
 
 pub may_named : (m : Module) (words words' : List Signal) (outputs outputs' : List StreamSignals) → words' ≡ words → outputs' ≡ outputs
     → All (MayBeDriven m words) outputs → All (MayBeDriven m words') outputs'

@@ -1,5 +1,5 @@
 // The module of a kernel.
-ghost use Rattle.std.specs.Prelude.{◌≡◌, ◌+◌, ◌≤◌, ◌<◌, ◌^◌, length, IfOk, IsTrue};
+ghost use Rattle.std.specs.Prelude.{◌≡◌, ◌+◌, ◌≤◌, ◌<◌, ◌^◌, ◌≤ℤ◌, ℕ, pos, length, IfOk, IsTrue};
 ghost use Rattle.cycle_find.specs.Constraints.{numbers_of};
 ghost use Rattle.rtl_ir.specs.Ports.{is_plain_name};
 ghost use Rattle.rtl_delays.specs.Partial.{IsPartial};
@@ -7,16 +7,21 @@ ghost use Rattle.rtl_delays.specs.Stored.{stored_bits};
 ghost use Rattle.rtl_reading.specs.Reads.{IsPortsFirst};
 ghost use Rattle.kernel_control.specs.Refines.{Refines};
 ghost use Rattle.kernel_stages.specs.Numbers.{ring_count, all_word_bits, all_pointer_bits};
-ghost use Rattle.kernel_rtl.specs.Planned.{IsPlain, IsPlanned, times_of, widths_of, most_nets};
+ghost use Rattle.kernel_states.specs.States.{state_bits};
+ghost use Rattle.kernel_wiring.specs.Timing.{time_at};
+ghost use Rattle.kernel_rtl.specs.Planned.{IsPlanned, times_of, widths_of, most_nets};
 
 use crate::control::control;
 use crate::storage::start_storage;
-use crate::words::add_words;
+use crate::words::{add_words, late_signals};
+use counter_chains::chains_by_ticks;
 use kernel_layout::Layout;
 use kernel_ports::kernel_ports;
 use kernel_stages::close_stages;
-use mx_base::NoMemory;
-use rtl_build::Netlist;
+use kernel_states::{AdvanceNets, close_states, digits_are_sound};
+use kernel_wiring::{Timing, port_controls};
+use mx_base::{List, NoMemory};
+use rtl_build::{Netlist, Signal};
 use rtl_ir::Module;
 use std::alloc::Global;
 use stream_graph::Kernel;
@@ -33,11 +38,38 @@ fn finished(netlist: Netlist) -> Module
     module
 }
 
+// By what the module knows in which tick a node is: the times of nodes, none of which is below 0.
+fn timing(
+    alloc: Global,
+    kernel: &Kernel,
+    position: Signal,
+    ticks: Signal,
+    times: &[i64],
+) -> Result<Timing, NoMemory>
+    requires all { length kernel.now.nodes ≤ length times.now }
+    requires begin { (v : ℕ) → v < length kernel.now.nodes → pos 0 ≤ℤ numbers_of times.now v }
+    ensures position { IfOk result (λ timing. timing.position ≡ position) }
+    ensures ticks { IfOk result (λ timing. timing.ticks ≡ ticks) }
+    ensures counted { IfOk result (λ timing. length timing.times ≡ length kernel.now.nodes) }
+    ensures times { IfOk result (λ timing. (v : ℕ) → v < length kernel.now.nodes
+        → time_at timing v ≡ times_of times.now v) }
+{
+    let mut whole = List::new(alloc);
+    for node in 0..kernel.count() as usize {
+        whole.push(times[node] as u64)?;
+    }
+    Ok(Timing {
+        position,
+        ticks,
+        times: whole,
+    })
+}
+
 /// The module of a kernel at these times, by a layout at them: it refines the kernel, its ports are
-/// its first nets, in their order, and it stores the 48 bits of its position, the words that its
-/// nodes' stages keep, and the pointers of those that are kept in memories. Its nets are at most
-/// `most_nets`, named by their numbers past its ports (`IsPartial`), and it has a memory for each
-/// ring.
+/// its first nets, in their order, and it stores the 48 bits of its position, the states of its
+/// holds, counters and chains, the words that its nodes' stages keep, and the pointers of those
+/// that are kept in memories. Its nets are at most `most_nets`, named by their numbers past its
+/// ports (`IsPartial`), and it has a memory for each ring.
 ///
 /// The kernel's name is a letter and then letters, digits and `_`. Times are in advances, from 0 to
 /// 2^46, in node order. The only error is `NoMemory`, also where the module has 2^32 nets.
@@ -48,24 +80,47 @@ pub fn kernel_module(
     times: &[i64],
 ) -> Result<Module, NoMemory>
     requires name { IsTrue (is_plain_name kernel.now.name) }
-    requires plain { IsPlain kernel.now.nodes }
     requires times { length kernel.now.nodes ≤ length times.now }
     requires planned { IsPlanned kernel.now.nodes (numbers_of times.now) layout.now }
     ensures refines { IfOk result (λ built. Refines built kernel.now (times_of times.now)) }
     ensures ports_first { IfOk result IsPortsFirst }
     ensures stored { IfOk result (λ built. stored_bits built
-        ≡ 48 + all_word_bits (widths_of kernel.now.nodes) layout.now.stages
+        ≡ 48 + state_bits kernel.now.nodes
+        + all_word_bits (widths_of kernel.now.nodes) layout.now.stages
         + all_pointer_bits layout.now.stages) }
     ensures nets { IfOk result (λ built.
         length built.nets ≤ most_nets kernel.now.nodes layout.now.stages) }
     ensures mems { IfOk result (λ built. length built.mems ≤ ring_count layout.now.stages) }
     ensures partial { IfOk result IsPartial }
 {
+    // What counters are, and how the words of chains hold them.
+    digits_are_sound(kernel);
+    chains_by_ticks();
     let (mut netlist, ports) = kernel_ports(alloc, kernel)?;
     let storage = start_storage(alloc, &mut netlist, kernel, layout)?;
+    let timing = timing(alloc, kernel, storage.position, ports.ticks, times)?;
+    let added = add_words(
+        alloc,
+        &mut netlist,
+        kernel,
+        layout,
+        &ports,
+        &storage,
+        &timing,
+    )?;
+    let words = added.as_slice();
     let delays = storage.delays.as_slice();
-    let words = add_words(alloc, &mut netlist, kernel, layout, &ports, delays)?;
-    let run = control(alloc, &mut netlist, &ports, storage.position, times)?;
-    close_stages(&mut netlist, run, ports.reset, words.as_slice(), delays)?;
+    let late = late_signals(alloc, delays)?;
+    let enables = port_controls(alloc, kernel, layout, late.as_slice(), words)?;
+    let run = control(alloc, &mut netlist, &ports, &timing, enables.as_slice())?;
+    close_stages(&mut netlist, run, ports.reset, words, delays)?;
+    let nets = AdvanceNets {
+        run,
+        reset: ports.reset,
+        position: storage.position,
+    };
+    let states = storage.states.as_slice();
+    let whole = timing.times.as_slice();
+    close_states(&mut netlist, kernel, states, words, whole, nets)?;
     Ok(finished(netlist))
 }

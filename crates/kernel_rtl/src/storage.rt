@@ -7,17 +7,20 @@ ghost use Rattle.kernel_rtl.specs.Storage.{AddsPosition, AddsStorage};
 
 use kernel_layout::Layout;
 use kernel_stages::start_stages;
+use kernel_states::start_states;
 use mx_base::{List, NoMemory, Text};
 use rtl_build::{Netlist, Signal};
 use rtl_delays::Element;
 use std::alloc::Global;
 use stream_graph::{Kernel, NodeId};
 
-/// The position of a kernel's module, a register of 48 bits, and the delays of its nodes' words:
-/// for each node, in node order, one for each of its stages.
+/// The position of a kernel's module, a register of 48 bits; for each node, in node order, the
+/// register of its state, if it keeps one; and for each the delays of its word, one for each of its
+/// stages.
 #[derive(Debug, Drop)]
 pub(crate) struct Storage {
     pub position: Signal,
+    pub states: List<Option<Signal>>,
     pub delays: List<List<Element>>,
 }
 
@@ -41,7 +44,8 @@ fn start_position(alloc: Global, netlist: &mut Netlist) -> Result<Signal, NoMemo
     netlist.register(name, 48)
 }
 
-/// Adds the position, and a delay for each stage of each node of the layout.
+/// Adds the position, a register for each node that keeps a state, and a delay for each stage of
+/// each node of the layout.
 pub(crate) fn start_storage(
     alloc: Global,
     netlist: &mut Netlist,
@@ -55,7 +59,12 @@ pub(crate) fn start_storage(
         (AddsStorage netlist.old netlist.new kernel.now.nodes layout.now.stages) }
 {
     let position = start_position(alloc, netlist)?;
+    let states = start_states(alloc, netlist, kernel)?;
     let widths = widths(alloc, kernel)?;
     let delays = start_stages(alloc, netlist, widths.as_slice(), layout.stages.as_slice())?;
-    Ok(Storage { position, delays })
+    Ok(Storage {
+        position,
+        states,
+        delays,
+    })
 }

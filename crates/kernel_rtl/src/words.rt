@@ -1,18 +1,22 @@
 // The words of a kernel's nodes.
-ghost use Rattle.std.specs.Prelude.{◌≡◌, ◌<◌, map, length, All, IfOk};
+ghost use Rattle.std.specs.Prelude.{◌≡◌, map, All, IfOk};
 ghost use Rattle.rtl_delays.specs.Steps.{IsSound};
 ghost use Rattle.rtl_delays.specs.Elements.{shown, HasElement};
 ghost use Rattle.kernel_control.specs.Outputs.{AreUndriven};
 ghost use Rattle.kernel_stages.specs.Chains.{joined, AreChains, AreWide};
 ghost use Rattle.kernel_wiring.specs.Words.{IsLaidOut};
-ghost use Rattle.kernel_rtl.specs.Planned.{IsPlain, widths_of};
+ghost use Rattle.rtl_ir.specs.declared.design.Module.{Module};
+ghost use Rattle.kernel_states.specs.States.{AreStates};
+ghost use Rattle.kernel_wiring.specs.Timing.{IsTiming};
+ghost use Rattle.kernel_rtl.specs.Planned.{widths_of};
 ghost use Rattle.kernel_rtl.specs.Words.{AreGivenWords, late_signals, data_nets};
 ghost use Rattle.kernel_rtl.specs.Words.{HasStreams, AddsWords};
 
 use crate::outputs::drive_words;
+use crate::storage::Storage;
 use kernel_layout::Layout;
-use kernel_ports::{KernelSignals, StreamSignals};
-use kernel_wiring::add_nodes;
+use kernel_ports::KernelSignals;
+use kernel_wiring::{Timing, add_nodes};
 use mx_base::{List, NoMemory};
 use rtl_build::{Netlist, Signal};
 use rtl_delays::Element;
@@ -30,8 +34,11 @@ fn shown(alloc: Global, chain: &[Element]) -> Result<List<Signal>, NoMemory>
     Ok(signals)
 }
 
-// Those of all nodes.
-fn late_signals(alloc: Global, delays: &[List<Element>]) -> Result<Vec<List<Signal>>, NoMemory>
+/// The signals that the delays of each node show.
+pub(crate) fn late_signals(
+    alloc: Global,
+    delays: &[List<Element>],
+) -> Result<Vec<List<Signal>>, NoMemory>
     ensures { IfOk result (λ late. late.items ≡ late_signals delays.now) }
 {
     let mut late = Vec::new(alloc);
@@ -41,20 +48,31 @@ fn late_signals(alloc: Global, delays: &[List<Element>]) -> Result<Vec<List<Sign
     Ok(late)
 }
 
-// A signal for each of so many nodes: of an input its port's word, and of each other node one in
-// whose place its word comes.
+// A signal for each node of a kernel: of an input or a scalar its port's, of a node that keeps a
+// state the register of it, and of each other node one in whose place its word comes.
 fn given_words(
     alloc: Global,
-    count: usize,
-    inputs: &[StreamSignals],
-    other: Signal,
+    kernel: &Kernel,
+    ports: &KernelSignals,
+    states: &[Option<Signal>],
 ) -> Result<Vec<Signal>, NoMemory>
-    requires { All (λ port. port.node < count) inputs.now }
-    ensures { IfOk result (λ words. AreGivenWords count inputs.now words.items) }
+    requires streams { (m : Module) × HasStreams m kernel.now.nodes ports.now }
+    requires states { (m : Module) × AreStates m kernel.now.nodes states.now }
+    ensures { IfOk result (λ words.
+        AreGivenWords kernel.now.nodes ports.now states.now words.items) }
 {
-    let mut words = vec![in alloc; other; count]?;
-    for port in inputs {
+    let count = kernel.count() as usize;
+    let mut words = vec![in alloc; ports.reset; count]?;
+    for port in ports.inputs.as_slice() {
         words[port.node as usize] = port.word;
+    }
+    for port in ports.scalars.as_slice() {
+        words[port.node as usize] = port.signal;
+    }
+    for node in 0..count {
+        if let Some(register) = states[node] {
+            words[node] = register;
+        }
     }
     Ok(words)
 }
@@ -67,28 +85,30 @@ pub(crate) fn add_words(
     kernel: &Kernel,
     layout: &Layout,
     ports: &KernelSignals,
-    delays: &[List<Element>],
+    storage: &Storage,
+    timing: &Timing,
 ) -> Result<Vec<Signal>, NoMemory>
     requires sound { IsSound netlist.old }
-    requires plain { IsPlain kernel.now.nodes }
     requires layout { IsLaidOut kernel.now.nodes layout.now }
     requires streams { HasStreams netlist.old kernel.now.nodes ports.now }
     requires undriven { AreUndriven netlist.old (data_nets ports.now.outputs) }
-    requires late { AreChains layout.now.stages delays.now }
-    requires wide { AreWide (widths_of kernel.now.nodes) delays.now }
-    requires delays { All (HasElement netlist.old) (joined delays.now) }
+    requires states { AreStates netlist.old kernel.now.nodes storage.now.states }
+    requires late { AreChains layout.now.stages storage.now.delays }
+    requires wide { AreWide (widths_of kernel.now.nodes) storage.now.delays }
+    requires delays { All (HasElement netlist.old) (joined storage.now.delays) }
+    requires timing { IsTiming netlist.old kernel.now.nodes timing.now }
     ensures { IfOk result (λ words. AddsWords netlist.old netlist.new kernel.now.nodes layout.now
-        ports.now delays.now words.items) }
+        ports.now storage.now timing.now words.items) }
 {
-    let late = late_signals(alloc, delays)?;
-    let count = kernel.count() as usize;
-    let mut words = given_words(alloc, count, ports.inputs.as_slice(), ports.reset)?;
+    let late = late_signals(alloc, storage.delays.as_slice())?;
+    let mut words = given_words(alloc, kernel, ports, storage.states.as_slice())?;
     add_nodes(
         alloc,
         netlist,
         kernel,
         layout,
         late.as_slice(),
+        timing,
         words.as_mut_slice(),
     )?;
     drive_words(netlist, words.as_slice(), ports.outputs.as_slice())?;

@@ -14,10 +14,11 @@ start_stages-requires-clause-stages c = subst (All AreRising) (sym c.as_slice-2.
 pub returns : goal.returns
 returns c =
     let m = c.start_position.new.netlist in
+    let k = c.start_states.new.netlist in
     let n = c.start_stages.new.netlist in
     let widths = c.as_slice.result.now in
     let chains = c.in_ok-delays.delays in
-    storage_added c.args.netlist.now m n c.args.kernel.now.nodes widths c.args.layout.now.stages
-    (record { position = c.in_ok-position.position; delays = chains }) c.requires.alone
-    (c.as_slice.ensures.value ∙ c.in_ok-widths.ensures) c.in_ok-position.ensures
-    (subst (λ stages. AddsChains m n widths stages chains) c.as_slice-2.ensures c.in_ok-delays.ensures)
+    storage_added c.args.netlist.now m k n c.args.kernel.now.nodes widths c.args.layout.now.stages
+    (record { position = c.in_ok-position.position; states = c.in_ok-states.states; delays = chains }) c.requires.alone
+    (c.as_slice.ensures.value ∙ c.in_ok-widths.ensures) c.in_ok-position.ensures c.in_ok-states.ensures
+    (subst (λ stages. AddsChains k n widths stages chains) c.as_slice-2.ensures c.in_ok-delays.ensures)
