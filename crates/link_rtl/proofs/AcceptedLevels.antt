@@ -201,11 +201,16 @@ module _ (kernel : Kernel) (m : Module) (d : Design) (project : IsProjectOf kern
       omega (arith, x))
       (omega (arith, y))
 
+  pub test_width : (t : ℕ) → t < 2 * length (outputs_of nodes) → width_of top (ended_net nodes + 1 + t) ≡ 1
+  test_width t lt =
+      let b = both in
+      width_link (ended_net nodes + 1 + t) (3 * own nodes + suc t) _ (wire_place nodes t lt) (omega arith)
+
   assigns_typed : (t : ℕ) (a : Assign) → slice_get top.assigns t ≡ Some a → IsTyped top (width_of top a.target) a.expr
   assigns_typed =
       let b = both in
       done_typed top (ended_port nodes) (ended_net nodes + 1) (ended_net nodes) (first_output nodes) (outputs_of nodes)
-      (λ t lt. width_link (ended_net nodes + 1 + t) (3 * own nodes + suc t) _ (wire_place nodes t lt) (omega arith))
+      test_width
       (width_link (ended_net nodes) (3 * own nodes + 0) _ (ended_place nodes) (omega arith))
       (λ i lt. let n = there (outputs_of nodes) i lt in width_port (first_output nodes + 3 * i + 1) _ (out_place nodes i n.0 n.1).second)
       (width_port (ended_port nodes) _ (done_place nodes))

@@ -86,7 +86,7 @@ stands kernel k p V Vs [] h = tt
 stands kernel k p V Vs (s ∷ ss) h = (λ due valid. stands_one kernel k p V Vs s h.0 valid, stands kernel k p V Vs ss h.1)
 
 -- each input takes a word just where the kernel advances and it is due
-abbrev Moves : TimedRun → ℕ → Bool → Family → List Input → Type 0
+abbrev pub Moves : TimedRun → ℕ → Bool → Family → List Input → Type 0
 Moves k p go kv [] = Unit {0}
 Moves k p go kv (s ∷ ss) = (moves s.inner.channel kv ≡ go && k.due s.inner.node p) × Moves k p go kv ss
 
@@ -95,7 +95,7 @@ takes_one go due valid ready e h =
     ap (λ n. eqb valid 1 && eqb n 1) e ∙ ap (λ b. eqb valid 1 && b) (test_bit (go && due))
     ∙ absorbed (eqb valid 1) (go && due) (λ t. let b = both_true go due t in needed due (eqb valid 1) b.1 (h b.0))
 
-taken : (k : TimedRun) (p : ℕ) (go : Bool) (kv : Family) (ss : List Input) → Takes k p go (map inner_of ss) kv → (go ≡ true → all_valid k p (map inner_of ss) kv ≡ true)
+pub taken : (k : TimedRun) (p : ℕ) (go : Bool) (kv : Family) (ss : List Input) → Takes k p go (map inner_of ss) kv → (go ≡ true → all_valid k p (map inner_of ss) kv ≡ true)
     → Moves k p go kv ss
 taken k p go kv [] t h = tt
 taken k p go kv (s ∷ ss) t h =
@@ -116,7 +116,7 @@ advancing k q p v h =
     record { valid = c.0; ready = c.1 }
 
 -- the input after the edge
-abbrev after : Families → Input → Input
+abbrev pub after : Families → Input → Input
 after V s = record {
   outer = s.outer;
   inner = s.inner;
@@ -147,7 +147,7 @@ after_one kernel k p go offers V Vs s i t offered =
       waits = in_next s.words s.queue s.rest (k.due s.inner.node) go p (a 2) (moves output a) (moves input a) (moves s.outer v) mo mi i.waits some next;
     }
 
-after_all : (kernel : ℕ) (k : TimedRun) (p n : ℕ) (go : Bool) (e : Event) (V : Families) (Vs : List Families) (ss : List Input) → AreInputs kernel k p (V ∷ Vs) ss
+pub after_all : (kernel : ℕ) (k : TimedRun) (p n : ℕ) (go : Bool) (e : Event) (V : Families) (Vs : List Families) (ss : List Input) → AreInputs kernel k p (V ∷ Vs) ss
     → Moves k p go (V (kernel ∷ [])) ss
     → OfferedAll e n (map outer_of ss) (map rest_of ss) (V [])
     → AreInputs kernel k (next_position go p) Vs (map (after V) ss)
@@ -157,15 +157,15 @@ after_all kernel k p n go e V Vs (s ∷ ss) h t o =
 
 -- ---- lists of inputs
 
-outer_after : (V : Families) (ss : List Input) → map outer_of (map (after V) ss) ≡ map outer_of ss
+pub outer_after : (V : Families) (ss : List Input) → map outer_of (map (after V) ss) ≡ map outer_of ss
 outer_after V [] = refl
 outer_after V (s ∷ ss) = ap (λ l. s.outer ∷ l) (outer_after V ss)
 
-inner_after : (V : Families) (ss : List Input) → map inner_of (map (after V) ss) ≡ map inner_of ss
+pub inner_after : (V : Families) (ss : List Input) → map inner_of (map (after V) ss) ≡ map inner_of ss
 inner_after V [] = refl
 inner_after V (s ∷ ss) = ap (λ l. s.inner ∷ l) (inner_after V ss)
 
-rest_after : (V : Families) (ss : List Input) → left_of (map outer_of ss) (map rest_of ss) (V []) ≡ map rest_of (map (after V) ss)
+pub rest_after : (V : Families) (ss : List Input) → left_of (map outer_of ss) (map rest_of ss) (V []) ≡ map rest_of (map (after V) ss)
 rest_after V [] = refl
 rest_after V (s ∷ ss) = ap (λ l. cond (moves s.outer (V [])) (drop 1 s.rest) s.rest ∷ l) (rest_after V ss)
 

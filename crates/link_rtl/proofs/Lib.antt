@@ -1,9 +1,13 @@
 pub mod Steps
 pub mod Inputs
 pub mod Outputs
+pub mod Timely
 pub mod Lookups
 pub mod Joins
 pub mod Runs
+pub mod Around
+pub mod InTime
+pub mod OnTime
 pub mod Storage
 pub mod Facts
 pub mod ShortNames

@@ -42,7 +42,7 @@ one_of k p go (z ∷ ys) v zero y e g r =
 one_of k p go (z ∷ ys) v (suc i) y e g r =
     one_of k p go ys v i y e g.2 (λ h. (both_true (not (k.due z.node p) || eqb (v z.channel.ready) 1) _ (r h)).1)
 
-gives_one : (go due : Bool) (valid ready : ℕ) → valid ≡ bit (go && due) → (go ≡ true → not due || eqb ready 1 ≡ true) → eqb valid 1 && eqb ready 1 ≡ go && due
+pub gives_one : (go due : Bool) (valid ready : ℕ) → valid ≡ bit (go && due) → (go ≡ true → not due || eqb ready 1 ≡ true) → eqb valid 1 && eqb ready 1 ≡ go && due
 gives_one go due valid ready e h =
     ap (λ n. eqb n 1 && eqb ready 1) e ∙ ap (λ b. b && eqb ready 1) (test_bit (go && due))
     ∙ absorbed_right (go && due) (eqb ready 1) (λ t. let b = both_true go due t in needed due (eqb ready 1) b.1 (h b.0))

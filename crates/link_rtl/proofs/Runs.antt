@@ -1,21 +1,22 @@
 -- The design runs as the stream equations.
-use Rattle.std.proofs.Common.{◌≡◌, ℕ, suc, ◌+◌, ◌*◌, ◌<◌, Bool, true, false, cond, ◌&&◌, eqb, List, [], ◌∷◌, map, Some, length, refl, sym, ap, ◌∙◌, subst, arith}
+use Rattle.std.proofs.Common.{◌≡◌, ℕ, suc, ◌+◌, ◌*◌, ◌≤◌, ◌<◌, ◌^◌, Bool, true, false, cond, ◌&&◌, eqb}
+use Rattle.std.proofs.Common.{List, [], ◌∷◌, map, Some, length, refl, sym, ap, ◌∙◌, subst, arith}
 use Rattle.std.specs.Prelude.{slice_get}
 use Rattle.rtl_ir.specs.declared.design.Design.{Design}
 use Rattle.rtl_ir.specs.declared.design.Module.{Module}
 use Rattle.rtl_ir.specs.Value.{Family, Contents}
 use Rattle.rtl_ir.specs.Edge.{after_edge}
-use Rattle.rtl_ir.specs.Flat.{Families}
+use Rattle.rtl_ir.specs.Flat.{Families, AllContents, EdgesFlat}
 use Rattle.rtl_ir.specs.Parts.{own_of, below_all}
-use Rattle.rtl_ir.specs.Run.{Channel, Outer, moves, moved, NoneAccepted, Driven, Agrees}
+use Rattle.rtl_ir.specs.Run.{Channel, Outer, Event, moves, moved, NoneAccepted, Driven, IsDriven, Agrees}
 use Rattle.rtl_ir.specs.Ports as ports
 use Rattle.rtl_ir.specs.Ports.{net_at, channels_from, nets_from}
 use Rattle.stream_graph.specs.declared.kernel.Kernel.{Kernel}
 use Rattle.stream_graph.specs.declared.node.Node.{Node}
-use Rattle.stream_equations.specs.Equations.{GivenRun, Values}
-use Rattle.stream_equations.specs.Words.{port_words}
-use Rattle.kernel_control.specs.Ports.{inputs_of, outputs_of, scalars_of, port_shape, first_input, first_output, channels_of, nets_of}
-use Rattle.kernel_control.specs.Refines.{TimedRun, timed_run, KernelRuns, Refines}
+use Rattle.stream_equations.specs.Equations.{GivenRun, Values, StreamEquations}
+use Rattle.stream_equations.specs.Words.{IsGuarded, port_words}
+use Rattle.kernel_control.specs.Ports.{inputs_of, outputs_of, scalars_of, port_shape, first_input, first_output, ModuleNets, channels_of, nets_of}
+use Rattle.kernel_control.specs.Refines.{TimedRun, timed_run, Refines}
 use Rattle.link_rtl.specs.Shapes.{scalar_shape, shape_of, streams_of}
 use Rattle.link_rtl.specs.Tops.{kernel_nets, top_module, instance}
 use Rattle.link_rtl.specs.Projects.{IsProjectOf}
@@ -27,7 +28,7 @@ use Rattle.link_rtl.proofs.Lookups.{length_map, channel, port_channel, channel_a
 use Rattle.link_rtl.proofs.Joins.{ByLaw, kernel_part, IsInputRun, IsOutputRun, input_run, output_run, low_net, steady}
 
 -- the inputs behind the reset edge: nothing is in their FIFOs, and the host has all words
-abbrev begun : Module → Module → ℕ → ℕ → List ℕ → List (List ℕ) → List Input
+abbrev pub begun : Module → Module → ℕ → ℕ → List ℕ → List (List ℕ) → List Input
 begun top m j k [] words = []
 begun top m j k (n ∷ ns) [] = []
 begun top m j k (n ∷ ns) (ws ∷ words) =
@@ -121,15 +122,35 @@ module _ (kernel : Kernel) (m : Module) where
 same_input : (kernel : Kernel) → ports.first_input (shape_of kernel) ≡ first_input kernel.nodes
 same_input kernel = let l = length_map (scalar_shape kernel) (scalars_of kernel.nodes) in omega arith
 
-same_output : (kernel : Kernel) → ports.first_output (shape_of kernel) ≡ first_output kernel.nodes
+pub same_output : (kernel : Kernel) → ports.first_output (shape_of kernel) ≡ first_output kernel.nodes
 same_output kernel =
     let l = length_map (scalar_shape kernel) (scalars_of kernel.nodes) in
     let i = length_map (port_shape kernel.nodes) (inputs_of kernel.nodes) in
     omega arith
 
-pub runs : ByLaw → (kernel : Kernel) (m : Module) (times : ℕ → ℕ) (d : Design) → Refines m kernel times → IsProjectOf kernel m d → RunsAsEquations kernel d (top_module kernel)
-runs law kernel m times d refines project run val words es c [] small eqs guarded sources edges driven = absurd driven
-runs law kernel m times d refines project run val words es c (V ∷ Vs) small eqs guarded sources edges driven =
+-- the inputs of a kernel behind the reset edge
+abbrev pub inputs_begun : Kernel → Module → List (List ℕ) → List Input
+inputs_begun kernel m words = begun (top_module kernel) m 0 (first_input kernel.nodes) (inputs_of kernel.nodes) words
+
+-- what is known there: which these inputs are, and what the kernel shows in the edges behind
+pub record Begins (kernel : Kernel) (m : Module) (k : TimedRun) (q : ModuleNets) (words : List (List ℕ)) (Vs : List Families) : Type 0 where
+  pub outside : (ports.outer_of (shape_of kernel) (top_module kernel)).inputs ≡ map outer_of (inputs_begun kernel m words)
+  pub inside : q.inputs ≡ map inner_of (inputs_begun kernel m words)
+  pub rests : map rest_of (inputs_begun kernel m words) ≡ words
+  pub inputs : AreInputs (length (streams_of kernel.nodes)) k 0 Vs (inputs_begun kernel m words)
+  pub contents : Contents
+  pub shown : KernelShows m k q 0 contents (own_of (below_all (length (streams_of kernel.nodes)) Vs))
+
+pub begins : ByLaw → (kernel : Kernel) (m : Module) (times : ℕ → ℕ) (d : Design) (refines : Refines m kernel times) → IsProjectOf kernel m d
+    → (run : GivenRun) (val : Values) (words : List (List ℕ)) (es : List Event) (c : AllContents) (V : Families) (Vs : List Families)
+    → run.ticks ≤ 2 ^ 40
+    → StreamEquations kernel.nodes run val
+    → IsGuarded kernel.nodes run val
+    → AreSources run (inputs_of kernel.nodes) words
+    → EdgesFlat d (top_module kernel) c (V ∷ Vs)
+    → IsDriven (ports.outer_of (shape_of kernel) (top_module kernel)) (run.ticks ∷ map run.scalar (scalars_of kernel.nodes)) words es (own_of (V ∷ Vs))
+    → Begins kernel m (timed_run kernel.nodes times run val) (nets_of kernel.nodes m refines.position) words Vs
+begins law kernel m times d refines project run val words es c V Vs small eqs guarded sources edges driven =
     let nodes = kernel.nodes in
     let o = outer kernel m in
     let top = top_module kernel in
@@ -140,22 +161,43 @@ runs law kernel m times d refines project run val words es c (V ∷ Vs) small eq
     let g = kernel_part kernel m law d project c V Vs edges in
     let kv : Family = V (number ∷ []) in
     let reset : kv q.reset ≡ 1 = low_net kernel m 1 (V []) kv (omega arith) g.joins.0 ∙ driven.0.reset in
-    let held = steady kernel m (scalar_shape kernel) run.scalar run.ticks q o words es Vs (instance g.of g.name (kernel_nets nodes)) refl refl refl refl refl refl g.joins.1 driven.1 in
+    let held = steady kernel m (scalar_shape kernel) run.scalar run.ticks q o words es Vs (instance g.of g.name (kernel_nets nodes))
+    refl refl refl refl refl refl g.joins.1 driven.1 in
     let c' : Contents = after_edge m (c (number ∷ [])) kv in
-    let ran : KernelRuns m timed q 0 c' (own_of (below_all number Vs)) = refines.runs run val (c (number ∷ [])) kv (own_of (below_all number Vs)) small eqs guarded g.edges reset held in
+    let ran = refines.runs run val (c (number ∷ [])) kv (own_of (below_all number Vs)) small eqs guarded g.edges reset held in
     let first = first_input nodes in
-    let ss = begun top m 0 first (inputs_of nodes) words in
+    let ss = inputs_begun kernel m words in
     let xs : o.inputs ≡ map outer_of ss =
     ap (λ k. channels_from top k (map (port_shape nodes) (inputs_of nodes))) (same_input kernel)
     ∙ begun_outer (port_shape nodes) top m run 0 first (inputs_of nodes) words sources in
     let ys : q.inputs ≡ map inner_of ss = begun_inner top m run 0 first (inputs_of nodes) words sources in
     let ins = begun_inputs kernel m times run val Vs (inputs_of nodes) words 0 first sources (omega arith) (omega arith)
     (input_run kernel m law d project c V Vs edges o ticks words es refl driven.0.reset driven.1) in
-    let rests = subst (λ l. Driven o ticks l es (own_of Vs)) (sym (begun_rest top m run 0 first (inputs_of nodes) words sources)) driven.1 in
-    let shown : KernelShows m timed q 0 c' (own_of (below_all number Vs)) = shows number m timed q o ticks es Vs ss 0 c' xs ys ins rests ran in
-    let P : ℕ → Type 0 = λ k. NoneAccepted (channels_from top k (map (port_shape nodes) (outputs_of nodes))) (V []) → AllAgree nodes run val (channels_from top k (map (port_shape nodes) (outputs_of nodes))) (outputs_of nodes) (own_of (V ∷ Vs)) in
-    let all : P (first_output nodes) = λ none.
-    outputs_agree kernel m times run val (port_shape nodes) refines.position V Vs c' (outputs_of nodes) 0 (first_output nodes) (omega arith) (omega arith)
+    let rests = begun_rest top m run 0 first (inputs_of nodes) words sources in
+    let waits = subst (λ l. Driven o ticks l es (own_of Vs)) (sym rests) driven.1 in
+    record {
+      outside = xs;
+      inside = ys;
+      rests = rests;
+      inputs = ins;
+      contents = c';
+      shown = shows number m timed q o ticks es Vs ss 0 c' xs ys ins waits ran;
+    }
+
+pub runs : ByLaw → (kernel : Kernel) (m : Module) (times : ℕ → ℕ) (d : Design)
+    → Refines m kernel times → IsProjectOf kernel m d → RunsAsEquations kernel d (top_module kernel)
+runs law kernel m times d refines project run val words es c [] small eqs guarded sources edges driven = absurd driven
+runs law kernel m times d refines project run val words es c (V ∷ Vs) small eqs guarded sources edges driven =
+    let nodes = kernel.nodes in
+    let o = outer kernel m in
+    let top = top_module kernel in
+    let ticks = run.ticks ∷ map run.scalar (scalars_of nodes) in
+    let b = begins law kernel m times d refines project run val words es c V Vs small eqs guarded sources edges driven in
+    let at : ℕ → List Channel = λ k. channels_from top k (map (port_shape nodes) (outputs_of nodes)) in
+    let P : ℕ → Type 0 = λ k. NoneAccepted (at k) (V []) → AllAgree nodes run val (at k) (outputs_of nodes) (own_of (V ∷ Vs)) in
+    let first = first_output nodes in
+    let all : P first = λ none.
+    outputs_agree kernel m times run val (port_shape nodes) refines.position V Vs b.contents (outputs_of nodes) 0 first (omega arith) (omega arith)
     (λ t n h. let e : 0 + t ≡ t = omega arith in ap (λ j. slice_get (outputs_of nodes) j) e ∙ h)
-    (output_run kernel m law d project c V Vs edges o ticks words es refl driven.0.reset driven.1) none shown in
+    (output_run kernel m law d project c V Vs edges o ticks words es refl driven.0.reset driven.1) none b.shown in
     subst P (sym (same_output kernel)) all driven.0.none_accepted

@@ -10,6 +10,7 @@ use Rattle.kernel_control.specs.Refines.{Refines}
 use Rattle.link_rtl.specs.Tops.{top_module}
 use Rattle.link_rtl.specs.Projects.{IsProjectOf}
 use Rattle.link_rtl.specs.Words.{RunsAsEquations}
+use Rattle.link_rtl.specs.Times.{RunsOnTime}
 use Rattle.link_rtl.specs.Designs.{StoresParts, IsDesignOf}
 use Rattle.link_rtl.proofs.Facts.{has_shape, ports_first, is_top, stores_parts, few_nets}
 use Rattle.link_rtl.proofs.Storage.{bits, wires}
@@ -18,8 +19,9 @@ use Rattle.link_rtl.proofs.TextNames.{text_names}
 
 pub whole :
     (kernel : Kernel) (m : Module) (times : ℕ → ℕ) (d : Design)
-    → Refines m kernel times → IsProjectOf kernel m d → IsPortsFirst m → RunsAsEquations kernel d (top_module kernel) → IsAccepted d → IsDesignOf kernel m d
-whole kernel m times d refines project first runs accepted =
+    → Refines m kernel times → IsProjectOf kernel m d → IsPortsFirst m → RunsAsEquations kernel d (top_module kernel)
+    → RunsOnTime kernel d (top_module kernel) times → IsAccepted d → IsDesignOf kernel m times d
+whole kernel m times d refines project first runs on_time accepted =
     let parts : StoresParts kernel m d (top_module kernel) = stores_parts kernel m d project in
     let short = short_names kernel.nodes kernel.made in
     record {
@@ -29,6 +31,7 @@ whole kernel m times d refines project first runs accepted =
       shape = has_shape kernel;
       ports_first = ports_first kernel m d project first;
       runs = runs;
+      on_time = on_time;
       stored = parts;
       bits = bits kernel m d (top_module kernel) parts refines.instances;
       nets = few_nets kernel;

@@ -33,6 +33,7 @@ use Rattle.link_rtl.specs.Tops.{range}
 use Rattle.link_rtl.specs.Projects.{AreFifos}
 use Rattle.link_rtl.specs.Storage.{all_bits, all_nets, host_bits}
 use Rattle.link_rtl.specs.Words.{RunsAsEquations}
+use Rattle.link_rtl.specs.Times.{RunsOnTime}
 use Rattle.verilog_size.specs.Names.{inner_names, design_names}
 use Rattle.verilog_size.specs.Sizes.{size_of, design_size}
 
@@ -47,32 +48,35 @@ pub record StoresParts (kernel : Kernel) (m : Module) (d : Design) (top : Module
   pub no_memories : top.mems ≡ []
   pub no_updates : top.updates ≡ []
 
--- The design of a kernel whose module is this one: it keeps all rules of designs; the ports of its
--- top module are those of the kernel's shape; it runs as the stream equations; all its registers
--- and memories are those of the kernel's module and of the FIFOs; its wires are those of the
--- kernel's module and of the top module, and at most 64 for a FIFO; it has few parts and few bytes
--- of names beside those of the kernel's module, by the kernel's scalars, inputs and outputs and the
--- length of its name; and its names are such as a text has where those of the kernel's module are.
-pub record IsDesignOf (kernel : Kernel) (m : Module) (d : Design) : Type 0 where
-  pub accepted : IsAccepted d
-  pub top : Module
-  pub is_top : top_of d ≡ Some top
-  pub shape : HasShape top (shape_of kernel)
-  pub ports_first : ArePortsFirst d
-  pub runs : RunsAsEquations kernel d top
-  pub stored : StoresParts kernel m d top
-  pub bits : all_bits d ≡ stored_bits m + host_bits kernel.nodes
-  pub nets :
-      length top.nets
-      ≤ 16 + 8 * (length (scalars_of kernel.nodes) + length (streams_of kernel.nodes))
-  pub wires :
-      all_nets d ≤ length m.nets + length top.nets + 64 * length (streams_of kernel.nodes)
-  pub size :
-      design_size d
-      ≤ size_of m + 32
-      + 128 * (length (scalars_of kernel.nodes) + length (streams_of kernel.nodes))
-  pub names :
-      design_names d
-      ≤ inner_names m + (16 + 4 * length (scalars_of kernel.nodes)) * length kernel.name
-      + 2 ^ 14 * (1 + length (scalars_of kernel.nodes) + length (streams_of kernel.nodes))
-  pub text_names : HasTextNames m → All HasTextNames d.modules
+-- The design of a kernel whose module is this one, at these times: it keeps all rules of designs;
+-- the ports of its top module are those of the kernel's shape; it runs as the stream equations, and
+-- its words leave in time; all its registers and memories are those of the kernel's module and of
+-- the FIFOs; its wires are those of the kernel's module and of the top module, and at most 64 for a
+-- FIFO; it has few parts and few bytes of names beside those of the kernel's module, by the kernel's
+-- scalars, inputs and outputs and the length of its name; and its names are such as a text has where
+-- those of the kernel's module are.
+pub record IsDesignOf (kernel : Kernel) (m : Module) (times : ℕ → ℕ) (d : Design) : Type 0
+  where
+    pub accepted : IsAccepted d
+    pub top : Module
+    pub is_top : top_of d ≡ Some top
+    pub shape : HasShape top (shape_of kernel)
+    pub ports_first : ArePortsFirst d
+    pub runs : RunsAsEquations kernel d top
+    pub on_time : RunsOnTime kernel d top times
+    pub stored : StoresParts kernel m d top
+    pub bits : all_bits d ≡ stored_bits m + host_bits kernel.nodes
+    pub nets :
+        length top.nets
+        ≤ 16 + 8 * (length (scalars_of kernel.nodes) + length (streams_of kernel.nodes))
+    pub wires :
+        all_nets d ≤ length m.nets + length top.nets + 64 * length (streams_of kernel.nodes)
+    pub size :
+        design_size d
+        ≤ size_of m + 32
+        + 128 * (length (scalars_of kernel.nodes) + length (streams_of kernel.nodes))
+    pub names :
+        design_names d
+        ≤ inner_names m + (16 + 4 * length (scalars_of kernel.nodes)) * length kernel.name
+        + 2 ^ 14 * (1 + length (scalars_of kernel.nodes) + length (streams_of kernel.nodes))
+    pub text_names : HasTextNames m → All HasTextNames d.modules

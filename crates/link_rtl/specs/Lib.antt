@@ -3,6 +3,7 @@ pub mod Tops
 pub mod Projects
 pub mod Kept
 pub mod Words
+pub mod Times
 pub mod Storage
 pub mod Designs
 pub mod Nodes

@@ -99,15 +99,15 @@ fn top(alloc: Global, kernel: &Kernel, ports: &PortNodes) -> Result<Module, NoMe
 /// (IEEE 1364-2005, 12.1.2).
 ///
 /// Where `inner` refines the kernel at some times, and its ports are its first nets, the design
-/// keeps all rules of designs and runs as the kernel's stream equations. Over all instances it then
-/// stores the bits of `inner`, and 2 W + 3 for each input and output of width W: two words, a place
-/// of 1 bit and a count of 2.
+/// keeps all rules of designs, runs as the kernel's stream equations, and gives its words in time.
+/// Over all instances it then stores the bits of `inner`, and 2 W + 3 for each input and output of
+/// width W: two words, a place of 1 bit and a count of 2.
 ///
 /// The only error is `NoMemory`.
 pub fn design(alloc: Global, kernel: &Kernel, inner: Module) -> Result<Design, NoMemory>
     ensures project { IfOk result (IsProjectOf kernel.now inner) }
     ensures whole { (times : ℕ → ℕ) → Refines inner kernel.now times → IsPortsFirst inner
-        → IfOk result (IsDesignOf kernel.now inner) }
+        → IfOk result (IsDesignOf kernel.now inner times) }
 {
     design_of_project();
     let ports = PortNodes::of(alloc, kernel)?;

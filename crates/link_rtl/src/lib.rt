@@ -15,4 +15,7 @@ mod ports;
 mod wires;
 
 pub use building::design;
-pub use laws::{design_of_project, project_is_accepted, project_runs, refinement_keeps_rules};
+pub use laws::{
+    design_of_project, project_is_accepted, project_runs, project_runs_on_time,
+    refinement_keeps_rules,
+};
