@@ -12,6 +12,8 @@ use Rattle.offset_edges.proofs.NodeLemmas.{short_names}
 use Rattle.kernel_layout.specs.declared.layout.Layout.{Layout}
 use Rattle.kernel_control.specs.Ports.{is_scalar, scalars_of, inputs_of, outputs_of}
 use Rattle.kernel_stages.specs.Numbers.{stage_count, ring_count}
+use Rattle.kernel_states.proofs.Costs.{few_states}
+use Rattle.kernel_states.proofs.Kernels.{nets_few}
 use Rattle.kernel_wiring.specs.OneNode.{operand_count}
 use Rattle.link_rtl.proofs.Lookups.{get_behind, length_map}
 use Rattle.link_rtl.proofs.ShortNames.{length_own_ports}
@@ -64,5 +66,7 @@ bytes_few kernel times layout d text designed printed stages rings =
     let scalars = few_numbers is_scalar 0 nodes in
     let by_name = scalars_by_name kernel in
     let streams = length-append (inputs_of nodes) (outputs_of nodes) in
+    let states = few_states nodes in
+    let steps = nets_few nodes kernel.made in
     omega
-    (arith, own, ports, none, nets, mems, size, names, small, lines, scalars, by_name, streams, stages, rings)
+    (arith, own, ports, none, nets, mems, size, names, small, lines, scalars, by_name, streams, stages, rings, states, steps)

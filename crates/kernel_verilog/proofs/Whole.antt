@@ -21,13 +21,15 @@ use Rattle.kernel_layout.specs.declared.layout.Layout.{Layout}
 use Rattle.kernel_layout.specs.Layouts.{IsLayout}
 use Rattle.kernel_control.specs.Ports.{is_scalar, inputs_of, outputs_of}
 use Rattle.kernel_stages.specs.Numbers.{stage_count, ring_count, all_word_bits}
-use Rattle.kernel_rtl.specs.Planned.{IsPlain, widths_of}
+use Rattle.kernel_rtl.specs.Planned.{widths_of}
 use Rattle.kernel_plan.specs.Planned.{IsScheduled}
 use Rattle.kernel_plan.specs.declared.error.PlanError.{PlanError}
 use Rattle.kernel_plan.specs.declared.error.PlanError.TheVariants as P
 use Rattle.kernel_plan.specs.Refused.{bits_in}
 use Rattle.kernel_plan.specs.Refused as Plans
 use Rattle.kernel_plan.specs.Stored.{latency_bits}
+use Rattle.kernel_states.proofs.Costs.{few_states}
+use Rattle.kernel_states.proofs.Kernels.{nets_few}
 use Rattle.kernel_wiring.specs.OneNode.{operand_count}
 use Rattle.kernel_plan.proofs.Facts.{same_ticks, times_length}
 use Rattle.kernel_verilog.specs.declared.error.TextError.{TextError}
@@ -78,20 +80,19 @@ module _ (table : Table) (nodes : List Node) (schedule : Schedule)
 
 -- why a kernel that has no layout has no text
 pub plan_refused : (table : Table) (nodes : List Node) (schedule : Schedule)
-    → IsSchedulable table nodes → IsLeast table nodes schedule → IsPlain nodes
+    → IsSchedulable table nodes → IsLeast table nodes schedule
     → (error : PlanError) → Plans.IsRefused (bits_in nodes schedule) error
     → (r : Result KernelText TextError) → IsErrAnd r (λ e. e ≡ of_plan error)
     → IfErr r (IsRefused table nodes)
-plan_refused table nodes schedule schedulable least plain error h (Ok made) is = absurd is
-plan_refused table nodes schedule schedulable least plain (P.TooManyBits bits) h (Err e) is =
+plan_refused table nodes schedule schedulable least error h (Ok made) is = absurd is
+plan_refused table nodes schedule schedulable least (P.TooManyBits bits) h (Err e) is =
     subst (IsRefused table nodes) (sym is)
     (record {
       schedulable = schedulable;
-      plain = plain;
       needs = needs table nodes schedule least bits h.0;
       many = h.1;
     })
-plan_refused table nodes schedule schedulable least plain P.NoMemory h (Err e) is =
+plan_refused table nodes schedule schedulable least P.NoMemory h (Err e) is =
     subst (IsRefused table nodes) (sym is) tt
 
 -- ---- wires
@@ -109,13 +110,14 @@ wires_few kernel times layout d designed stages rings =
     let inner = designed.nets in
     let scalars = few_numbers is_scalar 0 nodes in
     let streams = length-append (inputs_of nodes) (outputs_of nodes) in
-    omega (arith, all, top, inner, scalars, streams, stages, rings)
+    let states = few_states nodes in
+    let steps = nets_few nodes kernel.made in
+    omega (arith, all, top, inner, scalars, streams, stages, rings, states, steps)
 
 -- ---- all of it
 
 module _ (table : Table) (kernel : Kernel) (schedule : Schedule)
-    (schedulable : IsSchedulable table kernel.nodes) (least : IsLeast table kernel.nodes schedule)
-    (plain : IsPlain kernel.nodes) where
+    (schedulable : IsSchedulable table kernel.nodes) (least : IsLeast table kernel.nodes schedule) where
   abbrev nodes : List Node
   nodes = kernel.nodes
 
@@ -135,7 +137,6 @@ module _ (table : Table) (kernel : Kernel) (schedule : Schedule)
       let own = designed.stored in
       record {
         schedulable = schedulable;
-        plain = plain;
         needs = needs table nodes schedule least bits are;
         few = few;
         begin = λ n h. least.earliest.non_negative n;

@@ -22,7 +22,6 @@ use Rattle.offset_edges.specs.declared.error.EdgeError.TheVariants as edge_error
 use Rattle.kernel_schedule.specs.declared.error.ScheduleError.TheVariants as schedule_errors
 use Rattle.kernel_schedule.specs.Refused as Schedules
 use Rattle.kernel_schedule.specs.Schedules.{IsSchedulable}
-use Rattle.kernel_rtl.specs.Planned.{IsPlain}
 use Rattle.kernel_plan.specs.declared.error.PlanError.{PlanError}
 use Rattle.kernel_plan.specs.declared.error.PlanError.TheVariants as P
 use Rattle.kernel_verilog.specs.declared.error.TextError.{TextError}
@@ -40,28 +39,20 @@ is_memory (E.Schedule (schedule_errors.Edges edge_errors.NoMemory)) = true
 is_memory E.NoMemory = true
 is_memory _ = false
 
--- the kernel has a schedule, and nodes that have no hardware yet
-pub record IsNotBuilt (table : Table) (nodes : List Node) : Type 0 where
-  pub schedulable : IsSchedulable table nodes
-  pub not_plain : IsPlain nodes → ⊥
-
--- all of it could be built, but for the bits of its FIFOs, which are at least so many
+-- the kernel has a schedule, but its FIFOs hold at least so many bits
 pub record NeedsTooMany (table : Table) (nodes : List Node) (bits : ℕ) : Type 0 where
   pub schedulable : IsSchedulable table nodes
-  pub plain : IsPlain nodes
   pub needs : NeedsBits table nodes bits
   pub many : 2 ^ 28 < bits
 
 -- the cause of each error. Want of memory has none
 abbrev pub IsRefused : Table → List Node → TextError → Type 0
 IsRefused table nodes (E.Schedule error) = Schedules.IsRefused table nodes error
-IsRefused table nodes E.NotBuilt = IsNotBuilt table nodes
 IsRefused table nodes (E.TooManyBits bits) = NeedsTooMany table nodes bits
 IsRefused table nodes E.NoMemory = Unit {0}
 
 -- the line that is said of a kernel of this name. Want of memory says none
 abbrev pub said : List ℕ → TextError → Option (List ℕ)
 said kernel (E.Schedule error) = Schedules.said kernel error
-said kernel E.NotBuilt = Some (refused (codes "N0") [])
 said kernel (E.TooManyBits bits) = Some (refused (codes "B1") (kernel ∷ decimal bits ∷ []))
 said kernel E.NoMemory = None

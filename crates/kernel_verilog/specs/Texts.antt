@@ -28,8 +28,9 @@ use Rattle.kernel_schedule.specs.Schedules.{IsSchedulable}
 use Rattle.kernel_layout.specs.declared.layout.Layout.{Layout}
 use Rattle.kernel_layout.specs.Layouts.{IsLayout}
 use Rattle.kernel_stages.specs.Numbers.{ring_count, all_word_bits, all_pointer_bits}
+use Rattle.kernel_states.specs.States.{state_bits}
 use Rattle.kernel_control.specs.Refines.{Refines}
-use Rattle.kernel_rtl.specs.Planned.{IsPlain, times_of, widths_of, most_nets}
+use Rattle.kernel_rtl.specs.Planned.{times_of, widths_of, most_nets}
 use Rattle.kernel_plan.specs.Stored.{latency_bits}
 use Rattle.link_fifo.specs.TextNames.{HasTextNames}
 use Rattle.link_rtl.specs.Designs.{IsDesignOf}
@@ -43,10 +44,10 @@ pub record IsDesigned (kernel : Kernel) (times : List ℤ) (layout : Layout) (d 
   where
     pub inner : Module
     pub refines : Refines inner kernel (times_of times)
-    pub is : IsDesignOf kernel inner d
+    pub is : IsDesignOf kernel inner (times_of times) d
     pub stored :
         stored_bits inner
-        ≡ 48 + all_word_bits (widths_of kernel.nodes) layout.stages
+        ≡ 48 + state_bits kernel.nodes + all_word_bits (widths_of kernel.nodes) layout.stages
         + all_pointer_bits layout.stages
     pub nets : length inner.nets ≤ most_nets kernel.nodes layout.stages
     pub mems : length inner.mems ≤ ring_count layout.stages
@@ -62,14 +63,14 @@ pub record IsPrinted (d : Design) (text : List ℕ) : Type 0 where
 
 -- The text of a kernel whose FIFOs hold so many bits, which are the fewest by a table of latencies
 -- and at most 2^28. It is one of a design of the kernel, whose module refines the kernel at the
--- times of a least schedule from 0 on. All registers and memories of the design are these: the
+-- times of a least schedule from 0 on, and whose words leave in time (`is.on_time`). All registers and memories of the design are these: the
 -- FIFOs of the schedule; for each node its width times its latency; the position of 48 bits; the
--- pointers of the words that are kept in memories; and the FIFOs of the inputs and outputs. For
+-- states of holds, counters and chains; the pointers of the words that are kept in memories; and the
+-- FIFOs of the inputs and outputs. For
 -- each part of the kernel the design has at most 2^11 wires and the text at most 2^18 bytes. Each
 -- name in it has a `$`, is a letter with digits, or is one of four, so none is a reserved word.
 pub record IsTextOf (table : Table) (kernel : Kernel) (text : List ℕ) (bits : ℕ) : Type 0 where
   pub schedulable : IsSchedulable table kernel.nodes
-  pub plain : IsPlain kernel.nodes
   pub needs : NeedsBits table kernel.nodes bits
   pub few : bits ≤ 2 ^ 28
   pub begin : (n : ℕ) → n < length kernel.nodes → pos 0 ≤ℤ needs.times n
@@ -77,12 +78,13 @@ pub record IsTextOf (table : Table) (kernel : Kernel) (text : List ℕ) (bits : 
   pub printed : IsPrinted design text
   pub inner : Module
   pub refines : Refines inner kernel (λ n. unsigned_abs (needs.times n))
-  pub is : IsDesignOf kernel inner design
+  pub is : IsDesignOf kernel inner (λ n. unsigned_abs (needs.times n)) design
   pub layout : Layout
   pub laid : IsLayout kernel.nodes (ticks_of table kernel.nodes) needs.times layout
   pub stored :
       all_bits design
       ≡ bits + latency_bits (ticks_of table kernel.nodes) kernel.nodes + 48
+      + state_bits kernel.nodes
       + all_pointer_bits layout.stages
       + host_bits kernel.nodes
   pub wires : all_nets design ≤ 2 ^ 11 * part_count kernel

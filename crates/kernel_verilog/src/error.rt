@@ -16,8 +16,6 @@ use std::alloc::Global;
 pub enum TextError {
     /// L1, C1 and C2: the kernel has no schedule.
     Schedule(ScheduleError),
-    /// N0: the kernel has nodes that have no hardware yet.
-    NotBuilt,
     /// B1: the FIFOs of each schedule hold at least so many bits, which are more than 2^28.
     TooManyBits(u128),
     /// No memory was left.
@@ -34,14 +32,13 @@ fn line_of_bits(alloc: Global, kernel: &Text, bits: u128) -> Result<Vec<u8>, NoM
 }
 
 impl TextError {
-    /// The line that is said of the fault of a kernel of this name: its code, L1, C1, C2, N0 or B1,
-    /// and what `ScheduleError` says, nothing, or the kernel and its bits. Want of memory says none.
+    /// The line that is said of the fault of a kernel of this name: its code, L1, C1, C2 or B1, and
+    /// what `ScheduleError` says, or the kernel and its bits. Want of memory says none.
     pub fn line(&self, alloc: Global, kernel: &Text) -> Result<Vec<u8>, NoMemory>
         ensures { IfOk result (λ line. said kernel.now self.now ≡ Some line.items) }
     {
         match self {
             TextError::Schedule(error) => error.line(alloc, kernel),
-            TextError::NotBuilt => refusal_line(alloc, "N0", &[]),
             TextError::TooManyBits(bits) => line_of_bits(alloc, kernel, *bits),
             TextError::NoMemory => Err(NoMemory),
         }

@@ -4,7 +4,7 @@ ghost use Rattle.cycle_find.specs.Constraints.{numbers_of};
 ghost use Rattle.rtl_ir.specs.Rules.{IsAccepted};
 ghost use Rattle.rtl_reading.specs.Reads.{ArePortsFirst};
 ghost use Rattle.kernel_calls.specs.Laws.{is_port_name};
-ghost use Rattle.kernel_rtl.specs.Planned.{IsPlain, IsPlanned};
+ghost use Rattle.kernel_rtl.specs.Planned.{IsPlanned};
 ghost use Rattle.kernel_verilog.specs.Texts.{IsDesigned, IsPrinted};
 ghost use Rattle.kernel_verilog.specs.Written.{IsWritten};
 ghost use Rattle.kernel_verilog.specs.Refused.{IsRefused};
@@ -13,7 +13,7 @@ use crate::TextError;
 use kernel_layout::Layout;
 use kernel_plan::plan;
 use kernel_report::part_of;
-use kernel_rtl::{is_plain, kernel_module};
+use kernel_rtl::kernel_module;
 use kernel_schedule::best_schedule;
 use latency_table::Table;
 use link_rtl::design;
@@ -41,7 +41,6 @@ fn design_at(
     times: &[i64],
 ) -> Result<Design, NoMemory>
     requires name { is_port_name kernel.now.name ≡ true }
-    requires plain { IsPlain kernel.now.nodes }
     requires times { length kernel.now.nodes ≤ length times.now }
     requires planned { IsPlanned kernel.now.nodes (numbers_of times.now) layout.now }
     ensures { IfOk result (IsDesigned kernel.now times.now layout.now) }
@@ -68,19 +67,14 @@ fn text_of(alloc: Global, design: &Design) -> Result<Vec<u8>, NoMemory>
 /// is a letter and then letters, digits and `_`.
 ///
 /// Errors, of which the first that stands is answered: `Schedule` exactly where the kernel has no
-/// schedule; `NotBuilt` exactly where it has a node that isn't an input, output, constant,
-/// operation, offset or feed, or a port with a control; `TooManyBits` exactly where the FIFOs of
-/// each schedule hold more than 2^28 bits, with the fewest that they may hold. `NoMemory` says
-/// nothing.
+/// schedule; `TooManyBits` exactly where the FIFOs of each schedule hold more than 2^28 bits, with
+/// the fewest that they may hold. `NoMemory` says nothing.
 pub fn kernel_text(alloc: Global, kernel: &Kernel, table: &Table) -> Result<KernelText, TextError>
     requires name { is_port_name kernel.now.name ≡ true }
     ensures made { IfOk result (IsWritten table.now kernel.now) }
     ensures refused { IfErr result (IsRefused table.now kernel.now.nodes) }
 {
     let schedule = best_schedule(alloc, kernel, table)?;
-    if !is_plain(kernel) {
-        return Err(TextError::NotBuilt);
-    }
     let plan = plan(alloc, kernel, &schedule)?;
     let part = part_of(alloc, kernel, table, &schedule, plan.bits)?;
     let times = schedule.answer.times.as_slice();

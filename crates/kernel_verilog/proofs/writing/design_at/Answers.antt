@@ -14,7 +14,7 @@ returns c =
     let nets_most = c.if-prove.false in
     let mems = c.len-2.ensures in
     let mems_most = c.if-prove-2.false in
-    IfOk-weaker c.design.result (IsDesignOf kernel inner)
+    IfOk-weaker c.design.result (IsDesignOf kernel inner (times_of c.args.times.now))
     (IsDesigned kernel c.args.times.now c.args.layout.now)
     (λ d is. record {
       inner = inner;

@@ -6,7 +6,7 @@ use Rattle.kernel_verilog.proofs.writing.kernel_text.Goals as goal
 pub returns-in_err-plan-clause-refused : goal.returns-in_err-plan-clause-refused
 returns-in_err-plan-clause-refused c =
     plan_refused c.args.table.now c.args.kernel.now.nodes c.in_ok-schedule.schedule c.in_ok-schedule.ensures.schedulable
-    c.in_ok-schedule.ensures.least (c.is_plain.ensures.0 c.if-not-is_plain.false) c.in_err-plan.field-0.0 c.in_err-plan.ensures.refused
+    c.in_ok-schedule.ensures.least c.in_err-plan.field-0.0 c.in_err-plan.ensures.refused
     c.from_residual-in_err-plan.result c.from_residual-in_err-plan.ensures.1
 
 pub part_of-requires-clause-bits : goal.part_of-requires-clause-bits
@@ -22,7 +22,7 @@ returns-clause-made c =
     let kernel = c.args.kernel.now in
     let designed = subst (λ xs. IsDesigned kernel xs plan.layout c.in_ok-design.design) c.as_slice-times.ensures c.in_ok-design.ensures in
     written c.args.table.now kernel schedule c.in_ok-schedule.ensures.schedulable c.in_ok-schedule.ensures.least
-    (c.is_plain.ensures.0 c.if-not-is_plain.false) plan.bits plan.layout c.in_ok-plan.ensures.bits c.in_ok-plan.ensures.fits
+    plan.bits plan.layout c.in_ok-plan.ensures.bits c.in_ok-plan.ensures.fits
     c.in_ok-plan.ensures.laid c.in_ok-plan.ensures.stored c.in_ok-plan.ensures.stages c.in_ok-plan.ensures.rings
     c.in_ok-design.design designed (record { text = c.in_ok-text.text; part = c.in_ok-part.part })
     c.in_ok-text.ensures part.part part.shown part.times part.begins
