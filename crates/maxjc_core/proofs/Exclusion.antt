@@ -47,7 +47,6 @@ use Rattle.kernel_schedule.specs.declared.error.ScheduleError.{ScheduleError}
 use Rattle.kernel_schedule.specs.declared.error.ScheduleError.TheVariants as schedule_errors
 use Rattle.kernel_schedule.specs.Refused.{IsRefused}
 use Rattle.kernel_schedule.specs.Schedules.{IsSchedulable, IsLeastLegal}
-use Rattle.kernel_rtl.specs.Planned.{IsPlain}
 use Rattle.kernel_verilog.specs.declared.error.TextError.{TextError}
 use Rattle.kernel_verilog.specs.declared.error.TextError.TheVariants as text_errors
 use Rattle.kernel_verilog.specs.Bits.{NeedsBits}
@@ -201,19 +200,17 @@ one-need a b nodes x y same p q =
 
 -- a kernel that has a text has no cause for which it has none
 not-lacking : (a b : Table) (nodes : List Node) (error : TextError) (bits : ℕ) → SameLatencies a b
-    → texts.is_memory error ≡ false → IsSchedulable b nodes → IsPlain nodes → NeedsBits b nodes bits
+    → texts.is_memory error ≡ false → IsSchedulable b nodes → NeedsBits b nodes bits
     → bits ≤ 2 ^ 28 → texts.IsRefused a nodes error → ⊥
-not-lacking a b nodes (text_errors.Schedule error) bits same fault has plain needs few refused =
+not-lacking a b nodes (text_errors.Schedule error) bits same fault has needs few refused =
     has-none a b nodes error same
     (λ e. let both = subst (λ x. texts.is_memory (text_errors.Schedule x) ≡ false) e fault in absurd (cc))
     has refused
-not-lacking a b nodes text_errors.NotBuilt bits same fault has plain needs few refused =
-    refused.not_plain plain
-not-lacking a b nodes (text_errors.TooManyBits most) bits same fault has plain needs few refused =
+not-lacking a b nodes (text_errors.TooManyBits most) bits same fault has needs few refused =
     let e = one-need a b nodes most bits same refused.needs needs in
     let many = refused.many in
     omega (arith, e, many, few)
-not-lacking a b nodes text_errors.NoMemory bits same fault has plain needs few refused =
+not-lacking a b nodes text_errors.NoMemory bits same fault has needs few refused =
     absurd (cc)
 
 -- a project that makes a kernel has no cause for which it makes none
@@ -246,7 +243,7 @@ not-of-files _ bytes latencies (IsOfFiles.lacks_text p error lacks) q has =
     let same = same-project p q bytes latencies in
     let nodes = one-nodes p.kernel q.kernel lacks.nodes has.nodes same.kernel lacks.is has.is in
     not-lacking p.latencies q.latencies has.nodes error has.bits same.latencies lacks.fault
-    has.schedulable has.plain has.needs has.few
+    has.schedulable has.needs has.few
     (subst (λ ns. texts.IsRefused p.latencies ns error) nodes lacks.refused)
 
 -- where both files are within the limit none is past it
@@ -308,7 +305,6 @@ built_from_compiled names held text report line c =
         nodes = c.compiles.kernel.nodes;
         is = c.compiles.is;
         schedulable = c.compiles.text_of.schedulable;
-        plain = c.compiles.text_of.plain;
         bits = c.compiles.shows.part.bits;
         needs = c.compiles.text_of.needs;
         few = c.compiles.text_of.few;

@@ -17,5 +17,10 @@ mod Compiling
 mod Delivering
 pub mod Shapes
 pub mod Writing
+pub mod Freely
+pub mod Moments
+pub mod Timely
+pub mod Ready
+pub mod Finishing
 pub mod Checking
 pub mod CheckExclusion

@@ -37,11 +37,11 @@ IsEnded o r = (r ≡ end_status o) ⊎ ((r ≡ WriteFault) ⊎ (r ≡ NoMemory))
 abbrev pub IsStopped : Stop → Status → Type 0
 IsStopped stop r = (r ≡ stop_status stop) ⊎ ((stop_status stop ≡ Refused) × ((r ≡ WriteFault) ⊎ (r ≡ NoMemory)))
 
-cut_off : (r : Status) → (r ≡ WriteFault) ⊎ (r ≡ NoMemory) → IsCutOff r
+pub cut_off : (r : Status) → (r ≡ WriteFault) ⊎ (r ≡ NoMemory) → IsCutOff r
 cut_off r (inl e) = subst IsCutOff (sym e) tt
 cut_off r (inr e) = subst IsCutOff (sym e) tt
 
-abbrev outcome : Bool → ℕ → Outcome
+abbrev pub outcome : Bool → ℕ → Outcome
 outcome done edges = record { done = done; edges = edges }
 
 -- the run that ended, in the words of the files
@@ -98,7 +98,7 @@ unlike_end false edges fault e = absurd (cc)
 abbrev HasNoLine : End → Type 0
 HasNoLine end = (file : List ℕ) (line : ℕ) → (end ≡ Stopped (lines.BadLine file line) → ⊥) × (end ≡ Stopped (lines.WordRange file line) → ⊥)
 
-stopped_cut_off : (stop : Stop) (r : Status) → IsCutOff (stop_status stop) → IsStopped stop r → IsCutOff r
+pub stopped_cut_off : (stop : Stop) (r : Status) → IsCutOff (stop_status stop) → IsStopped stop r → IsCutOff r
 stopped_cut_off stop r cut (inl e) = subst IsCutOff (sym e) cut
 stopped_cut_off stop r cut (inr x) = cut_off r x.1
 

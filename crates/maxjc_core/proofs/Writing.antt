@@ -1,5 +1,23 @@
 -- A simulation of a text that `compile` wrote gives the words of its kernel.
-use Rattle.std.proofs.Common.{◌≡◌, ℕ, suc, List, [], ◌∷◌, map, length, true, Ok, refl, sym, subst, ap, ◌∙◌, arith}
+use Rattle.std.proofs.Common.{
+  ◌≡◌,
+  ℕ,
+  suc,
+  unsigned_abs,
+  List,
+  [],
+  ◌∷◌,
+  map,
+  length,
+  true,
+  Ok,
+  refl,
+  sym,
+  subst,
+  ap,
+  ◌∙◌,
+  arith,
+}
 use Rattle.mx_base.specs.Files.{Name, Held}
 use Rattle.rtl_ir.specs.declared.design.Design.{Design}
 use Rattle.rtl_ir.specs.declared.design.Module.{Module}
@@ -15,6 +33,7 @@ use Rattle.stream_equations.specs.Equations.{GivenRun, Values}
 use Rattle.kernel_control.specs.Ports.{port_shape, outputs_of}
 use Rattle.link_rtl.specs.Shapes.{shape_of}
 use Rattle.link_rtl.specs.Words.{AllAgree, RunsAsEquations}
+use Rattle.link_rtl.specs.Times.{RunsOnTime}
 use Rattle.stall_source.specs.Stalls.{Answers}
 use Rattle.simulation.specs.declared.plan.Plan.{Plan}
 use Rattle.simulation.specs.Inputs.{words_of, input_files}
@@ -70,27 +89,32 @@ same_length f g [] (y ∷ ys) e = absurd (cc)
 same_length f g (x ∷ xs) [] e = absurd (cc)
 
 -- what a run that ends was
-run_of : (stalls : Answers) {names : RunNames} {before : Held} (l : IsLoaded names before) (restart : Families) (vs : List Families) (end : End) → Ends stalls (setup l) restart vs end → IsRun stalls (setup l) restart vs
+run_of : (stalls : Answers) {names : RunNames} {before : Held} (l : IsLoaded names before)
+    (restart : Families) (vs : List Families) (end : End) → Ends stalls (setup l) restart vs end
+    → IsRun stalls (setup l) restart vs
 run_of stalls l restart vs end (Ends.done run few is) = run
 run_of stalls l restart vs end (Ends.limit run all is) = run
 run_of stalls l restart vs end (Ends.stopped fault run few is stops) = run
 
 -- ---- the design that is run
 
--- what is run is the design that was written, with the ports of its kernel
-record IsRunOf (kernel : Kernel) {names : RunNames} {before : Held} (l : IsLoaded names before)
-    : Type 0
+-- what is run is the design that was written, with the ports of its kernel, at these times
+pub record IsRunOf (kernel : Kernel) (times : ℕ → ℕ) {names : RunNames} {before : Held}
+    (l : IsLoaded names before) : Type 0
   where
-    shape : l.fit.is.shape ≡ shape_of kernel
-    runs : RunsAsEquations kernel l.fit.design l.fit.is.top
+    pub shape : l.fit.is.shape ≡ shape_of kernel
+    pub runs : RunsAsEquations kernel l.fit.design l.fit.is.top
+    pub on_time : RunsOnTime kernel l.fit.design l.fit.is.top times
 
-run_is : (source table report line : List ℕ) {names : RunNames} {before : Held} (l : IsLoaded names before)
-    (d : Design) → IsOnlyDesign l.files.text d
+pub run_is : (source table report line : List ℕ) {names : RunNames} {before : Held}
+    (l : IsLoaded names before) (d : Design) → IsOnlyDesign l.files.text d
     → (c : Compiles source table l.files.text report line)
-    → IsRunOf c.kernel l
+    → IsRunOf c.kernel (λ n. unsigned_abs (c.text_of.needs.times n)) l
 run_is source table report line l d only c =
     let t = c.text_of in
-    let same : t.design ≡ l.fit.design = only t.design t.printed.reads ∙ sym (only l.fit.design l.fit.is.reads) in
+    let times : ℕ → ℕ = λ n. unsigned_abs (t.needs.times n) in
+    let same : t.design ≡ l.fit.design =
+    only t.design t.printed.reads ∙ sym (only l.fit.design l.fit.is.reads) in
     let top = t.is.is_top in
     let read = l.fit.is.is_top in
     let tops : t.is.top ≡ l.fit.is.top = cc in
@@ -106,6 +130,9 @@ run_is source table report line l d only c =
       runs =
           subst (λ (m : Module). RunsAsEquations c.kernel l.fit.design m) tops
           (subst (λ (x : Design). RunsAsEquations c.kernel x t.is.top) same t.is.runs);
+      on_time =
+          subst (λ (m : Module). RunsOnTime c.kernel l.fit.design m times) tops
+          (subst (λ (x : Design). RunsOnTime c.kernel x t.is.top times) same t.is.on_time);
     }
 
 output_count : (kernel : Kernel) {names : RunNames} {before : Held} (l : IsLoaded names before)
@@ -139,10 +166,14 @@ words_written stalls source table report line {names} {before} l d only c now en
     l.fit.plan.outputs (outputs_of c.kernel.nodes) agree written (output_count c.kernel l of.shape)
 
 -- what the run that was made wrote
-pub words_so : {names : RunNames} {stalls : Answers} {held now : Held} {d : Design} {p : Plan} (o : Outcome) → IsMade names held d p → IsSimulated stalls d p held now (Ok o) → WritesAllWords names held now
+pub words_so : {names : RunNames} {stalls : Answers} {held now : Held} {d : Design} {p : Plan}
+    (o : Outcome) → IsMade names held d p → IsSimulated stalls d p held now (Ok o)
+    → WritesAllWords names held now
 words_so {names} {stalls} {held} {now} {d} {p} o made sim l source table report line c =
     let is = told_loaded l in
     let made_as = made.loaded is in
-    let only = subst (λ (t : List ℕ). IsOnlyDesign t d) (same_file held names.text made_as.files.text l.files.text made_as.files.text_is l.files.text_is) made_as.is.only in
-    let finishes = of_loaded l made (λ s outputs. Finishes stalls s outputs now (end_of o)) (sim.tells made.can.is.top made.can.is.shape made.can.is.is_top made.can.is.is_run.has is) in
+    let only = subst (λ (t : List ℕ). IsOnlyDesign t d) (same_file held names.text
+    made_as.files.text l.files.text made_as.files.text_is l.files.text_is) made_as.is.only in
+    let finishes = of_loaded l made (λ s outputs. Finishes stalls s outputs now (end_of o))
+    (sim.tells made.can.is.top made.can.is.shape made.can.is.is_top made.can.is.is_run.has is) in
     words_written stalls source table report line l d only c now (end_of o) finishes

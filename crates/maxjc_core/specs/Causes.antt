@@ -9,7 +9,6 @@ use Rattle.latency_table.specs.declared.table.Table.{Table}
 use Rattle.latency_table.specs.Tables.{Reads}
 use Rattle.stream_graph.specs.declared.node.Node.{Node}
 use Rattle.kernel_schedule.specs.Schedules.{IsSchedulable}
-use Rattle.kernel_rtl.specs.Planned.{IsPlain}
 use Rattle.kernel_verilog.specs.declared.error.TextError.{TextError}
 use Rattle.kernel_verilog.specs.Bits.{NeedsBits}
 use Rattle.kernel_verilog.specs.Refused.{is_memory, IsRefused}
@@ -63,12 +62,11 @@ pub record LacksText {source table : List ℕ} (p : OneKernel source table) (err
   pub fault : is_memory error ≡ false
   pub refused : IsRefused p.latencies nodes error
 
--- the kernel of a project has a legal schedule, only nodes that have their hardware, and FIFOs that need at most 2^28 bits
+-- the kernel of a project has a legal schedule, and FIFOs that need at most 2^28 bits
 pub record HasText {source table : List ℕ} (p : OneKernel source table) : Type 0 where
   pub nodes : List Node
   pub is : IsKernel p.kernel nodes
   pub schedulable : IsSchedulable p.latencies nodes
-  pub plain : IsPlain nodes
   pub bits : ℕ
   pub needs : NeedsBits p.latencies nodes bits
   pub few : bits ≤ 2 ^ 28

@@ -16,6 +16,7 @@ pub mod RunEnds
 pub mod LoadStops
 pub mod RunStops
 pub mod Writing
+pub mod Finishing
 pub mod CompileFiles
 pub mod CompileEnds
 pub mod SimulateEnds

@@ -23,7 +23,7 @@ pub data Cause : Type 0 where
   RunRefused : EvalError → Cause  -- E1 to E15: the building run of the kernel is refused so
   NoKernel : Name → GraphError → Cause  -- G1 to G4 and G6: what the run of this kernel makes breaks a rule
   TableFault : TableError → Cause  -- T1 to T3: this is the first fault of the latency table
-  NoText : Name → TextError → Cause  -- L1, C1, C2, N0 and B1: this kernel has no schedule by the latency table, nodes that have no hardware yet, or FIFOs of too many bits
+  NoText : Name → TextError → Cause  -- L1, C1, C2 and B1: this kernel has no schedule by the latency table, or FIFOs of too many bits
   NotBuilt : Cause  -- N0: the source has a manager
   NoProblem : Name → EdgeError → Cause  -- L1 and C1: the latency table lacks a latency for this kernel, or the kernel isn't causal
   NoReport : ℕ → Cause  -- Q1: this line of the report is the first that no report has after those before it

@@ -14,6 +14,7 @@ use Rattle.maxjc_core.specs.Outside.{Outside}
 use Rattle.maxjc_core.specs.RunCauses.{IsSmall, StandsIn, LacksFile, LacksInput}
 use Rattle.maxjc_core.specs.RunEnds.{IsRunDone, IsRunLimited, IsRunRefused, ReadFails, ChangesOutputs, LeavesOutputs}
 use Rattle.maxjc_core.specs.Writing.{WritesAllWords}
+use Rattle.maxjc_core.specs.Finishing.{AllFinish}
 use Rattle.maxjc_core.specs.declared.status.Status.{Status}
 use Rattle.maxjc_core.specs.declared.status.Status.TheVariants.{Done, Refused, ReadFault, NoMemory, EdgeLimit}
 
@@ -37,6 +38,8 @@ pub record EndsSimulate (stalls : Answers) (names : RunNames) (before after : Ou
   -- taken, and so with a prefix of what it says of all words
   pub words_done : status ≡ Done → IsSome before.held → WritesAllWords names before.held after.held
   pub words_limited : status ≡ EdgeLimit → IsSome before.held → WritesAllWords names before.held after.held
+  -- of a text that `compile` wrote a run in which no port stalls and the input files hold all words is done in time
+  pub finishes : IsSome before.held → AllFinish names before.held before.said after.said status
   -- `Refused` comes exactly where a cause stands, unless a call fails or memory is short. Before a run begins no file has
   -- changed; in a run the output files hold the lines of the first words that left
   pub refused : status ≡ Refused → IsRunRefused stalls names before.held after.held before.said after.said

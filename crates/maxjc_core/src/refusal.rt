@@ -32,7 +32,7 @@ pub enum Refusal<'a> {
     Graph(Text, GraphError),
     /// T1 to T3: the first fault of the latency table.
     Table(TableError),
-    /// L1, C1, C2, N0 and B1: why this kernel has no text.
+    /// L1, C1, C2 and B1: why this kernel has no text.
     Kernel(Text, TextError),
     /// N0: the source has a manager.
     NotBuilt,

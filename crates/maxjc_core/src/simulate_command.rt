@@ -16,6 +16,7 @@ ghost use Rattle.maxjc_core.specs.RunStops.{end_status, end_line, stop_status};
 ghost use Rattle.simulation.specs.declared.stop.Stop.TheVariants as stops;
 ghost use Rattle.maxjc_core.specs.Named.{run_told};
 ghost use Rattle.maxjc_core.specs.Writing.{WritesAllWords};
+ghost use Rattle.maxjc_core.specs.Finishing.{AllFinish};
 ghost use Rattle.maxjc_core.specs.Ends.{IsQuiet, IsSilent, IsCutOff, WriteFailed};
 
 use crate::Status;
@@ -118,6 +119,10 @@ pub fn run_simulate<F: Files, S: Say, G: Fn(u64, u64, u32) -> bool>(
         → WritesAllWords (run_told names.entry) (F.held files.old) (F.held files.new) }
     ensures words_limited { result ≡ Status.EdgeLimit → IsSome (F.held files.old)
         → WritesAllWords (run_told names.entry) (F.held files.old) (F.held files.new) }
+
+    // Of such a text a run in which no port stalls and the input files hold all words is done in time.
+    ensures finishes { IsSome (F.held files.old)
+        → AllFinish (run_told names.entry) (F.held files.old) (S.said say.old) (S.said say.new) result }
 
     // `Refused` comes exactly where a cause stands, unless a call fails or memory is short. Before a run begins no file has
     // changed; in a run the outputs hold the first of the words that left.

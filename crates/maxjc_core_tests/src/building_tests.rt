@@ -3,9 +3,8 @@ use crate::tests::expect_end;
 use maxjc_core::Status;
 use std::test::Fail;
 
-// Sources, each with the line that it is refused with. The last makes a kernel, which has a counter
-// and so no hardware yet.
-const REFUSED: [(&[u8], &[u8]); 22] = [
+// Sources, each with the line that it is refused with.
+const REFUSED: [(&[u8], &[u8]); 21] = [
     (
         b"class K extends Kernel {
   K(KernelParameters p, int p) { super(p); }
@@ -212,16 +211,6 @@ public final class _K extends Kernel { _K(KernelParameters p) { super(p); } }",
 }
 ",
         b"refused G6 K 1\n",
-    ),
-    (
-        b"class K extends Kernel {
-  K(KernelParameters p) {
-    super(p);
-    DFEVar i = control.count.simpleCounter(8);
-  }
-}
-",
-        b"refused N0\n",
     ),
 ];
 

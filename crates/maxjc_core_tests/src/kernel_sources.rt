@@ -125,3 +125,99 @@ pub(crate) const SINK: &[u8] = b"class Sink extends Kernel {
   }
 }
 ";
+
+// The sum of all words so far.
+pub(crate) const ACC: &[u8] = b"class Acc extends Kernel {
+  Acc(KernelParameters p) {
+    super(p);
+    DFEVar x = io.input(\"x\", dfeUInt(32));
+    DFEVar i = control.count.simpleCounter(32);
+    DFEVar old = dfeUInt(32).newInstance(this);
+    DFEVar sum = x + (i === 0 ? 0 : old);
+    old <== stream.offset(sum, -1);
+    io.output(\"y\", sum, dfeUInt(32));
+  }
+}
+";
+
+// The word after, and 0 in each fourth tick.
+pub(crate) const GUARD: &[u8] = b"class Guard extends Kernel {
+  Guard(KernelParameters p) {
+    super(p);
+    DFEVar x = io.input(\"x\", dfeUInt(8));
+    DFEVar i = control.count.simpleCounter(2);
+    io.output(\"y\", i === 3 ? 0 : stream.offset(x, 1), dfeUInt(8));
+  }
+}
+";
+
+// Each fourth word.
+pub(crate) const FOURTH: &[u8] = b"class Fourth extends Kernel {
+  Fourth(KernelParameters p) {
+    super(p);
+    DFEVar x = io.input(\"x\", dfeUInt(8));
+    DFEVar i = control.count.simpleCounter(2);
+    io.output(\"y\", x, dfeUInt(8), i === 3);
+  }
+}
+";
+
+// A counter that steps where the other one wraps.
+pub(crate) const NEST: &[u8] = b"class Nest extends Kernel {
+  Nest(KernelParameters p) {
+    super(p);
+    CounterChain chain = control.count.makeCounterChain();
+    DFEVar a = chain.addCounter(2, 1);
+    DFEVar b = chain.addCounter(3, 1);
+    io.output(\"outer\", a, dfeUInt(1));
+    io.output(\"inner\", b, dfeUInt(2));
+  }
+}
+";
+
+// Of each pixel the sum with those above and below it.
+pub(crate) const STENCIL: &[u8] = b"class Stencil extends Kernel {
+  Stencil(KernelParameters p) {
+    super(p);
+    DFEVar x = io.input(\"x\", dfeUInt(8));
+    CounterChain chain = control.count.makeCounterChain();
+    DFEVar row = chain.addCounter(1080, 1);
+    DFEVar col = chain.addCounter(1920, 1);
+    DFEVar up = row === 0 ? 0 : stream.offset(x, -1920);
+    DFEVar down = row === 1079 ? 0 : stream.offset(x, 1920);
+    io.output(\"y\", up + x + down, dfeUInt(8));
+  }
+}
+";
+
+// The word of the last tick in which the counter was 2.
+pub(crate) const KEPT: &[u8] = b"class Kept extends Kernel {
+  Kept(KernelParameters p) {
+    super(p);
+    DFEVar x = io.input(\"x\", dfeUInt(8));
+    io.output(\"y\", Reductions.streamHold(x, control.count.simpleCounter(2) === 2), dfeUInt(8));
+  }
+}
+";
+
+// A word and a scalar, added up.
+pub(crate) const SHIFTED: &[u8] = b"class Shifted extends Kernel {
+  Shifted(KernelParameters p) {
+    super(p);
+    DFEVar x = io.input(\"x\", dfeUInt(8));
+    DFEVar a = io.scalarInput(\"a\", dfeUInt(8));
+    io.output(\"y\", x + a, dfeUInt(8));
+  }
+}
+";
+
+// A stream that is read and written in every second tick.
+pub(crate) const SECOND: &[u8] = b"class Second extends Kernel {
+  Second(KernelParameters p) {
+    super(p);
+    DFEVar odd = control.count.simpleCounter(1) === 1;
+    DFEVar x = io.input(\"x\", dfeUInt(8), odd);
+    io.output(\"y\", x, dfeUInt(8), odd);
+  }
+}
+";

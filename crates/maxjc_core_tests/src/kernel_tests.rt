@@ -1,6 +1,6 @@
 // Worked kernels, from their sources to the words that leave.
 use crate::kernel_sources::{
-    FAR, FIVE, LONG, NEXT, QUOT, SINK, SLOW, SQUARE, SUM3, TIES, WIDE, ZERO,
+    FAR, FIVE, LONG, NEXT, QUOT, SINK, SLOW, SQUARE, STENCIL, SUM3, TIES, WIDE, ZERO,
 };
 use crate::simulate_tests::{run_with_port_1_stalled, simulate_words};
 use crate::tests::{DOUBLE, IMMEDIATE, compile_words, expect_end_with, run, text};
@@ -13,25 +13,25 @@ use std::test::Fail;
 // An output file: these lines, and then a line with a word of so many digits that nothing binds, or
 // no further line where there are 0.
 #[derive(Clone, Copy)]
-struct Left<'a> {
-    name: &'a [u8],
-    words: &'a [u8],
-    free: usize,
+pub(crate) struct Left<'a> {
+    pub name: &'a [u8],
+    pub words: &'a [u8],
+    pub free: usize,
 }
 
 // A kernel with a latency table, and a run file with its input files, each a name and its lines: what
 // `compile` says, what `simulate` says, its status, and the output files. Port 1 stalls wherever the
 // pattern number isn't 0; inputs are numbered first, and then outputs.
 #[derive(Clone, Copy)]
-struct Worked<'a> {
-    source: &'a [u8],
-    table: &'a [u8],
-    run: &'a [u8],
-    inputs: &'a [(&'a [u8], &'a [u8])],
-    compiled: &'a [u8],
-    simulated: &'a [u8],
-    status: Status,
-    outputs: &'a [Left<'a>],
+pub(crate) struct Worked<'a> {
+    pub source: &'a [u8],
+    pub table: &'a [u8],
+    pub run: &'a [u8],
+    pub inputs: &'a [(&'a [u8], &'a [u8])],
+    pub compiled: &'a [u8],
+    pub simulated: &'a [u8],
+    pub status: Status,
+    pub outputs: &'a [Left<'a>],
 }
 
 // Where no operation takes a tick, no word is kept and nothing stalls, the word of tick t has left
@@ -271,15 +271,24 @@ fn expect_left(
     Ok(())
 }
 
+// Compiles the kernel, runs it, and looks at what left.
+pub(crate) fn expect_worked(
+    rt: &impl Abort,
+    alloc: Global,
+    worked: &Worked<'_>,
+) -> Result<(), Fail> {
+    let mut files = compiled(rt, alloc, worked.source, worked.table, worked.compiled)?;
+    simulate(rt, alloc, worked, &mut files)?;
+    for left in worked.outputs {
+        expect_left(rt, alloc, &mut files, left)?;
+    }
+    Ok(())
+}
+
 #[test]
 fn words_leave_compiled_kernels(rt: HostRuntime) -> Result<(), Fail> {
-    let alloc = rt.alloc();
     for worked in &WORKED {
-        let mut files = compiled(&rt, alloc, worked.source, worked.table, worked.compiled)?;
-        simulate(&rt, alloc, worked, &mut files)?;
-        for left in worked.outputs {
-            expect_left(&rt, alloc, &mut files, left)?;
-        }
+        expect_worked(&rt, rt.alloc(), worked)?;
     }
     Ok(())
 }
@@ -296,6 +305,13 @@ fn fifos_hold_the_fewest_bits(rt: HostRuntime) -> Result<(), Fail> {
             b"kernel Sum3 fifo 32\n".as_slice(),
         ),
         (LONG, IMMEDIATE, Status::Done, b"kernel Long fifo 320000\n"),
+        // two lines of 1,920 bytes
+        (
+            STENCIL,
+            IMMEDIATE,
+            Status::Done,
+            b"kernel Stencil fifo 30720\n",
+        ),
         (
             FAR,
             IMMEDIATE,

@@ -14,6 +14,8 @@ mod schedule_tests;
 #[cfg(test)]
 mod simulate_tests;
 #[cfg(test)]
+mod state_tests;
+#[cfg(test)]
 mod storage_tests;
 #[cfg(test)]
 mod stored_bits_tests;

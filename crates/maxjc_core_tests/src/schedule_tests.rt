@@ -1,20 +1,8 @@
 // Latency tables, and kernels that have no schedule by them.
+use crate::kernel_sources::ACC;
 use crate::tests::{DOUBLE, IMMEDIATE, expect_end_with};
 use maxjc_core::Status;
 use std::test::Fail;
-
-const ACC: &[u8] = b"class Acc extends Kernel {
-  Acc(KernelParameters p) {
-    super(p);
-    DFEVar x = io.input(\"x\", dfeUInt(32));
-    DFEVar i = control.count.simpleCounter(32);
-    DFEVar old = dfeUInt(32).newInstance(this);
-    DFEVar sum = x + (i === 0 ? 0 : old);
-    old <== stream.offset(sum, -1);
-    io.output(\"y\", sum, dfeUInt(32));
-  }
-}
-";
 
 pub(crate) const ITSELF: &[u8] = b"class Self extends Kernel {
   Self(KernelParameters p) {
@@ -30,14 +18,12 @@ pub(crate) const MANAGER: &[u8] = b"class K extends Kernel { K(KernelParameters 
 class M extends CustomManager { M(EngineParameters e) { super(e); } }
 ";
 
-// Tables by which a sum takes two ticks, and one.
+// A table by which a sum takes two ticks.
 const TWO: &[u8] = b"{\"add\":[[1,2]],\"eq\":[[1,0]],\"mux\":[[1,0]]}";
-
-const ONE: &[u8] = b"{\"add\":[[1,1]],\"eq\":[[1,0]],\"mux\":[[1,0]]}";
 
 // Sources and tables, each with the line that they are refused with. A fault of the source stands
 // before one of the table, as does a manager; one of the table stands before those of the kernel.
-const REFUSED: [(&[u8], &[u8], &[u8]); 15] = [
+const REFUSED: [(&[u8], &[u8], &[u8]); 14] = [
     (DOUBLE, b"[", b"refused T1\n"),
     (DOUBLE, b"", b"refused T1\n"),
     (DOUBLE, b"[]", b"refused T2 -\n"),
@@ -56,7 +42,6 @@ const REFUSED: [(&[u8], &[u8], &[u8]); 15] = [
         b"refused C1 Self latency 0 back 0 nodes 0\n",
     ),
     (ACC, TWO, b"refused C2 Acc latency 2 back 1 nodes 2 6 7\n"),
-    (ACC, ONE, b"refused N0\n"),
 ];
 
 #[test]

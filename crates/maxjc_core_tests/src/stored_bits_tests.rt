@@ -1,5 +1,5 @@
 // What the modules of kernels store, summed from the texts.
-use crate::kernel_sources::{LONG, SLOW, SUM3};
+use crate::kernel_sources::{ACC, KEPT, LONG, NEST, SLOW, SUM3};
 use crate::kernel_tests::compiled;
 use crate::tests::{IMMEDIATE, text};
 use mx_base::read_whole;
@@ -55,7 +55,7 @@ fn expect(rt: &impl Abort, alloc: Global, stored: &Stored<'_>) -> Result<(), Fai
 }
 
 #[test]
-fn modules_store_fifos_latencies_and_the_position(rt: HostRuntime) -> Result<(), Fail> {
+fn modules_store_fifos_latencies_the_position_and_states(rt: HostRuntime) -> Result<(), Fail> {
     for stored in [
         // 32 bits of FIFOs, 64 of the registers behind the two sums, and 48 of the position
         Stored {
@@ -72,6 +72,30 @@ fn modules_store_fifos_latencies_and_the_position(rt: HostRuntime) -> Result<(),
             said: b"kernel Long fifo 320000\n",
             module: b"kernel$Long",
             bits: 320_064,
+        },
+        // 32 bits of the register behind the sum, 48 of the position, and 32 of the counter
+        Stored {
+            source: ACC,
+            table: SLOW,
+            said: b"kernel Acc fifo 0\n",
+            module: b"kernel$Acc",
+            bits: 112,
+        },
+        // 48 bits of the position, 8 of the word that is kept, and 2 of the counter
+        Stored {
+            source: KEPT,
+            table: IMMEDIATE,
+            said: b"kernel Kept fifo 0\n",
+            module: b"kernel$Kept",
+            bits: 58,
+        },
+        // 48 bits of the position, and 1 and 2 of the counters of the chain
+        Stored {
+            source: NEST,
+            table: IMMEDIATE,
+            said: b"kernel Nest fifo 0\n",
+            module: b"kernel$Nest",
+            bits: 51,
         },
     ] {
         expect(&rt, rt.alloc(), &stored)?;

@@ -1,3 +1,4 @@
+use crate::schedule_tests::MANAGER;
 use maxjc_core::{Status, maxjc};
 use mx_base::{MemFiles, MemSay, Text, read_whole};
 use stall_source::{Pattern, program_stalls};
@@ -10,15 +11,6 @@ pub(crate) const DOUBLE: &[u8] = b"class Double extends Kernel {
     super(p);
     DFEVar x = io.input(\"x\", dfeUInt(8));
     io.output(\"y\", x + x, dfeUInt(8));
-  }
-}
-";
-
-// A kernel with a counter, which has no hardware yet.
-const COUNTER: &[u8] = b"class Count extends Kernel {
-  Count(KernelParameters p) {
-    super(p);
-    io.output(\"y\", control.count.simpleCounter(8), dfeUInt(8));
   }
 }
 ";
@@ -120,7 +112,7 @@ fn a_kernel_of_one_sum_is_compiled(rt: HostRuntime) -> Result<(), Fail> {
 #[test]
 fn sources_are_refused(rt: HostRuntime) -> Result<(), Fail> {
     for (source, said) in [
-        (COUNTER, b"refused N0\n".as_slice()),
+        (MANAGER, b"refused N0\n".as_slice()),
         (b"", b"refused S3 0\n"),
         (b"class", b"refused S3 5\n"),
         (b"\xc8", b"refused S1 0\n"),

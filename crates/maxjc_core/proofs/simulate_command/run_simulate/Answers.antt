@@ -12,6 +12,7 @@ use Rattle.maxjc_core.proofs.Refusing.{both_of, of_cause}
 use Rattle.maxjc_core.proofs.RunEnding.{IsMade, IsSimulated, simulated, ends_so}
 use Rattle.maxjc_core.proofs.RunClauses.{stopped_not_done, stopped_not_limited, run_done, run_limited, answers_done, answers_limited, fails_done, fails_limited, stands_not, lacks_not, lacks_cut_off, others_so, leaves_ended, leaves_stopped, refused_stands, read_fault_so, cut_off_so, fault_told, failed_so, reads_no_other, writes_no_other, quiet_reads, quiet_writes}
 use Rattle.maxjc_core.proofs.Writing.{words_so}
+use Rattle.maxjc_core.proofs.Finishing.{finishes-ended, finishes-stopped, finishes-unloaded}
 use Rattle.maxjc_core.proofs.simulate_command.run_simulate.Goals as goal
 
 pub returns-in-Ok-simulate-clause-done : goal.returns-in-Ok-simulate-clause-done
@@ -226,3 +227,24 @@ returns-in-Err-Refused-clause-ends_done g c = λ l small restart vs edges ends.
 pub returns-in-Err-Refused-clause-ends_limited : goal.returns-in-Err-Refused-clause-ends_limited
 returns-in-Err-Refused-clause-ends_limited g c = λ l small restart vs edges ends.
     absurd (of_cause (cause_told c.in-Err-Refused.refusal) ⊥ ((rw c.in-Err-Refused.field-0-is at c.in-Err-Refused.ensures.loads) l))
+
+pub returns-in-Ok-simulate-clause-finishes : goal.returns-in-Ok-simulate-clause-finishes
+returns-in-Ok-simulate-clause-finishes g c =
+    let held : Held = g.F.Files.held c.args.files.now in
+    let made : IsMade (run_told c.args.names) held c.in-Ok.field-0.design c.in-Ok.field-0.plan = record { can = c.in-Ok.ensures.can_run; loaded = c.in-Ok.ensures.answers } in
+    let sim : IsSimulated (λ pick edge port. g.G.Fn.post c.args.stalls.now.test (pick, (edge, (port, tt)))) c.in-Ok.field-0.design c.in-Ok.field-0.plan held (g.F.Files.held c.simulate.new.files) (Ok c.in-Ok-simulate.outcome) =
+    simulated c.in-Ok.ensures.same c.in-Ok-simulate.ensures.tells c.in-Ok-simulate.ensures.exact c.in-Ok-simulate.ensures.cells c.in-Ok-simulate.ensures.too_many in
+    λ told. finishes-ended c.in-Ok-simulate.outcome c.report.result _ _ c.requires.free made sim c.report.ensures.ends c.report.ensures.said
+
+pub returns-in-Ok-clause-finishes : goal.returns-in-Ok-clause-finishes
+returns-in-Ok-clause-finishes g c =
+    let held : Held = g.F.Files.held c.args.files.now in
+    let made : IsMade (run_told c.args.names) held c.in-Ok.field-0.design c.in-Ok.field-0.plan = record { can = c.in-Ok.ensures.can_run; loaded = c.in-Ok.ensures.answers } in
+    let sim : IsSimulated (λ pick edge port. g.G.Fn.post c.args.stalls.now.test (pick, (edge, (port, tt)))) c.in-Ok.field-0.design c.in-Ok.field-0.plan held (g.F.Files.held c.simulate.new.files) (Err c.in-Err.stop) =
+    simulated c.in-Ok.ensures.same c.in-Err.ensures.tells c.in-Err.ensures.exact c.in-Err.ensures.cells c.in-Err.ensures.too_many in
+    λ told. finishes-stopped c.in-Err.stop c.stopped.result _ _ c.requires.free made sim c.stopped.ensures.ends
+
+pub returns-in-Err-Refused-clause-finishes : goal.returns-in-Err-Refused-clause-finishes
+returns-in-Err-Refused-clause-finishes g c = λ told.
+    finishes-unloaded c.refuse.result _ _ (λ l.
+    of_cause (cause_told c.in-Err-Refused.refusal) ⊥ ((rw c.in-Err-Refused.field-0-is at c.in-Err-Refused.ensures.loads) l))

@@ -46,6 +46,7 @@ returns-in-Some-Simulate-clause-simulate g c = λ names is.
       ends_limited = λ l restart vs edges small ends. e.ends_limited l small restart vs edges ends;
       words_done = e.words_done;
       words_limited = e.words_limited;
+      finishes = e.finishes;
       refused = e.refused;
       stands = e.stands;
       read_fault = e.read_fault;
