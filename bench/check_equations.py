@@ -1,5 +1,6 @@
 #!/usr/bin/env python3
-"""Compares bench/stream_equations.py, the evaluator of the stream equations, with worked kernels and their words.
+"""Compares bench/stream_equations.py, the evaluator of the stream equations, with worked kernels and their words, and with the
+words that are to leave the examples, which plain programs for their algorithms computed (examples/models.py).
 
     bench/check_equations.py     ends with status 1 where words differ
 """
@@ -7,9 +8,12 @@ import pathlib
 import sys
 
 import building_run
+import icarus_words
+import testbench
 from stream_equations import Streams, nodes_of
 
-HERE = pathlib.Path(__file__).parent
+HERE = pathlib.Path(__file__).resolve().parent
+EXAMPLES = sorted(HERE.parent.glob("examples/*/*.maxj"))
 SQUARES = """class Squares extends Kernel { Squares(KernelParameters p) { super(p);
   DFEVar x = io.input("x", dfeUInt(128)); io.output("y", x * x, dfeUInt(128)); } }"""
 EVERY_THIRD = """class Keep extends Kernel { Keep(KernelParameters p) { super(p);
@@ -57,11 +61,19 @@ def faults():
         yield f"{source}: the first undefined control is {got} and not {place}"
 
 
+def example_faults():
+    for source in EXAMPLES:
+        for port, words in icarus_words.wanted_of(source, testbench.read_run(source.parent / "run.json")).items():
+            expected = (source.parent / f"{port}.expected.txt").read_text().split()
+            if len(expected) != len(words) or not icarus_words.beside(expected, words):
+                yield f"{source.stem}: {port}.expected.txt isn't {words[:8]}"
+
+
 def main():
-    found = list(faults())
+    found = [*faults(), *example_faults()]
     for line in found:
         print(line)
-    print(f"check_equations: {len(WORKED) + 1} runs, {len(found)} told otherwise")
+    print(f"check_equations: {len(WORKED) + 1 + len(EXAMPLES)} runs, {len(found)} told otherwise")
     return 1 if found else 0
 
 

@@ -1,9 +1,9 @@
-"""Random kernels of inputs, outputs, constants, operations, offsets and feeds, for bench/random_kernels.py."""
+"""Random kernels of all kinds of nodes, for bench/random_kernels.py."""
 import random
 from dataclasses import dataclass, field
 
 from module_maker import WIDEST_BY_ONE
-from stream_rules import BIT, Broken, Type, cast_of, int_, literal_bits, takes, uint
+from stream_rules import BIT, Broken, Type, cast_of, int_, least_bits, literal_bits, takes, uint
 
 WIDTHS = [1, 2, 3, 4, 7, 8, 8, 9, 16, 16, 31, 32, 32, 33, 63, 64, 65, 100, 127, 128]
 MODES = ["TRUNCATE", "TONEAR", "TONEAREVEN"]
@@ -11,6 +11,8 @@ OPERATIONS = ["add", "sub", "mul", "div", "neg", "and", "or", "xor", "not", "eq"
 JOINING = {"+": "add", "-": "sub", "*": "mul", "/": "div", "&": "and", "|": "or", "^": "xor"}
 COMPARING = {"===": "eq", "!==": "ne", "<": "lt", "<=": "le", ">": "gt", ">=": "ge"}
 LONGEST_DECIMAL = 25
+CHAIN_BITS = 128  # of all counters of a chain
+LONG = 40  # bits of a counter that doesn't begin again
 
 
 def any_type():
@@ -85,18 +87,45 @@ class Loop:
     """A feed, and the number of ticks that it looks back, which is set when the kernel is written."""
 
     feed: str
-    value: str
+    value: str = None
     back: int = 1
+
+    def text(self):
+        value = self.value if self.back == 0 else f"stream.offset({self.value}, {-self.back})"
+        return f"{self.feed} <== {value};"
+
+
+@dataclass
+class Begun:
+    """A bit that is 1 from the tick on to which a loop looks back from the first one."""
+
+    name: str
+    counter: str
+    loop: Loop
+
+    def text(self):
+        return f"DFEVar {self.name} = {self.counter} >= {max(0, self.loop.back)};"
+
+
+@dataclass
+class Chain:
+    name: str
+    bits: int = 0
 
 
 @dataclass
 class Maker:
-    """A kernel in the making: its statements, its variables, and the ports with their types."""
+    """A kernel in the making: its statements, its variables, and the ports with their types. Without counts it has no counters,
+    chains, holds, scalars and controls."""
 
+    has_counts: bool = True
     statements: list = field(default_factory=list)
     variables: list = field(default_factory=list)
+    defined: list = field(default_factory=list)  # variables that are mostly so in each tick
     inputs: dict = field(default_factory=dict)
     outputs: dict = field(default_factory=dict)
+    scalars: dict = field(default_factory=dict)
+    chains: list = field(default_factory=list)
     loops: list = field(default_factory=list)
     pool: list = field(default_factory=lambda: [any_type() for _ in range(random.choice([1, 2, 2, 3, 4]))])
     count: int = 0
@@ -118,16 +147,61 @@ class Maker:
         self.variables.append(variable)
         return variable
 
-    def input(self, of):
+    def input(self, of, control):
+        """An input, with the last argument of its call where it has a control."""
         name = random.choice([f"x{len(self.inputs)}", f"in_{len(self.inputs)}", f"A{len(self.inputs)}"])
         self.inputs[name] = of
-        return self.declare(f'io.input("{name}", {type_text(of)})', of, "x")
+        variable = self.declare(f'io.input("{name}", {type_text(of)}{control})', of, "x")
+        if not control:
+            self.defined.append(variable)
+        return variable
 
     def output(self, variable):
-        names = [f"y{len(self.outputs)}"] + [name for name in self.inputs if name not in self.outputs]
+        control = self.control(0.4)
+        names = [f"y{len(self.outputs)}"] + [name for name in (*self.inputs, *self.scalars) if name not in self.outputs]
         name = random.choice(names) if random.random() < 0.2 else names[0]
         self.outputs[name] = variable.of
-        self.statements.append(f'io.output("{name}", {variable.name}, {type_text(variable.of)});')
+        self.statements.append(f'io.output("{name}", {variable.name}, {type_text(variable.of)}{control});')
+
+    def scalar(self, of):
+        names = [f"s{len(self.scalars)}"] + [name for name in self.inputs if name not in self.scalars]
+        name = random.choice(names) if random.random() < 0.2 else names[0]
+        self.scalars[name] = of
+        self.defined.append(self.declare(f'io.scalarInput("{name}", {type_text(of)})', of, "s"))
+
+    def counter(self, bits=None):
+        """A counter of its own, which mostly begins again soon."""
+        bits = bits or random.choice([1, 2, 2, 3, 3, 4, random.choice(WIDTHS)])
+        most = random.choice([1, 2, 3, 2**bits, 2**bits - 1, random.randint(1, 2**bits)])
+        more = f", {most}" if 1 <= most <= min(2**bits, 2**31 - 1) and bits != LONG and random.random() < 0.5 else ""
+        variable = self.declare(f"control.count.simpleCounter({bits}{more})", uint(bits), "c")
+        self.defined.append(variable)
+        return variable
+
+    def chain_counter(self):
+        """A further counter of a chain, or the first one of a new chain."""
+        chain = random.choice(self.chains) if self.chains and random.random() < 0.75 else None
+        most = random.choice([1, 2, 2, 3, 3, 4, 5, 7, 8, 12, 100, 2**31 - 1])
+        step = random.choice([1, 1, 1, 2, 3, 5, most, 2**31 - 1])
+        bits = least_bits(most - 1)
+        if chain is None or chain.bits + bits > CHAIN_BITS:
+            chain = Chain(self.fresh("h"))
+            self.chains.append(chain)
+            self.statements.append(f"CounterChain {chain.name} = control.count.makeCounterChain();")
+        chain.bits += bits
+        variable = self.declare(f"{chain.name}.addCounter({most}, {step})", uint(bits), "c")
+        self.defined.append(variable)
+        return variable
+
+    def any_counter(self):
+        return random.choice([self.counter, self.chain_counter])()
+
+    def hold(self):
+        value, store = self.any(), self.steady_bit() if random.random() < 0.9 else self.bit()
+        variable = self.declare(f"Reductions.streamHold({value.name}, {store})", value.of)
+        if value in self.defined and any(store == known.name for known in self.defined):
+            self.defined.append(variable)
+        return variable
 
     def rounded(self, text, of):
         """A variable whose operation has a rounding mode."""
@@ -175,6 +249,26 @@ class Maker:
         if known and random.random() < 0.6:
             return random.choice(known).name
         return self.comparison().name
+
+    def steady_bit(self):
+        """The name of a variable of one bit that is mostly defined in each tick."""
+        known = [variable for variable in self.defined if variable.of.is_control]
+        if known and random.random() < 0.5:
+            return random.choice(known).name
+        counts = [variable for variable in self.defined if variable.name[0] in "cs"]
+        near = counts if random.random() < 0.5 else self.defined
+        a = random.choice(near) if near and random.random() < 0.7 else self.any_counter()
+        others = [variable.name for variable in self.defined if variable.of == a.of]
+        b = random.choice(others) if random.random() < 0.2 else literal(a.of)
+        sign = random.choice([sign for sign, op in COMPARING.items() if takes(op, a.of)])
+        self.defined.append(self.declare(f"{a.name} {sign} {b}", BIT))
+        return self.defined[-1].name
+
+    def control(self, share):
+        """The last argument of a port that has a control in so many of the cases, mostly one that is defined in each tick."""
+        if not self.has_counts or random.random() >= share:
+            return ""
+        return f", {self.steady_bit() if random.random() < 0.95 else self.bit()}"
 
     # the forms of operations
 
@@ -231,6 +325,8 @@ class Maker:
 
     def operation(self):
         forms = [self.joined] * 5 + [self.comparison, self.single, self.casted, self.chosen, self.multiplexer, self.offset, self.offset]
+        if self.has_counts:
+            forms += [self.hold, self.hold, self.any_counter]
         return random.choice(forms)()
 
     # loops
@@ -239,37 +335,63 @@ class Maker:
         """A feed, operations that read it where a bit is 1, and its connection to one of their streams, some ticks back."""
         of = self.type()
         feed = Variable(self.fresh("f"), of)
+        loop = Loop(feed.name)
         self.statements.append(f"DFEVar {feed.name} = {type_text(of)}.newInstance(this);")
         begin = self.some(of)
-        kept = self.declare(f"{self.bit()} ? {feed.name} : {begin.name}", of) if random.random() < 0.9 else feed
+        kept = self.declare(f"{self.begun(loop)} ? {feed.name} : {begin.name}", of) if random.random() < 0.9 else feed
         if random.random() < 0.2:
             self.variables.append(feed)
         if random.random() < 0.1:
             self.variables.append(kept)
+        if begin in self.defined:
+            self.defined.append(kept)
+        other = self.read_by(kept) if self.has_counts and random.random() < 0.4 else None
         for _ in range(random.randrange(length)):
             self.operation()
         last = kept
         if random.random() < 0.9:
             signs = [sign for sign in "+-&|^" if takes(JOINING[sign], of)] or ["==="]
-            text = f"{kept.name} {random.choice(signs)} {self.beside(of)}"
+            text = f"{kept.name} {random.choice(signs)} {other or self.beside(of)}"
             last = self.declare(text if "===" not in text else kept.name, of)
-        self.loops.append(Loop(feed.name, last.name, random.choice([-1, 0, 1, 1, 2, 3])))
-        self.statements.append(self.loops[-1])
+        if self.has_counts and random.random() < 0.3:
+            last = self.declare(f"Reductions.streamHold({last.name}, {self.steady_bit()})", of)
+        loop.value, loop.back = last.name, random.choice([-1, 0, 1, 1, 2, 3])
+        self.loops.append(loop)
+        self.statements.append(loop)
+
+    def read_by(self, kept):
+        """An input that is read where a word of a loop says so, and is held: the name of what is held, where it is of the loop's
+        type, as it mostly is."""
+        sign = random.choice([sign for sign, op in COMPARING.items() if takes(op, kept.of)])
+        bit = self.declare(f"{kept.name} {sign} {literal(kept.of)}", BIT)
+        word = self.input(kept.of if random.random() < 0.8 else self.type(), f", {bit.name}")
+        held = self.declare(f"Reductions.streamHold({word.name}, {bit.name})", word.of)
+        return held.name if held.of == kept.of else None
+
+    def begun(self, loop):
+        """The name of a bit for a loop: often one that is 1 once the loop looks back to a tick of the run."""
+        if not self.has_counts or random.random() < 0.3:
+            return self.bit()
+        bit = self.fresh("b")
+        self.statements.append(Begun(bit, self.counter(LONG).name, loop))
+        return bit
 
     # the kernel
 
     def fill(self, length):
         """Inputs, operations and loops, and outputs of some variables."""
         for _ in range(random.choice([1, 1, 2, 2, 3, 4]) if random.random() < 0.95 else 0):
-            self.input(self.type())
+            self.input(self.type(), self.control(0.25))
+        for _ in range(random.choice([0, 0, 0, 1, 2]) if self.has_counts else 0):
+            self.scalar(self.type())
         for _ in range(length):
             form = random.random()
-            if form < 0.06 and len(self.loops) < 3:
+            if form < 0.08 and len(self.loops) < 3:
                 self.loop(6)
-            elif form < 0.08:
-                self.constant(self.type())
             elif form < 0.1:
-                self.input(self.type())
+                self.constant(self.type())
+            elif form < 0.12:
+                self.input(self.type(), self.control(0.6))
             else:
                 self.operation()
         self.connect_out()
@@ -284,14 +406,11 @@ class Maker:
     def source(self, name):
         lines = []
         for part in self.statements:
-            if isinstance(part, Loop):
-                value = part.value if part.back == 0 else f"stream.offset({part.value}, {-part.back})"
-                part = f"{part.feed} <== {value};"
-            lines.append(f"    {part}\n")
+            lines.append(f"    {part if isinstance(part, str) else part.text()}\n")
         return f"class {name} extends Kernel {{\n  {name}(KernelParameters p) {{\n    super(p);\n{''.join(lines)}  }}\n}}\n"
 
 
 def any_kernel():
-    maker = Maker()
+    maker = Maker(random.random() < 0.8)
     maker.fill(random.choice([1, 3, 6, 10, 15, 20, 30]))
     return maker

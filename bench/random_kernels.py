@@ -1,13 +1,22 @@
 #!/usr/bin/env python3
 """Compares `maxjc compile` and `maxjc simulate` with the stream equations on random kernels.
 
-Each kernel (bench/kernel_maker.py) has some inputs and outputs, operations on words of many types, offsets both ways, feedback
-through feeds, and a random latency table. What `compile` says is to be what bench/schedule_rules.py says: L1, C1, C2, or the
-fewest bits of FIFOs. Then the text is run by `maxjc simulate`: without stalls, under a pattern of stalls, and with more or
-fewer words than ticks, from random contents. The words that leave are to be the first of those of the stream equations
-(bench/stream_equations.py), where an undefined word may be any; the run is to be done, and all words are to have left, where
-the words suffice; and each tick more is to take one edge more. Where Icarus is installed, one of the runs is made by it
-too, with the same words and the same end, but for kernels with quotients of words that Icarus can't divide by 1.
+Each kernel (bench/kernel_maker.py) has some inputs and outputs, with and without controls, operations on words of many types,
+offsets both ways, feedback through feeds, counters and chains of them, holds, scalars, and a random latency table. What `compile`
+says is to be what bench/schedule_rules.py says: L1, C1, C2, or the fewest bits of FIFOs. Then the text is run by `maxjc
+simulate`: without stalls, under a pattern of stalls, and with more or fewer words than the run reads, from random contents. The
+words that leave are to be the first of those of the stream equations (bench/stream_equations.py), where an undefined word may be
+any; the run is to be done, and all words are to have left, where the words suffice.
+
+Without stalls the number of edges is to be that of docs/HARDWARE.md: with T ticks and S the greatest time of a port by the
+report, T + S, and one more where a word is read at position 0, and one more where a word is given at the last position. A word of
+tick t of an output of time s has left so many edges after the reset edge: s + t + 2, and one more in that case, and not an
+edge before. This is looked at for some words, by runs of so many edges.
+
+A run in which a control or a store is undefined is not guarded: its words are bound by nothing, and it is only to end.
+
+Where Icarus is installed, one of the guarded runs is made by it too, with the same words and the same end, but for kernels with
+quotients of words that Icarus can't divide by 1.
 
     bench/random_kernels.py [COUNT [SEED]]
 """
@@ -31,6 +40,15 @@ from trials import PROGRAM
 NAMES = ["K", "Kernel_1", "a", "Sum", "z9_", "M0"]
 SLOWER = 40  # times as many edges may a run take where all ports stall in a fourth of them
 DEEPEST = 5  # times that a feedback is lengthened
+DUE = 2  # words of a run whose edge is looked at
+KINDS = {
+    "counters": lambda node: node.kind == "counter",
+    "chains": lambda node: node.kind == "chain",
+    "holds": lambda node: node.kind == "hold",
+    "scalars": lambda node: node.kind == "scalar",
+    "inputs with controls": lambda node: node.kind == "input" and node.control is not None,
+    "outputs with controls": lambda node: node.kind == "output" and node.control is not None,
+}
 
 
 @dataclass
@@ -73,21 +91,54 @@ def any_case():
     return case
 
 
+class Ports:
+    """In which ticks the ports of a kernel are enabled in a run, and at which positions they are due."""
+
+    def __init__(self, nodes, times, streams):
+        self.ticks = streams.ticks
+        self.inputs, self.outputs, self.times = {}, {}, {}
+        for number, node in enumerate(nodes):
+            if node.kind in ("input", "output"):
+                ticks = [tick for tick in range(self.ticks) if node.control is None or streams.word(node.control, tick) == 1]
+                (self.inputs if node.kind == "input" else self.outputs)[node.name] = ticks
+                self.times[node.kind, node.name] = times[number]
+        self.last = max(self.times.values(), default=0)
+        self.waits = any(self.times["input", name] == 0 and ticks[:1] == [0] for name, ticks in self.inputs.items())
+
+    def edges(self):
+        """The edges of a run without stalls in which all words are there."""
+        end = self.ticks - 1
+        gives = any(self.times["output", name] == self.last and ticks[-1:] == [end] for name, ticks in self.outputs.items())
+        return self.ticks + self.last + self.waits + gives
+
+    def edge_of(self, name, number):
+        """The edges after which a word of an output has left such a run."""
+        return self.times["output", name] + self.outputs[name][number] + 2 + self.waits
+
+
 @dataclass
 class Runs:
-    """The runs of a compiled kernel in a folder: the ticks, the words of each input, and what the equations give."""
+    """The runs of a compiled kernel in a folder: the ticks, the words of each input and those that the run reads of them, the
+    words of scalars, what the equations give, the ports, and whether the run is guarded."""
 
     case: Case
     folder: object
     ticks: int
     words: dict
+    read: dict
+    scalars: dict
     wanted: dict
     edges: int
+    ports: Ports
+    is_guarded: bool
 
     def spec(self, **more):
         inputs = {name: f"in_{name}.txt" for name in self.words}
         outputs = {name: f"out_{name}.txt" for name in self.wanted}
         run = {"ticks": {self.case.name: self.ticks}, "inputs": inputs, "outputs": outputs, "edges": self.edges}
+        widths = {name: of.width for name, of in self.case.maker.scalars.items()}
+        if self.scalars or random.random() < 0.1:
+            run["scalars"] = {f"{self.case.name}.{name}": testbench.hex_of(word, widths[name]) for name, word in self.scalars.items()}
         return run | {"fill": f"{random.getrandbits(128):x}"} | more
 
     def give(self, words):
@@ -109,6 +160,8 @@ class Runs:
     def wrong_words(self, spec, has_all):
         """What is wrong of a run, if anything is, and how it ended."""
         line, edges, left = self.simulate(spec)
+        if not self.is_guarded:
+            return None, line, edges
         if line.startswith("done") != has_all:
             return f"{line}, with words for {'all' if has_all else 'fewer'} ticks", line, edges
         for name, listed in left.items():
@@ -136,57 +189,68 @@ def any_word(width):
     return random.choice([0, 1, 2**width - 1, 2 ** (width - 1), random.getrandbits(width), random.getrandbits(width)])
 
 
+def times_of(report):
+    """The times of nodes that a report of one kernel says."""
+    return [int(line.split()[1]) for line in report.splitlines() if line.startswith("time ")]
+
+
 def runs_of(case, folder):
     """Some ticks, and words for a few more."""
     kernel = schedule_rules.Kernel(case.calls)
-    latencies = [kernel.latency(node, case.table)[0] for node in range(len(kernel.kinds))]
-    span = sum(latencies) + sum(abs(ahead) for _, _, ahead in kernel.edges)
     far = max([abs(ahead) for _, _, ahead in kernel.edges] + [0])
     ticks = random.choice([0, 1, 2, 9, 20, 20, 33, 33]) + random.choice([0, far, far])
     given = ticks + random.randrange(1, 6)
     words = {name: [any_word(of.width) for _ in range(given)] for name, of in case.maker.inputs.items()}
+    scalars = {name: any_word(of.width) for name, of in case.maker.scalars.items()}
     nodes = stream_equations.nodes_of(case.calls)
-    streams = stream_equations.Streams(nodes, ticks, words)
+    streams = stream_equations.Streams(nodes, ticks, words, scalars)
+    ports = Ports(nodes, times_of((folder / "report").read_text()), streams)
+    read = {name: listed[: len(ports.inputs[name])] for name, listed in words.items()}
     wanted = {name: streams.output(name) for name in case.maker.outputs}
-    return Runs(case, folder, ticks, words, wanted, given + span + 20)
+    return Runs(case, folder, ticks, words, read, scalars, wanted, ports.edges() + 20, ports, streams.unguarded() is None)
 
 
 def runs_to_try(runs):
     """The words and the run file of each run, and whether the words suffice: without stalls, under a pattern of stalls, and with
     too few words of some inputs."""
-    yield {name: listed[: random.choice([runs.ticks, len(listed)])] for name, listed in runs.words.items()}, runs.spec(), True
+    enough = {name: random.choice([runs.read[name], listed]) for name, listed in runs.words.items()}
+    yield enough, runs.spec(), True
     yield runs.words, runs.spec(pattern=random.randrange(1, 2**64), edges=runs.edges * SLOWER), True
-    if runs.words and runs.ticks:
-        short = random.sample(sorted(runs.words), random.randint(1, len(runs.words)))
-        fewer = {name: runs.words[name][: random.randrange(runs.ticks)] for name in short}
+    needed = sorted(name for name, listed in runs.read.items() if listed)
+    if needed:
+        short = random.sample(needed, random.randint(1, len(needed)))
+        fewer = {name: runs.read[name][: random.randrange(len(runs.read[name]))] for name in short}
         yield runs.words | fewer, runs.spec(pattern=random.choice([0, random.randrange(1, 2**64)])), False
 
 
 def wrong_runs(runs):
     """What is wrong of the runs of a compiled kernel, if anything is."""
-    beside = random.randrange(3) if shutil.which("iverilog") and not runs.case.maker.divides_wide else None
-    ends = []
+    has_icarus = shutil.which("iverilog") and runs.is_guarded and not runs.case.maker.divides_wide
+    beside = random.randrange(3) if has_icarus else None
     for number, (words, spec, has_all) in enumerate(runs_to_try(runs)):
         runs.give(words)
         wrong, line, edges = runs.wrong_words(spec, has_all)
         if wrong is None and number == beside:
             wrong = runs.wrong_icarus(spec, line, edges)
+        if wrong is None and number == 0 and runs.is_guarded and edges != runs.ports.edges():
+            wrong = f"{line}, and not after {runs.ports.edges()}"
         if wrong:
             return f"{json.dumps(spec)}: {wrong}, of {words}"
-        ends.append(edges)
-    return wrong_speed(runs, ends[0])
+    return None
 
 
-def wrong_speed(runs, edges):
-    """What is wrong of the number of edges where there are some more ticks, if anything is."""
-    if runs.ticks == 0:
-        return None
-    given = min([len(listed) for listed in runs.words.values()] + [runs.ticks + 3])
+def wrong_due(runs, counted):
+    """What is wrong of the edges in which some words leave, if anything is."""
     runs.give(runs.words)
-    line, more, _ = runs.simulate(runs.spec(ticks={runs.case.name: given}))
-    if line.startswith("done") and more - edges == given - runs.ticks:
-        return None
-    return f"{edges} edges for {runs.ticks} ticks, and for {given}: {line}"
+    places = [(name, number) for name, ticks in runs.ports.outputs.items() for number in range(len(ticks))]
+    for name, number in random.sample(places, min(DUE, len(places))):
+        edges = runs.ports.edge_of(name, number)
+        for most, count in ((edges, number + 1), (edges - 1, number)):
+            line, _, left = runs.simulate(runs.spec(edges=most))
+            if len(left[name]) != count:
+                return f"{line}: output {name} gave {len(left[name])} words, and not {count}"
+        counted["due"] += 1
+    return None
 
 
 def trial(folder, counted):
@@ -205,22 +269,35 @@ def trial(folder, counted):
         return None
     runs = runs_of(case, folder)
     try:
-        wrong = wrong_runs(runs)
+        wrong = wrong_runs(runs) or (wrong_due(runs, counted) if runs.is_guarded else None)
     except ValueError as fault:
         wrong = str(fault)
+    count_run(runs, counted)
+    return case.told(wrong) if wrong else None
+
+
+def count_run(runs, counted):
+    """Counts what the kernel has, and its words where they are bound."""
+    nodes = stream_equations.nodes_of(runs.case.calls)
+    if not runs.is_guarded:
+        counted["unguarded"] += 1
+        return
+    for kind, is_one in KINDS.items():
+        counted[kind] += any(map(is_one, nodes))
     all_words = [word for listed in runs.wanted.values() for word in listed]
     counted["words"] += len(all_words)
     counted["defined"] += sum(word is not None for word in all_words)
-    return case.told(wrong) if wrong else None
 
 
 def main():
     counted = Counter()
     count = trials.run(200, lambda folder: trial(folder, counted))
     if count:
-        codes = ", ".join(f"{code} {counted[code]}" for code in ("L1", "C1", "C2"))
+        codes = ", ".join(f"{code} {counted[code]}" for code in ("L1", "C1", "C2", "unguarded"))
         beside = "and Icarus" if shutil.which("iverilog") else "(Icarus is not installed here)"
         print(f"{count} random kernels ({codes}): the words of the stream equations {beside}, {counted['defined']} of {counted['words']} defined")
+        kinds = ", ".join(f"{kind} {counted[kind]}" for kind in KINDS)
+        print(f"kernels in guarded runs with {kinds}; {counted['due']} words looked at in the edge in which they leave")
     return 1 if count is None else 0
 
 

@@ -4,7 +4,7 @@
 The sources are files of the grammar: kernels with loops, arrays, methods, strings, rounding modes and
 streams, some of them broken, some at a limit of the language, and some with a manager. Where the
 evaluator (bench/building_run.py, written from that page alone) says a refusal by a code E or G, the program
-is to say that line. Where the run ends well, bench/schedule_rules.py says whether L1, C1, C2, N0 or B1 stands by a
+is to say that line. Where the run ends well, bench/schedule_rules.py says whether L1, C1, C2 or B1 stands by a
 random latency table; where none does, the program is to compile the source, with FIFOs of the fewest bits.
 
     bench/random_programs.py [COUNT [SEED]]

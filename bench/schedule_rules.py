@@ -1,5 +1,5 @@
 """What docs/SCHEDULES.md says of a kernel's schedules: the refusals L1, C1, C2 and B1, judged by the calls that make it, and the
-fewest bits that its FIFOs hold. N0 is judged here too, as it stands between C2 and B1.
+fewest bits that its FIFOs hold.
 
 This is written from that page, and not from the program. A kernel is a name and the list of its calls, as
 bench/building_run.py gives them; a table is the JSON value of a latency table.
@@ -9,7 +9,6 @@ import re
 
 FREE = {"shl", "shr", "cast"}
 STEADY = {"constant", "scalar"}
-COMPILED = {"input", "output", "constant", "operation", "offset", "feed"}
 MOST_BITS = 2**28
 MOST_COUNTED = 250  # nodes that read or are read: the fewest bits are found in no greater kernel
 WALK = re.compile(r"refused (C[12]) (\w+) latency (\d+) back (-?\d+) nodes((?: \d+)+)")
@@ -60,11 +59,6 @@ class Kernel:
             return 0, (op, width)
         rows = [ticks for least, ticks in table.get(op, []) if least <= width]
         return (rows[-1] if rows else None), (op, width)
-
-    def is_compiled(self):
-        """Whether all nodes are of the kinds that have hardware yet, and no port has a control."""
-        controls = [values[2] for kind, values in zip(self.kinds, self.values) if kind in ("input", "output")]
-        return set(self.kinds) <= COMPILED and all(control is None for control in controls)
 
 
 def operands_of(kind, values):
@@ -264,13 +258,11 @@ def judged(name, calls, table, said):
         return "C1", walk is not None and walk[0] == "C1" and walk[2] <= 0
     if has_positive_walk(nodes, [(start, end, ticks[start] + ahead) for start, end, ahead in kernel.edges]):
         return "C2", walk is not None and walk[0] == "C2" and walk[2] < walk[1]
-    if not kernel.is_compiled():
-        return "N0", said == "refused N0"
     return judged_bits(name, kernel, ticks, said)
 
 
 def judged_bits(name, kernel, ticks, said):
-    """The same of a kernel that has a schedule and hardware."""
+    """The same of a kernel that has a schedule."""
     match = BITS.fullmatch(said)
     bits = fewest_bits(kernel, ticks)
     if bits is None:

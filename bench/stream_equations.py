@@ -4,7 +4,7 @@ This is written from that page, and not from the program: bench/check_equations.
 """
 from dataclasses import dataclass, field
 
-from stream_rules import rounded
+from stream_rules import rounded, uint
 
 
 @dataclass
@@ -52,12 +52,12 @@ def nodes_of(calls):
             nodes.append(Node(kind, of, [value], control=store))
         elif kind == "counter":
             last, inc, bits = values
-            nodes.append(Node(kind, None, detail=((last, inc, bits),)))
+            nodes.append(Node(kind, uint(bits), detail=((last, inc, bits),)))
         elif kind == "chain":
             nodes.append(Node(kind, None))
         elif kind == "chain counter":
             chain, *digit = values
-            nodes.append(Node(kind, None, [chain], detail=(len(nodes[chain].detail),)))
+            nodes.append(Node(kind, uint(digit[-1]), [chain], detail=(len(nodes[chain].detail),)))
             nodes[chain].detail += (tuple(digit),)
         else:
             raise ValueError(kind)
@@ -69,8 +69,7 @@ def nodes_of(calls):
 
 def number(bits, of):
     """The value of a word, or the numerator of one."""
-    signed = of is not None and of.signed
-    return bits - (1 << of.width) if signed and bits >> (of.width - 1) else bits
+    return bits - (1 << of.width) if of.signed and bits >> (of.width - 1) else bits
 
 
 def quotient(a, b):

@@ -1,0 +1,211 @@
+#!/usr/bin/env python3
+"""The words of the examples: those that come in, and those that are to leave.
+
+What is to leave is computed by a plain program for each algorithm, over lists of numbers: nothing here knows of kernels, ticks or
+schedules, and nothing is read from the sources. Chance is seeded, so each run writes the same files.
+
+    examples/models.py     writes NAME/PORT.txt and NAME/PORT.expected.txt
+"""
+import pathlib
+import random
+
+HERE = pathlib.Path(__file__).resolve().parent
+WIDE, HIGH = 64, 48  # the picture of sobel
+PLATE_WIDE, PLATE_HIGH, STEPS = 48, 36, 8
+DEGREE = 2**15  # parts of a degree
+TAPS = [-71, -26, 177, 774, 1876, 3329, 4731, 5594]
+SCALE, LEAST, MOST = 10000, -3000, 3000
+
+
+def walk(chance, start, count, step, pull=0):
+    """Numbers that go up and down, in trends that last some while; they are pulled back to the first one by a share of what they
+    are away from it."""
+    numbers, number, trend = [], start, 0
+    for place in range(count):
+        if place % 20 == 0:
+            trend = chance.randrange(-step // 3, step // 3 + 1)
+        number += trend + chance.randrange(-step, step + 1) - (number - start) * pull // 100
+        numbers.append(number)
+    return numbers
+
+
+# moving average: prices in cents
+
+
+def average_in():
+    return {"price": walk(random.Random(11), 10000, 240, 60)}
+
+
+def average_out(words):
+    price, window = words["price"], 16
+    return {"mean": [sum(price[end - window : end]) // window for end in range(window, len(price) + 1)]}
+
+
+# filter of 16 taps
+
+
+def fir_in():
+    """A slow wave of straight lines, and a step, under a quick one and noise."""
+    chance, words = random.Random(22), []
+    for place in range(240):
+        around = place % 80
+        slow = 300 * (20 - abs(around - 40)) if place < 160 else 6000 if place < 200 else -6000
+        quick = 2500 if place // 2 % 2 else -2500
+        words.append(slow + quick + chance.randrange(-900, 901))
+    return {"x": words}
+
+
+def fir_out(words):
+    x, taps = words["x"], TAPS + TAPS[::-1]
+    sums = (sum(tap * x[place - back] for back, tap in enumerate(taps) if place >= back) for place in range(len(x)))
+    return {"y": [total // 2**15 for total in sums]}
+
+
+# edges of a picture
+
+
+def sobel_in():
+    """A disk, a frame and a slope of light, with a little noise."""
+    chance, words = random.Random(33), []
+    for row in range(HIGH):
+        for column in range(WIDE):
+            light = 40 + column // 2
+            if (row - 20) ** 2 + (column - 20) ** 2 <= 14**2:
+                light = 200 if (row - 16) ** 2 + (column - 16) ** 2 > 5**2 else 120
+            if 26 <= row < 42 and 36 <= column < 58 and not (31 <= row < 37 and 42 <= column < 52):
+                light = 230
+            words.append(light + chance.randrange(6))
+    return {"x": words}
+
+
+def sobel_out(words):
+    picture = [words["x"][start : start + WIDE] for start in range(0, WIDE * HIGH, WIDE)]
+    weights = [[-1, 0, 1], [-2, 0, 2], [-1, 0, 1]]
+
+    def edge(row, column):
+        if row in (0, HIGH - 1) or column in (0, WIDE - 1):
+            return 0
+        across = down = 0
+        for i in range(3):
+            for j in range(3):
+                light = picture[row + i - 1][column + j - 1]
+                across += weights[i][j] * light
+                down += weights[j][i] * light
+        return min(255, abs(across) + abs(down))
+
+    return {"y": [edge(row, column) for row in range(HIGH) for column in range(WIDE)]}
+
+
+# heat in a plate
+
+
+def heat_in():
+    """Degrees of a plate with a hot side and two hot spots."""
+    words = []
+    for row in range(PLATE_HIGH):
+        for column in range(PLATE_WIDE):
+            is_hot = (row - 12) ** 2 + (column - 18) ** 2 <= 20 or (22 <= row < 30 and 30 <= column < 38)
+            words.append((100 if column == 0 else 90 if is_hot else 10) * DEGREE)
+    return {"before": words}
+
+
+def nearest(over, under):
+    """The whole number that is nearest to a quotient, of two of them the even one."""
+    whole, rest = divmod(over, under)
+    return whole + (2 * rest > under or (2 * rest == under and whole % 2 == 1))
+
+
+def heat_out(words):
+    plate = [words["before"][start : start + PLATE_WIDE] for start in range(0, PLATE_WIDE * PLATE_HIGH, PLATE_WIDE)]
+    fifth = nearest(2 * DEGREE, 10)
+    for _ in range(STEPS):
+        old = [line[:] for line in plate]
+        for row in range(1, PLATE_HIGH - 1):
+            for column in range(1, PLATE_WIDE - 1):
+                near = old[row - 1][column] + old[row + 1][column] + sum(old[row][column - 1 : column + 2])
+                plate[row][column] = nearest(near * fifth, DEGREE)
+    return {"after": [point for line in plate for point in line]}
+
+
+# the greatest price so far
+
+
+def maximum_in():
+    return {"price": [price + 3 * place for place, price in enumerate(walk(random.Random(44), 5000, 200, 40, 5))]}
+
+
+def maximum_out(words):
+    greatest, since = [], []
+    for place, price in enumerate(words["price"]):
+        if not greatest or price > greatest[-1]:
+            greatest.append(price)
+            since.append(place)
+        else:
+            greatest.append(greatest[-1])
+            since.append(since[-1])
+    return {"greatest": greatest, "since": since}
+
+
+# imbalance of an order book
+
+
+def imbalance_in():
+    chance = random.Random(55)
+    is_ask = [chance.getrandbits(1) for _ in range(240)]
+    bids, asks = (walk(chance, 300, is_ask.count(side), 40, 10) for side in (0, 1))
+    return {"isAsk": is_ask, "bid": bids, "ask": asks}
+
+
+def imbalance_out(words):
+    bids, asks = iter(words["bid"]), iter(words["ask"])
+    bid = ask = 0
+    values, ticks, signals = [], [], []
+    for tick, is_ask in enumerate(words["isAsk"]):
+        if is_ask:
+            ask = next(asks)
+        else:
+            bid = next(bids)
+        size = abs(bid - ask) * SCALE // (bid + ask) if bid + ask else 0
+        value = size if bid > ask else -size
+        values.append(value)
+        if not LEAST <= value <= MOST:
+            ticks.append(tick)
+            signals.append(value)
+    return {"imbalance": values, "tick": ticks, "signal": signals}
+
+
+# files: the example, its words, its model, and the width of each port's words
+
+EXAMPLES = [
+    ("average", average_in, average_out, {"price": 16, "mean": 16}),
+    ("fir", fir_in, fir_out, {"x": 16, "y": 16}),
+    ("sobel", sobel_in, sobel_out, {"x": 8, "y": 8}),
+    ("heat", heat_in, heat_out, {"before": 24, "after": 24}),
+    ("maximum", maximum_in, maximum_out, {"price": 16, "greatest": 16, "since": 40}),
+    ("imbalance", imbalance_in, imbalance_out, {"isAsk": 1, "bid": 16, "ask": 16, "imbalance": 32, "tick": 40, "signal": 32}),
+]
+
+
+def text_of(numbers, width):
+    """A file of words: each number in two's complement, one a line."""
+    return "".join(f"{number % 2**width:0{(width + 3) // 4}x}\n" for number in numbers)
+
+
+def files():
+    """Each file with its text."""
+    for example, words_in, words_out, widths in EXAMPLES:
+        words = words_in()
+        for port, numbers in words.items():
+            yield HERE / example / f"{port}.txt", text_of(numbers, widths[port])
+        for port, numbers in words_out(words).items():
+            yield HERE / example / f"{port}.expected.txt", text_of(numbers, widths[port])
+
+
+def main():
+    for path, text in files():
+        path.write_text(text)
+        print(f"{path.relative_to(HERE)}: {text.count(chr(10))} words")
+
+
+if __name__ == "__main__":
+    main()
