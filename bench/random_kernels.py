@@ -13,6 +13,9 @@ report, T + S, and one more where a word is read at position 0, and one more whe
 tick t of an output of time s has left so many edges after the reset edge: s + t + 2, and one more in that case, and not an
 edge before. This is looked at for some words, by runs of so many edges.
 
+The registers and memories of the kernel's module are to have the bits that docs/HARDWARE.md says: those of the FIFOs, the latency
+times the width of each node, 48 for the position, the widths of counters, chains and holds, and the pointers of the rings.
+
 A run in which a control or a store is undefined is not guarded: its words are bound by nothing, and it is only to end.
 
 Where Icarus is installed, one of the guarded runs is made by it too, with the same words and the same end, but for kernels with
@@ -35,12 +38,15 @@ import schedule_rules
 import stream_equations
 import testbench
 import trials
+from stream_rules import least_bits
 from trials import PROGRAM
 
 NAMES = ["K", "Kernel_1", "a", "Sum", "z9_", "M0"]
 SLOWER = 40  # times as many edges may a run take where all ports stall in a fourth of them
 DEEPEST = 5  # times that a feedback is lengthened
 DUE = 2  # words of a run whose edge is looked at
+POSITION = 48  # bits
+STATES = ("counter", "chain", "hold")
 KINDS = {
     "counters": lambda node: node.kind == "counter",
     "chains": lambda node: node.kind == "chain",
@@ -241,6 +247,8 @@ def wrong_runs(runs):
 
 def wrong_due(runs, counted):
     """What is wrong of the edges in which some words leave, if anything is."""
+    if not runs.is_guarded:
+        return None
     runs.give(runs.words)
     places = [(name, number) for name, ticks in runs.ports.outputs.items() for number in range(len(ticks))]
     for name, number in random.sample(places, min(DUE, len(places))):
@@ -251,6 +259,20 @@ def wrong_due(runs, counted):
                 return f"{line}: output {name} gave {len(left[name])} words, and not {count}"
         counted["due"] += 1
     return None
+
+
+def wrong_storage(case, text):
+    """What is wrong of the bits that the kernel's module stores, if anything is."""
+    kernel = schedule_rules.Kernel(case.calls)
+    wanted = int(case.said.split()[-1]) + POSITION
+    for node, kind in enumerate(kernel.kinds):
+        wanted += kernel.widths[node] * (kernel.latency(node, case.table)[0] + (kind in STATES))
+    stored = 0
+    items = next(items for name, _, items in testbench.modules_of(text) if name == f"kernel${case.name}")
+    for high, _, last in testbench.STORE.findall(items):
+        stored += (int(high) + 1) * (int(last) + 1 if last else 1)
+        wanted += least_bits(int(last)) if last else 0
+    return None if stored == wanted else f"{stored} bits are stored, and not {wanted}"
 
 
 def trial(folder, counted):
@@ -269,7 +291,7 @@ def trial(folder, counted):
         return None
     runs = runs_of(case, folder)
     try:
-        wrong = wrong_runs(runs) or (wrong_due(runs, counted) if runs.is_guarded else None)
+        wrong = wrong_storage(case, (folder / "text.v").read_text()) or wrong_runs(runs) or wrong_due(runs, counted)
     except ValueError as fault:
         wrong = str(fault)
     count_run(runs, counted)
