@@ -13,8 +13,9 @@ use Rattle.stream_graph.specs.declared.node.Kind.{Kind}
 use Rattle.stream_graph.specs.declared.node.Kind.TheVariants as K
 use Rattle.stream_graph.specs.declared.node.Node.{Node}
 use Rattle.manager_links.specs.declared.links.Link.{Link}
+use Rattle.manager_links.specs.declared.links.LinkEnds.{LinkEnds}
 use Rattle.manager_links.specs.declared.links.Links.{Links}
-use Rattle.manager_links.specs.Joined.{IsLinkOf}
+use Rattle.manager_links.specs.Joined.{IsLinkOf, ends_of_link}
 use Rattle.manager_links.specs.Links.{AreLinks}
 use Rattle.manager_links.specs.Starts.{Starts, AreLegal, first_edge, depth_of}
 
@@ -66,19 +67,17 @@ times =
     (pos 0 ∷ pos 0 ∷ pos 5 ∷ pos 0 ∷ pos 100 ∷ [])
     ∷ (pos 0 ∷ pos 0 ∷ pos 0 ∷ pos 1 ∷ []) ∷ []
 
+abbrev p_ends : LinkEnds
+p_ends = record { from = record { kernel = 0; node = 2 }; to = record { kernel = 1; node = 0 } }
+
+abbrev q_ends : LinkEnds
+q_ends = record { from = record { kernel = 0; node = 4 }; to = record { kernel = 1; node = 1 } }
+
 abbrev p_link : Link
-p_link = record {
-  from = record { kernel = 0; node = 2 };
-  to = record { kernel = 1; node = 0 };
-  depth = 97;
-}
+p_link = record { from = p_ends.from; to = p_ends.to; depth = 97 }
 
 abbrev q_link : Link
-q_link = record {
-  from = record { kernel = 0; node = 4 };
-  to = record { kernel = 1; node = 1 };
-  depth = 2;
-}
+q_link = record { from = q_ends.from; to = q_ends.to; depth = 2 }
 
 -- the second starts where the first of q can be read, 95 edges after the first of p
 abbrev made : Links
@@ -89,30 +88,31 @@ start = slice_index made.starts
 
 -- they are the links that the definitions give
 two_ways : (a b : Kernel) → a.nodes ≡ split → b.nodes ≡ add_two
-    → AreLinks (a ∷ b ∷ []) joins times made
+    → AreLinks (a ∷ b ∷ []) joins (p_ends ∷ q_ends ∷ []) times made
 two_ways a b of_a of_b = record {
+  ends = refl;
   joined = (p_joined, (q_joined, tt));
   starts = record {
     each = refl;
-    legal = record { one = one; behind = both IsBehind (omega arith) (omega arith) };
+    legal = record { one = one; behind = both_ends IsBehind (omega arith) (omega arith) };
     least = least;
   };
   deep = both IsDeep (rw (of_a, of_b) refl) (rw (of_a, of_b) refl);
 }
   where
-    IsBehind : Link → Type 0
+    IsBehind : LinkEnds → Type 0
     IsBehind link = first_edge times start link.from + 1 ≤ first_edge times start link.to
 
     IsDeep : Link → Type 0
-    IsDeep link = link.depth ≡ depth_of (a ∷ b ∷ []) times start link
+    IsDeep link = link.depth ≡ depth_of (a ∷ b ∷ []) times start (ends_of_link link)
 
-    p_joined : IsLinkOf (a ∷ b ∷ []) p_join p_link
+    p_joined : IsLinkOf (a ∷ b ∷ []) p_join p_ends
     p_joined = record {
       from = record { kernel = refl; node = rw of_a (refl, refl) };
       to = record { kernel = refl; node = rw of_b (refl, refl) };
     }
 
-    q_joined : IsLinkOf (a ∷ b ∷ []) q_join q_link
+    q_joined : IsLinkOf (a ∷ b ∷ []) q_join q_ends
     q_joined = record {
       from = record { kernel = refl; node = rw of_a (refl, refl) };
       to = record { kernel = refl; node = rw of_b (refl, refl) };
@@ -121,15 +121,18 @@ two_ways a b of_a of_b = record {
     both : (P : Link → Type 0) → P p_link → P q_link → All P made.links
     both P p q = All-cons P p_link (q_link ∷ []) p (All-cons P q_link [] q (All-nil P))
 
+    both_ends : (P : LinkEnds → Type 0) → P p_ends → P q_ends → All P (p_ends ∷ q_ends ∷ [])
+    both_ends P p q = All-cons P p_ends (q_ends ∷ []) p (All-cons P q_ends [] q (All-nil P))
+
     one : (k : ℕ) → k < 2 → 1 ≤ start k
     one zero below = omega arith
     one (suc zero) below = omega arith
     one (suc (suc k)) below = absurd (omega arith)
 
-    least : (other : Starts) → AreLegal times 2 made.links other
+    least : (other : Starts) → AreLegal times 2 (p_ends ∷ q_ends ∷ []) other
         → (k : ℕ) → k < 2 → start k ≤ other k
     least other legal zero below = legal.one 0 (omega arith)
     least other legal (suc zero) below =
         let first : 1 ≤ other 0 = legal.one 0 (omega arith) in
-        let q : other 0 + 100 + 1 ≤ other 1 + 0 = legal.behind 1 q_link (omega arith) in omega arith
+        let q : other 0 + 100 + 1 ≤ other 1 + 0 = legal.behind 1 q_ends (omega arith) in omega arith
     least other legal (suc (suc k)) below = absurd (omega arith)

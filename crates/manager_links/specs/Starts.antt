@@ -27,7 +27,7 @@ use Rattle.std.specs.List.{AllZip}
 use Rattle.cycle_find.specs.Constraints.{numbers_of}
 use Rattle.stream_graph.specs.declared.kernel.Kernel.{Kernel}
 use Rattle.manager_links.specs.declared.links.PortAt.{PortAt}
-use Rattle.manager_links.specs.declared.links.Link.{Link}
+use Rattle.manager_links.specs.declared.links.LinkEnds.{LinkEnds}
 use Rattle.manager_links.specs.Ports.{is_controlled}
 
 -- ---- times
@@ -42,9 +42,13 @@ pub record IsTimed (kernel : Kernel) (times : List ℤ) : Type 0 where
 abbrev pub AreTimes : List Kernel → List (List ℤ) → Type 0
 AreTimes kernels times = AllZip IsTimed kernels times
 
+-- the times of a kernel's nodes
+abbrev pub own_times : List (List ℤ) → ℕ → List ℤ
+own_times times kernel = slice_index_or times kernel []
+
 -- the time of a port's node
 abbrev pub time_of : List (List ℤ) → PortAt → ℕ
-time_of times port = unsigned_abs (numbers_of (slice_index_or times port.kernel []) port.node)
+time_of times port = unsigned_abs (numbers_of (own_times times port.kernel) port.node)
 
 -- ---- starts
 
@@ -57,7 +61,7 @@ abbrev pub first_edge : List (List ℤ) → Starts → PortAt → ℕ
 first_edge times start port = start port.kernel + time_of times port
 
 -- legal starts of so many kernels: what is read of a link in tick 0 was written in an earlier edge
-pub record AreLegal (times : List (List ℤ)) (kernels : ℕ) (links : List Link) (start : Starts)
+pub record AreLegal (times : List (List ℤ)) (kernels : ℕ) (links : List LinkEnds) (start : Starts)
     : Type 0
   where
     pub one : (k : ℕ) → k < kernels → 1 ≤ start k
@@ -65,7 +69,7 @@ pub record AreLegal (times : List (List ℤ)) (kernels : ℕ) (links : List Link
         All (λ link. first_edge times start link.from + 1 ≤ first_edge times start link.to) links
 
 -- the starts of so many kernels: legal ones, none of which is above that of any legal ones
-pub record AreStarts (times : List (List ℤ)) (kernels : ℕ) (links : List Link) (starts : List ℕ)
+pub record AreStarts (times : List (List ℤ)) (kernels : ℕ) (links : List LinkEnds) (starts : List ℕ)
     : Type 0
   where
     pub each : length starts ≡ kernels
@@ -79,9 +83,13 @@ pub record AreStarts (times : List (List ℤ)) (kernels : ℕ) (links : List Lin
 abbrev pub controlled_depth : ℕ
 controlled_depth = 512
 
+-- the most words that a link may hold
+abbrev pub most_words : ℕ
+most_words = 65536
+
 -- how deep a link is: without controls as many words as are written before the edge in which the
 -- first one is read, and one more for that edge
-abbrev pub depth_of : List Kernel → List (List ℤ) → Starts → Link → ℕ
+abbrev pub depth_of : List Kernel → List (List ℤ) → Starts → LinkEnds → ℕ
 depth_of kernels times start link =
     if is_controlled kernels link.from || is_controlled kernels link.to
     then controlled_depth

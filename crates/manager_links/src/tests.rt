@@ -1,7 +1,7 @@
 // The project of a kernel that stands alone.
 ghost use Rattle.std.specs.Prelude.{◌≡◌, ◌∷◌, [], map, IfOk};
 ghost use Rattle.kernel_meaning.specs.declared.plan.Made.{Made as OneMade};
-ghost use Rattle.manager_links.specs.Plans.{IsAlone};
+ghost use Rattle.manager_links.specs.Plans.{IsWholePlan};
 
 use crate::{Project, starts};
 use kernel_meaning::{Made, Plan};
@@ -12,7 +12,7 @@ use stream_graph::{Graph, Tally};
 
 // The plan of a source that has this class alone.
 fn plan(alloc: Global, name: &[u8]) -> Result<Plan, NoMemory>
-    ensures alone { IfOk result IsAlone }
+    ensures whole { IfOk result IsWholePlan }
     ensures named { IfOk result (λ plan.
         map (λ (made : OneMade). made.name) plan.kernels ≡ name.now ∷ []) }
 {
@@ -38,7 +38,7 @@ fn a_kernel_alone(rt: HostRuntime) -> Result<(), Fail> {
     let graph = Graph::reserve(alloc, &Tally::new())?;
     let mut kernels = Vec::new(alloc);
     kernels.push(graph.finish(alloc, Text::from_vec(name.to_vec(alloc)?))?)?;
-    let project = Project::join(kernels, plan(alloc, name)?)?;
+    let project = Project::join(alloc, kernels, plan(alloc, name)?)?;
     assert_eq!(rt; project.kernels().len(), 1);
     assert_eq!(rt; project.kernels()[0].name(), name);
     assert!(rt; !project.plan().manager);
