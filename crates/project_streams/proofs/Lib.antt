@@ -1,0 +1,5 @@
+mod Even
+mod Ports
+mod Alone
+mod Equal
+mod Worked

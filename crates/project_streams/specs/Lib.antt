@@ -1,0 +1,5 @@
+pub mod Streams
+pub mod Guarded
+pub mod Ideal
+pub mod Balanced
+pub mod Laws
