@@ -12,6 +12,7 @@ use Rattle.std.proofs.Common.{
   sym,
   ◌∙◌,
   ap,
+  false,
   Ok,
   Err,
   subst,
@@ -25,9 +26,11 @@ use Rattle.kernel_meaning.specs.declared.error.EvalError.TheVariants as E
 use Rattle.kernel_meaning.specs.declared.state.State.{State}
 use Rattle.kernel_meaning.specs.declared.value.Value.{Value}
 use Rattle.kernel_meaning.specs.Answer.{Answer, Finished, Refused, calls_of, end_of, plan_at_end}
-use Rattle.kernel_meaning.specs.Constructors.{ctor_of, step_limit}
+use Rattle.kernel_meaning.specs.Constructors.{run_of, ctor_of, step_limit}
+use Rattle.kernel_meaning.specs.Nodes.{tree_at}
+use Rattle.kernel_meaning.specs.Plans.{OfKernel}
 use Rattle.kernel_meaning.specs.Sound.{AreSound}
-use Rattle.kernel_meaning.proofs.WholeRun.{run_of_good}
+use Rattle.kernel_meaning.proofs.WholeRun.{all_lawful}
 use Rattle.kernel_plans.specs.Classes.{ClassView, members, library_of}
 use Rattle.kernel_machine.specs.declared.machine.Machine.{Machine}
 use Rattle.kernel_machine.specs.Going.{Leads, Starts, answer_of, with_calls}
@@ -174,11 +177,11 @@ module _ {S V : Type 0} (has_room : S → Call → Type 0) (receives : S → Cal
 pub way_begins : {S V : Type 0} (has_room : S → Call → Type 0)
     (receives : S → Call → S → Type 0) (made : S → ℕ) (number : V → ℕ) (first : S)
     (class : ClassView) (args : List Value) (machine : Machine) → made first ≡ 0
-    → AreSound [] args → HasRoomBelow made has_room receives first (calls_of (run_in class args))
+    → library_of class.library ≡ OfKernel → AreSound [] args → HasRoomBelow made has_room receives first (calls_of (run_in class args))
     → run_in class args ≡ answer_of class machine
     → IsOnWay has_room receives made number first (run_in class args) first []
     (answer_of class machine)
-way_begins has_room receives made number first class args machine m sound room e =
+way_begins has_room receives made number first class args machine m kernel sound room e =
     subst (λ r. IsOnWay has_room receives made number first (run_in class args) first [] r) e
     (record {
       so_far = [];
@@ -187,8 +190,14 @@ way_begins has_room receives made number first class args machine m sound room e
       nodes = m;
       room = room;
       lawful =
-          (run_of_good (library_of class.library) (members class) args step_limit
-          (ctor_of (members class)) sound).lawful;
+          subst
+          (λ library. AreLawful []
+          (calls_of
+          (run_of library (members class) args step_limit (ctor_of (members class)))))
+          (sym kernel)
+          (all_lawful
+          (record { name = []; manager = false; tree = tree_at class.cells class.node })
+          args sound);
       received = λ last r. r;
       ending = refl;
     })

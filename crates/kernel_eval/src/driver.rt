@@ -1,7 +1,9 @@
 // A building run whose calls a builder receives.
 ghost use Rattle.std.specs.Prelude.{◌≡◌, []};
 ghost use Rattle.kernel_meaning.specs.Answer.{calls_of};
+ghost use Rattle.kernel_meaning.specs.Plans.{OfKernel};
 ghost use Rattle.kernel_meaning.specs.Sound.{AreSound};
+ghost use Rattle.kernel_plans.specs.Classes.{library_of};
 ghost use Rattle.kernel_rows.specs.Fit.{AreFit};
 ghost use Rattle.maxj_syntax.specs.Ranges.{AreInRange};
 ghost use Rattle.kernel_eval.specs.Building.{Builds};
@@ -17,7 +19,7 @@ use mx_base::List;
 use std::alloc::Global;
 use stream_graph::Builder;
 
-// Runs the constructor of a class with these arguments after the first one: the builder receives
+// Runs the constructor of a kernel's class with these arguments after the first one: the builder receives
 // the calls of the run, in their order.
 pub(crate) fn run_class<B: Builder>(
     alloc: Global,
@@ -25,6 +27,7 @@ pub(crate) fn run_class<B: Builder>(
     args: List<Value>,
     builder: &mut B,
 ) -> Result<(), EvalError>
+    requires kernel { library_of class.now.library ≡ OfKernel }
     requires within { AreInRange class.now.cells }
     requires fit { AreFit args }
     requires sound { AreSound [] args }

@@ -1,4 +1,5 @@
 pub mod Reversed
+pub mod Kept
 pub mod Later
 pub mod Going
 pub mod Ways
@@ -10,6 +11,7 @@ pub mod DigitLaws
 pub mod RowLaws
 pub mod RowsGood
 pub mod WholeRun
+pub mod SourcePlans
 pub mod NodeTrees
 pub mod Sources
 pub mod KernelExamples

@@ -24,7 +24,6 @@ use Rattle.std.proofs.lemmas.Bool.Decides.{nat_tests}
 use Rattle.maxj_tokens.specs.Tokens.{is_suffix}
 use Rattle.maxj_tokens.specs.Faults.{integer_value}
 use Rattle.fix_arith.specs.declared.types.StreamType.TheVariants as T
-use Rattle.kernel_calls.specs.declared.call.Call.{Call}
 use Rattle.maxj_syntax.specs.declared.tree.NodeKind.{NodeKind}
 use Rattle.maxj_syntax.specs.declared.tree.NodeKind.TheVariants as N
 use Rattle.maxj_syntax.specs.Tree.{Tree, Trees, Nil, Cons}
@@ -81,28 +80,29 @@ use Rattle.kernel_meaning.specs.Plans.{
   dotted_plan,
 }
 use Rattle.kernel_meaning.specs.Signs.{sign_of}
-use Rattle.kernel_meaning.specs.Sound.{IsSound, Sound}
+use Rattle.kernel_meaning.proofs.Kept.{History, IsHeld, Sound}
 use Rattle.kernel_meaning.proofs.Later.{Later, sound_later}
 use Rattle.kernel_meaning.proofs.Ways.{content_sound}
 
-abbrev pub RowSound : List Call → Row → Type 0
-RowSound so_far (R.Gives value) = IsSound so_far value
+abbrev pub RowSound : {library : Library} → History library → Row → Type 0
+RowSound so_far (R.Gives value) = IsHeld so_far value
 RowSound so_far _ = Unit {0}
 
-abbrev pub PlanSound : List Call → OperandPlan → Type 0
+abbrev pub PlanSound : {library : Library} → History library → OperandPlan → Type 0
 PlanSound so_far (Fault e) = Unit {0}
 PlanSound so_far (Reads row from count) = RowSound so_far row
 PlanSound so_far AddsKernel = Unit {0}
 
-pub record PlanOk (so_far : List Call) (plan : OperandPlan) : Type 0 where
+pub record PlanOk {library : Library} (so_far : History library) (plan : OperandPlan) : Type 0 where
   pub sound : PlanSound so_far plan
 
-pub row_later : (so_far later : List Call) (row : Row) → Later so_far later → RowSound so_far row
+pub row_later : {library : Library} (so_far later : History library) (row : Row)
+    → Later so_far later → RowSound so_far row
     → RowSound later row
 row_later so_far later (R.Gives value) l h = sound_later so_far later value l h
 row_later so_far later _ l h = tt
 
-module _ (so_far : List Call) where
+module _ {own : Library} (so_far : History own) where
   either : (b : Bool) (x y : OperandPlan) → PlanOk so_far x → PlanOk so_far y
       → PlanOk so_far (if b then x else y)
   either true x y p q = p
@@ -113,8 +113,8 @@ module _ (so_far : List Call) where
   either_row true x y p q = p
   either_row false x y p q = q
 
-  either_value : (b : Bool) (x y : Value) → IsSound so_far x → IsSound so_far y
-      → IsSound so_far (if b then x else y)
+  either_value : (b : Bool) (x y : Value) → IsHeld so_far x → IsHeld so_far y
+      → IsHeld so_far (if b then x else y)
   either_value true x y p q = p
   either_value false x y p q = q
 
@@ -123,7 +123,7 @@ module _ (so_far : List Call) where
       (if bytes_eq word (codes "~") then R.Complement else R.Not) tt
       (either_row (bytes_eq word (codes "~")) R.Complement R.Not tt tt)
 
-  whole_sound : (word : List ℕ) → IsSound so_far (whole_of word)
+  whole_sound : (word : List ℕ) → IsHeld so_far (whole_of word)
   whole_sound word =
       either_value (list_any is_suffix word) (V.Literal false (integer_value word) 0)
       (if nat_lt (integer_value word) 2147483648 then V.Int (pos (integer_value word))
@@ -140,11 +140,11 @@ module _ (so_far : List Call) where
   binary_good at None = (record { sound = tt {0} })
   binary_good at (Some sign) = (record { sound = tt {0} })
 
-  value_good : (at : ℕ) (value : Value) → IsSound so_far value → PlanOk so_far (value_plan at value)
+  value_good : (at : ℕ) (value : Value) → IsHeld so_far value → PlanOk so_far (value_plan at value)
   value_good at V.Nothing v = (record { sound = tt {0} })
   value_good at value v = record { sound = v }
 
-  read_good : (at : ℕ) (b : Option Binding) → IsSound so_far (value_of b)
+  read_good : (at : ℕ) (b : Option Binding) → IsHeld so_far (value_of b)
       → PlanOk so_far (read_plan at b)
   read_good at None v = (record { sound = tt {0} })
   read_good at (Some b) v = value_good at b.value v
@@ -290,7 +290,7 @@ module _ (so_far : List Call) where
       (record { sound = tt {0} })
 
 pub plan_good : (scope : Scope) (state : State) (kind : NodeKind) (word : List ℕ)
-    (at : ℕ) (trees : Trees) (so_far : List Call) → Sound so_far state
+    (at : ℕ) (trees : Trees) {own : Library} (so_far : History own) → Sound so_far state
     → PlanOk so_far (plan_of scope state kind word at trees)
 unfolding plan_of
 plan_good scope state N.Whole word at trees so_far s = record { sound = whole_sound so_far word }

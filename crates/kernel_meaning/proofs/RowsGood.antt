@@ -86,7 +86,8 @@ use Rattle.kernel_meaning.specs.StreamRows
 use Rattle.kernel_meaning.specs.TypeRows
 use Rattle.kernel_meaning.specs.Ways.{combined, combined_by, stepped, first_byte}
 use Rattle.kernel_meaning.specs.Signs.{sign_of}
-use Rattle.kernel_meaning.specs.Sound.{IsSound, AreSound, AreFilled, Sound}
+use Rattle.kernel_meaning.specs.Plans.{Library}
+use Rattle.kernel_meaning.proofs.Kept.{History, with_call, IsHeld, AreHeld, AreFilled, Sound}
 use Rattle.kernel_meaning.proofs.Later.{one_later, newest, bound_later, filled_later}
 use Rattle.kernel_meaning.proofs.Going.{GoodOutcome, all_hold}
 use Rattle.kernel_meaning.proofs.Ways.{array_sound}
@@ -134,9 +135,10 @@ at_least n m e = grind (arith, nat_tests)
 below : (n m : ℕ) → nat_lt n m ≡ true → n < m
 below n m e = grind (arith, nat_tests)
 
-module _ (so_far : List Call) (state : State) (s : Sound so_far state) where
-  given : (value : Value) → IsSound so_far value → GoodOutcome so_far (Outcomes.gives value state)
-  given value v = record { holds = (tt, v, s) }
+module _ {library : Library} (so_far : History library) (state : State)
+    (s : Sound so_far state) where
+  given : (value : Value) → IsHeld so_far value → GoodOutcome so_far (Outcomes.gives value state)
+  given value v = all_hold so_far [] value state tt v s
 
   -- Numbers, booleans and strings.
 
@@ -178,14 +180,14 @@ module _ (so_far : List Call) (state : State) (s : Sound so_far state) where
 
   -- Streams.
 
-  stream_width : (values : List Value) (t : StreamType) → AreSound so_far values
+  stream_width : (values : List Value) (t : StreamType) → AreHeld so_far values
       → StreamRows.first_stream values ≡ Some t → HasWidth t
   stream_width [] t v e = absurd (cc)
   stream_width (V.Stream n u feed ∷ values) t v e = let p : u ≡ t = cc in subst HasWidth p v.0.0
   stream_width (_ ∷ values) t v e = stream_width values t v.1 e
 
   with_good : (at : ℕ) (sign : Sign) (a b : Value) (t : Option StreamType)
-      → ((u : StreamType) → t ≡ Some u → HasWidth u) → AreSound so_far (a ∷ b ∷ [])
+      → ((u : StreamType) → t ≡ Some u → HasWidth u) → AreHeld so_far (a ∷ b ∷ [])
       → GoodOutcome so_far (SignRows.operation_with at (SignRows.op_of sign) t (a ∷ b ∷ []) state)
   with_good at sign a b None w v =
       elim (SignRows.op_of sign) as (λ o.
@@ -232,7 +234,7 @@ module _ (so_far : List Call) (state : State) (s : Sound so_far state) where
       (may_two O.Ge refl)
   with_good at _ a b (Some t) w v = record { holds = tt }
 
-  plain_good : (sign : Sign) (at : ℕ) (a b : Value) → IsSound so_far a → IsSound so_far b →
+  plain_good : (sign : Sign) (at : ℕ) (a b : Value) → IsHeld so_far a → IsHeld so_far b →
       GoodOutcome so_far (Outcomes.where_so (StreamRows.is_operand a && StreamRows.is_operand b)
       (E.WrongKind at) (SignRows.operation_with at (SignRows.op_of sign)
       (StreamRows.first_stream (a ∷ b ∷ [])) (a ∷ b ∷ []) state))
@@ -240,7 +242,7 @@ module _ (so_far : List Call) (state : State) (s : Sound so_far state) where
       good_if _ _ so_far _ (λ e. with_good at sign a b (StreamRows.first_stream (a ∷ b ∷ []))
       (λ u p. stream_width (a ∷ b ∷ []) u (v, (w, tt)) p) (v, (w, tt)))
 
-  stream_good : (sign : Sign) (at : ℕ) (a b : Value) → IsSound so_far a → IsSound so_far b
+  stream_good : (sign : Sign) (at : ℕ) (a b : Value) → IsHeld so_far a → IsHeld so_far b
       → GoodOutcome so_far (SignRows.stream_between sign at a b state)
   stream_good S.ShiftLeft at (V.Stream n t feed) (V.Int k) v w =
       operation_good at O.Shl k t [] (V.Stream n t feed ∷ []) so_far state v.0 (v, tt) s (may_shl k)
@@ -248,7 +250,7 @@ module _ (so_far : List Call) (state : State) (s : Sound so_far state) where
       operation_good at O.Shr k t [] (V.Stream n t feed ∷ []) so_far state v.0 (v, tt) s (may_shr k)
   stream_good sign at a b v w = plain_good sign at a b v w
 
-  between_good : (sign : Sign) (at : ℕ) (a b : Value) → IsSound so_far a → IsSound so_far b
+  between_good : (sign : Sign) (at : ℕ) (a b : Value) → IsHeld so_far a → IsHeld so_far b
       → GoodOutcome so_far (SignRows.between sign at a b state)
   between_good sign at (V.Stream n t feed) b v w = stream_good sign at (V.Stream n t feed) b v w
   between_good sign at a (V.Stream n t feed) v w = stream_good sign at a (V.Stream n t feed) v w
@@ -259,28 +261,28 @@ module _ (so_far : List Call) (state : State) (s : Sound so_far state) where
   between_good sign at (V.Int x) (V.Str b) v w = texts_good sign at (signed_decimal x) b
   between_good sign at _ _ v w = record { holds = tt }
 
-  two_good : (sign : Sign) (at : ℕ) (values : List Value) → AreSound so_far values
+  two_good : (sign : Sign) (at : ℕ) (values : List Value) → AreHeld so_far values
       → GoodOutcome so_far (SignRows.between_two sign at values state)
   two_good sign at (a ∷ b ∷ []) v = between_good sign at a b v.0 v.1.0
   two_good sign at _ v = record { holds = tt }
 
   mux_by_good : (at : ℕ) (selector : Value) (options : List Value) (u : Option StreamType)
-      → ((t : StreamType) → u ≡ Some t → HasWidth t) → IsSound so_far selector
-      → AreSound so_far options →
+      → ((t : StreamType) → u ≡ Some t → HasWidth t) → IsHeld so_far selector
+      → AreHeld so_far options →
       GoodOutcome so_far (StreamRows.mux_by at selector options u state)
   mux_by_good at (V.Stream n t feed) options (Some u) w v vs =
       good_if _ _ so_far _ (λ e. operation_good at O.Mux (pos 0) u [] (V.Stream n t feed ∷ options)
       so_far state (w u refl) (v, vs) s (may_mux (length options)))
   mux_by_good at _ options _ w v vs = record { holds = tt }
 
-  mux_good : (at : ℕ) (values : List Value) → AreSound so_far values
+  mux_good : (at : ℕ) (values : List Value) → AreHeld so_far values
       → GoodOutcome so_far (StreamRows.mux at values state)
   mux_good at [] v = record { holds = tt }
   mux_good at (selector ∷ options) v =
       mux_by_good at selector options (StreamRows.first_stream options)
       (λ t e. stream_width options t v.1 e) v.0 v.1
 
-  choose_good : (at : ℕ) (values : List Value) → AreSound so_far values
+  choose_good : (at : ℕ) (values : List Value) → AreHeld so_far values
       → GoodOutcome so_far (StreamRows.choose at values state)
   choose_good at (V.Stream n t feed ∷ a ∷ b ∷ []) v =
       let chosen = StreamRows.mux at (V.Stream n t feed ∷ b ∷ a ∷ []) state in
@@ -296,7 +298,7 @@ module _ (so_far : List Call) (state : State) (s : Sound so_far state) where
   may_cast_by true u w = may_round u w
   may_cast_by false u w = may_cast u w
 
-  cast_good : (at : ℕ) (values : List Value) → AreSound so_far values
+  cast_good : (at : ℕ) (values : List Value) → AreHeld so_far values
       → GoodOutcome so_far (StreamRows.cast at values state)
   cast_good at (V.Stream n t feed ∷ V.«Type» u ∷ []) v =
       operation_good at (StreamRows.cast_op t u) (pos 0) t (u ∷ []) (V.Stream n t feed ∷ []) so_far
@@ -304,18 +306,18 @@ module _ (so_far : List Call) (state : State) (s : Sound so_far state) where
   cast_good at _ v = record { holds = tt }
 
   prefix_good : (at : ℕ) (op : Op) (values : List Value) → MayHave op (pos 0) [] 1
-      → AreSound so_far values → GoodOutcome so_far (SignRows.prefixed at op values state)
+      → AreHeld so_far values → GoodOutcome so_far (SignRows.prefixed at op values state)
   prefix_good at op (V.Stream n t feed ∷ []) m v =
       operation_good at op (pos 0) t [] (V.Stream n t feed ∷ []) so_far state v.0.0 v s m
   prefix_good at op _ m v = record { holds = tt }
 
-  minus_good : (at : ℕ) (values : List Value) → AreSound so_far values
+  minus_good : (at : ℕ) (values : List Value) → AreHeld so_far values
       → GoodOutcome so_far (SignRows.minus at values state)
   minus_good at (V.Int n ∷ []) v = given _ tt
   minus_good at (V.Literal false digits tens ∷ []) v = given _ tt
   minus_good at values v = prefix_good at O.Neg values may_neg v
 
-  turned_good : (at : ℕ) (values : List Value) → AreSound so_far values
+  turned_good : (at : ℕ) (values : List Value) → AreHeld so_far values
       → GoodOutcome so_far (SignRows.complemented at values state)
   turned_good at (V.Int n ∷ []) v = given _ tt
   turned_good at values v = prefix_good at O.Not values may_not v
@@ -328,20 +330,20 @@ module _ (so_far : List Call) (state : State) (s : Sound so_far state) where
   -- Arrays.
 
   read_good : (at : ℕ) (found : Option Value)
-      → ((value : Value) → found ≡ Some value → IsSound so_far value)
+      → ((value : Value) → found ≡ Some value → IsHeld so_far value)
       → GoodOutcome so_far (ArrayRows.read at found state)
   read_good at None h = record { holds = tt }
   read_good at (Some V.Nothing) h = record { holds = tt }
   read_good at (Some value) h = given value (h value refl)
 
-  at_sound : (values : List Value) (place : ℕ) (value : Value) → AreSound so_far values
-      → slice_get values place ≡ Some value → IsSound so_far value
+  at_sound : (values : List Value) (place : ℕ) (value : Value) → AreHeld so_far values
+      → slice_get values place ≡ Some value → IsHeld so_far value
   at_sound [] place value v e = absurd (cc)
-  at_sound (w ∷ ws) zero value v e = let p : w ≡ value = cc in subst (IsSound so_far) p v.0
+  at_sound (w ∷ ws) zero value v e = let p : w ≡ value = cc in subst (IsHeld so_far) p v.0
   at_sound (w ∷ ws) (suc place) value v e = at_sound ws place value v.1 e
 
   element_sound : (n : ℕ) (place : ℤ) (value : Value) → element state.arrays n place ≡ Some value
-      → IsSound so_far value
+      → IsHeld so_far value
   element_sound n (pos place) value e =
       at_sound (array_of state.arrays n) place value (array_sound so_far state.arrays n s.arrays) e
   element_sound n (negsuc place) value e = absurd (cc)
@@ -358,15 +360,15 @@ module _ (so_far : List Call) (state : State) (s : Sound so_far state) where
 
   -- what arrays that are made hold
   pub record Held (g : Grown) : Type 0 where
-    pub values : AreSound so_far g.values
+    pub values : AreHeld so_far g.values
     pub arrays : AreFilled so_far g.arrays
 
-  joined_sound : (vs ws : List Value) → AreSound so_far vs → AreSound so_far ws
-      → AreSound so_far (vs ++ ws)
+  joined_sound : (vs ws : List Value) → AreHeld so_far vs → AreHeld so_far ws
+      → AreHeld so_far (vs ++ ws)
   joined_sound [] ws p q = q
   joined_sound (v ∷ vs) ws p q = (p.0, joined_sound vs ws p.1 q)
 
-  filled_one : (arrays : List (List Value)) (values : List Value) → AreSound so_far values
+  filled_one : (arrays : List (List Value)) (values : List Value) → AreHeld so_far values
       → AreFilled so_far arrays → AreFilled so_far (arrays ++ values ∷ [])
   filled_one [] values v h = (v, tt)
   filled_one (w ∷ ws) values v h = (h.0, filled_one ws values v h.1)
@@ -392,8 +394,8 @@ module _ (so_far : List Call) (state : State) (s : Sound so_far state) where
       a in
       record { values = (tt, tt); arrays = filled_one _ _ m.values m.arrays }
 
-  first_sound : (values : List Value) → AreSound so_far values
-      → IsSound so_far (ArrayRows.first_of_all values)
+  first_sound : (values : List Value) → AreHeld so_far values
+      → IsHeld so_far (ArrayRows.first_of_all values)
   first_sound [] v = tt
   first_sound (value ∷ values) v = v.0
 
@@ -417,6 +419,7 @@ module _ (so_far : List Call) (state : State) (s : Sound so_far state) where
         arrays =
             g.arrays;
         digits = s.digits;
+        plan = s.plan;
       }))
 
   arrays_by_good : (at : ℕ) (of : Declared) (sizes : Option (List ℤ))
@@ -467,34 +470,28 @@ module _ (so_far : List Call) (state : State) (s : Sound so_far state) where
 
   -- The library.
 
-  is_bit_good : (n : ℕ) (t : StreamType) → IsStream so_far n t → StreamRows.is_bit t ≡ true
-      → IsControl so_far n
+  is_bit_good : (n : ℕ) (t : StreamType) → IsStream so_far.calls n t → StreamRows.is_bit t ≡ true
+      → IsControl so_far.calls n
   is_bit_good n T.Bool i e = inl i
   is_bit_good n (T.UInt m) i e = let p : m ≡ 1 =
-      grind (arith, nat_tests) in inr (subst (λ k. IsStream so_far n (T.UInt k)) p i)
+      grind (arith, nat_tests) in inr (subst (λ k. IsStream so_far.calls n (T.UInt k)) p i)
   is_bit_good n (T.Int m) i e = absurd (cc)
   is_bit_good n (T.Fix w f g) i e = absurd (cc)
 
-  feed_good : (at : ℕ) (values : List Value) → AreSound so_far values
+  feed_good : (at : ℕ) (values : List Value) → AreHeld so_far values
       → GoodOutcome so_far (LibraryRows.new_instance at values state)
   feed_good at (V.«Type» t ∷ []) v =
       let m : MakesOne (C.Feed t) = record { one = refl; no_bits = λ chain. refl } in
-      record {
-        holds = (
-          (v.0, tt),
-          (
-            v.0,
-            stream_made (C.Feed t) t so_far state m refl s,
-            λ e.
-                subst (λ n. Makes (C.Feed t ∷ so_far) n (C.Feed t)) (sym s.made)
-                (newest (C.Feed t) so_far refl),
-          ),
-          sound_made (C.Feed t) so_far state m s,
-        );
-      }
+      all_hold so_far (C.Feed t ∷ []) (V.Stream state.made t true)
+      (record state { made = state.made + 1 }) (v.0, tt) (
+        v.0,
+        stream_made (C.Feed t) t so_far state m refl s,
+        λ e. subst (λ n. Makes (C.Feed t ∷ so_far.calls) n (C.Feed t)) (sym s.made)
+            (newest (C.Feed t) so_far.calls refl),
+      ) (sound_made (C.Feed t) so_far state m s)
   feed_good at _ v = record { holds = tt }
 
-  input_good : (at : ℕ) (values : List Value) → AreSound so_far values
+  input_good : (at : ℕ) (values : List Value) → AreHeld so_far values
       → GoodOutcome so_far (LibraryRows.input at values state)
   input_good at (V.Str name ∷ V.«Type» t ∷ []) v =
       good_if _ _ so_far _ (λ e. good_makes (C.Input name t None) t so_far state
@@ -507,11 +504,13 @@ module _ (so_far : List Call) (state : State) (s : Sound so_far state) where
       ((e, v.0), v.1.0, is_bit_good c u v.1.1.0.1 b) s))
   input_good at _ v = record { holds = tt }
 
-  ends_good : (call : Call) → MakesOne call → IsLawful so_far call
+  ends_good : (call : Call) → MakesOne call → IsLawful so_far.calls call
       → GoodOutcome so_far (Outcomes.ends call state)
-  ends_good call m l = record { holds = ((l, tt), tt, sound_made call so_far state m s) }
+  ends_good call m l =
+      all_hold so_far (call ∷ []) V.Nothing (record state { made = state.made + 1 }) (l, tt) tt
+      (sound_made call so_far state m s)
 
-  output_good : (at : ℕ) (values : List Value) → AreSound so_far values
+  output_good : (at : ℕ) (values : List Value) → AreHeld so_far values
       → GoodOutcome so_far (LibraryRows.output at values state)
   output_good at (V.Str name ∷ V.Stream n t feed ∷ V.«Type» u ∷ []) v =
       good_if _ _ so_far _ (λ p. good_if _ _ so_far _
@@ -523,7 +522,7 @@ module _ (so_far : List Call) (state : State) (s : Sound so_far state) where
       ((e, v.0), v.1.0.1, is_bit_good c w v.1.1.1.0.1 b, v.1.0.0))))
   output_good at _ v = record { holds = tt }
 
-  scalar_good : (at : ℕ) (values : List Value) → AreSound so_far values
+  scalar_good : (at : ℕ) (values : List Value) → AreHeld so_far values
       → GoodOutcome so_far (LibraryRows.scalar at values state)
   scalar_good at (V.Str name ∷ V.«Type» t ∷ []) v =
       good_if _ _ so_far _ (λ e. good_makes (C.Scalar name t) t so_far state
@@ -537,7 +536,7 @@ module _ (so_far : List Call) (state : State) (s : Sound so_far state) where
       good_makes (C.Constant bits t) t so_far state (record { one = refl; no_bits = λ chain. refl })
       refl w (w, f) s
 
-  constant_good : (at : ℕ) (values : List Value) → AreSound so_far values
+  constant_good : (at : ℕ) (values : List Value) → AreHeld so_far values
       → GoodOutcome so_far (LibraryRows.constant at values state)
   constant_good at (V.«Type» t ∷ V.Int n ∷ []) v =
       constant_by_good at t _ v.0 (literal_fits (StreamRows.mode_of state.modes) _ _ 0 t)
@@ -546,7 +545,7 @@ module _ (so_far : List Call) (state : State) (s : Sound so_far state) where
       tens t)
   constant_good at _ v = record { holds = tt }
 
-  offset_good : (at : ℕ) (values : List Value) → AreSound so_far values
+  offset_good : (at : ℕ) (values : List Value) → AreHeld so_far values
       → GoodOutcome so_far (LibraryRows.offset at values state)
   offset_good at (V.Stream n t feed ∷ V.Int k ∷ []) v =
       good_if _ _ so_far _ (λ e. good_makes (C.Offset n k t) t so_far state
@@ -591,17 +590,14 @@ module _ (so_far : List Call) (state : State) (s : Sound so_far state) where
 
   chain_good : GoodOutcome so_far (LibraryRows.make_chain state)
   chain_good =
-      record {
-        holds = (
-          (tt, tt),
-          subst (λ n. Makes (C.Chain ∷ so_far) n C.Chain) (sym s.made)
-              (newest C.Chain so_far refl),
-          sound_made C.Chain so_far state
-              (record { one = refl; no_bits = λ chain. refl }) s,
-        );
-      }
+      all_hold so_far (C.Chain ∷ []) (V.Chain state.made)
+      (record state { made = state.made + 1 }) (tt, tt)
+      (subst (λ n. Makes (C.Chain ∷ so_far.calls) n C.Chain) (sym s.made)
+      (newest C.Chain so_far.calls refl))
+      (sound_made C.Chain so_far state (record { one = refl; no_bits = λ chain. refl }) s)
 
-  digit_by_good : (at chain : ℕ) (r : Result CounterDigit CounterError) → Makes so_far chain C.Chain
+  digit_by_good : (at chain : ℕ) (r : Result CounterDigit CounterError)
+      → Makes so_far.calls chain C.Chain
       → ((d : CounterDigit) → r ≡ Ok d → IsDigit d)
       → GoodOutcome so_far (LibraryRows.digit_by at chain r state)
   digit_by_good at chain (Err e) m h = record { holds = tt }
@@ -621,29 +617,30 @@ module _ (so_far : List Call) (state : State) (s : Sound so_far state) where
         digit_width d i,
         (
           call,
-          subst (λ n. Makes (call ∷ so_far) n call) (sym s.made)
-              (newest call so_far refl),
+          subst (λ n. Makes (call ∷ so_far.calls) n call) (sym s.made)
+              (newest call so_far.calls refl),
           refl,
         ),
         λ x. absurd (cc),
       )
       (record {
         made = ap (λ n. n + 1) s.made;
-        variables = bound_later so_far (call ∷ so_far) state.variables (one_later call so_far)
+        variables = bound_later so_far (with_call call so_far) state.variables (one_later call so_far)
             s.variables;
-        fields = bound_later so_far (call ∷ so_far) state.fields (one_later call so_far) s.fields;
-        arrays = filled_later so_far (call ∷ so_far) state.arrays (one_later call so_far) s.arrays;
+        fields = bound_later so_far (with_call call so_far) state.fields (one_later call so_far) s.fields;
+        arrays = filled_later so_far (with_call call so_far) state.arrays (one_later call so_far) s.arrays;
         digits = λ other. ap (λ n. n + elim (chain == other) [ true ↦ d.bits | false ↦ 0 ])
             (s.digits other);
+        plan = s.plan;
       }))
 
-  add_good : (at : ℕ) (values : List Value) → AreSound so_far values
+  add_good : (at : ℕ) (values : List Value) → AreHeld so_far values
       → GoodOutcome so_far (LibraryRows.add_counter at values state)
   add_good at (V.Chain chain ∷ V.Int max ∷ V.Int inc ∷ []) v =
       digit_by_good at chain (digit_of max inc) v.0 (λ d e. inl (max, inc, e))
   add_good at _ v = record { holds = tt }
 
-  hold_good : (at : ℕ) (values : List Value) → AreSound so_far values
+  hold_good : (at : ℕ) (values : List Value) → AreHeld so_far values
       → GoodOutcome so_far (LibraryRows.hold at values state)
   hold_good at (V.Stream n t feed ∷ V.Stream m u other ∷ []) v =
       good_if _ _ so_far _ (λ b. good_makes (C.Hold n m t) t so_far state
@@ -651,44 +648,43 @@ module _ (so_far : List Call) (state : State) (s : Sound so_far state) where
       (v.0.1, is_bit_good m u v.1.0.1 b, v.0.0) s)
   hold_good at _ v = record { holds = tt }
 
+  with_modes : (modes : List RoundMode)
+      → GoodOutcome so_far (Outcomes.gives V.Nothing (record state { modes = modes }))
+  with_modes modes = all_hold so_far [] V.Nothing (record state { modes = modes }) tt tt (record {
+    made = s.made;
+    variables = s.variables;
+    fields = s.fields;
+    arrays = s.arrays;
+    digits = s.digits;
+    plan = s.plan;
+  })
+
   pop_good : (at : ℕ) (modes : List RoundMode) → GoodOutcome so_far (LibraryRows.pop at modes state)
   pop_good at [] = record { holds = tt }
-  pop_good at (mode ∷ modes) = record {
-    holds = (
-      tt,
-      tt,
-      record {
-        made = s.made;
-        variables = s.variables;
-        fields = s.fields;
-        arrays =
-            s.arrays;
-        digits = s.digits;
-      },
-    );
-  }
+  pop_good at (mode ∷ modes) = with_modes modes
 
-  connect_good : (at : ℕ) (values : List Value) → AreSound so_far values
+  connect_good : (at : ℕ) (values : List Value) → AreHeld so_far values
       → GoodOutcome so_far (LibraryRows.connect at values state)
   connect_good at (V.Stream n t true ∷ V.Stream m u feed ∷ []) v =
       let l = one_later (C.Connect n m) so_far in
       good_if (same_type t u) (E.Typing at TypesDiffer) so_far
       (Does (C.Connect n m ∷ []) V.Nothing state)
       (λ e. all_hold so_far (C.Connect n m ∷ []) V.Nothing state
-      ((t, v.0.2 refl, subst (IsStream so_far m) (sym (same_is t u e)) v.1.0.1), tt) tt
+      ((t, v.0.2 refl, subst (IsStream so_far.calls m) (sym (same_is t u e)) v.1.0.1), tt) tt
       (record {
-        made = s.made ∙ sym (no_more (count_of so_far));
-        variables = bound_later so_far (C.Connect n m ∷ so_far) state.variables l s.variables;
-        fields = bound_later so_far (C.Connect n m ∷ so_far) state.fields l s.fields;
-        arrays = filled_later so_far (C.Connect n m ∷ so_far) state.arrays l s.arrays;
-        digits = λ chain. s.digits chain ∙ sym (no_more (bits_in so_far chain));
+        made = s.made ∙ sym (no_more (count_of so_far.calls));
+        variables = bound_later so_far (with_call (C.Connect n m) so_far) state.variables l s.variables;
+        fields = bound_later so_far (with_call (C.Connect n m) so_far) state.fields l s.fields;
+        arrays = filled_later so_far (with_call (C.Connect n m) so_far) state.arrays l s.arrays;
+        digits = λ chain. s.digits chain ∙ sym (no_more (bits_in so_far.calls chain));
+        plan = s.plan;
       }))
   connect_good at (V.Link left W.Left ∷ V.Link right W.Right ∷ []) v =
-      joined_good so_far state left right s
+      joined_good so_far state left right v.0 v.1.0 s
   connect_good at _ v = record { holds = tt }
 
   pub row_good : (row : Row) (at : ℕ) (values : List Value) → RowSound so_far row
-      → AreSound so_far values → GoodOutcome so_far (Rows.row_of row at values state)
+      → AreHeld so_far values → GoodOutcome so_far (Rows.row_of row at values state)
   unfolding Rows.row_of
   row_good (R.Gives value) at values r v = given value r
   row_good (R.OwnMethod name) at values r v = record { holds = tt }
@@ -717,35 +713,21 @@ module _ (so_far : List Call) (state : State) (s : Sound so_far state) where
   row_good R.SimpleCounter at values r v = counter_good at values
   row_good R.MakeCounterChain at values r v = chain_good
   row_good R.StreamHold at values r v = hold_good at values v
-  row_good (R.PushRounding mode) at values r v =
-      record {
-        holds = (
-          tt,
-          tt,
-          record {
-            made = s.made;
-            variables = s.variables;
-            fields = s.fields;
-            arrays =
-                s.arrays;
-            digits = s.digits;
-          },
-        );
-      }
+  row_good (R.PushRounding mode) at values r v = with_modes (mode ∷ state.modes)
   row_good R.PopRounding at values r v = pop_good at state.modes
   row_good R.Connect at values r v = connect_good at values v
-  row_good R.StreamFromCpu at values r v = from_good so_far state at values s
-  row_good R.StreamToCpu at values r v = to_good so_far state at values s
-  row_good R.KernelInput at values r v = input_of_good so_far state at values s
-  row_good R.KernelOutput at values r v = output_of_good so_far state at values s
+  row_good R.StreamFromCpu at values r v = from_good so_far state at values v s
+  row_good R.StreamToCpu at values r v = to_good so_far state at values v s
+  row_good R.KernelInput at values r v = input_of_good so_far state at values v s
+  row_good R.KernelOutput at values r v = output_of_good so_far state at values v s
 
-  combined_by_good : (sign : Option Sign) (at : ℕ) (old value : Value) → IsSound so_far old
-      → IsSound so_far value → GoodOutcome so_far (combined_by sign at old value state)
+  combined_by_good : (sign : Option Sign) (at : ℕ) (old value : Value) → IsHeld so_far old
+      → IsHeld so_far value → GoodOutcome so_far (combined_by sign at old value state)
   combined_by_good None at old value v w = record { holds = tt }
   combined_by_good (Some sign) at old value v w = between_good sign at old value v w
 
-  pub combined_good : (sign : List ℕ) (at : ℕ) (old value : Value) → IsSound so_far old
-      → IsSound so_far value → GoodOutcome so_far (combined sign at old value state)
+  pub combined_good : (sign : List ℕ) (at : ℕ) (old value : Value) → IsHeld so_far old
+      → IsHeld so_far value → GoodOutcome so_far (combined sign at old value state)
   combined_good sign at old value v w =
       combined_by_good (sign_of (first_byte sign)) at old value v w
 

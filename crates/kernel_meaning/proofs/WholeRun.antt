@@ -1,4 +1,4 @@
--- Each call of a run may come after those before it.
+-- Each call of a run may come after those before it, and a manager's plan can be carried out.
 use Rattle.std.proofs.Common.{
   ℕ,
   zero,
@@ -16,8 +16,8 @@ use Rattle.std.proofs.Common.{
   None,
   length,
 }
-use Rattle.std.specs.Prelude.{Option, Bool, Result, is_some, if◌then◌else◌}
-use Rattle.kernel_calls.specs.declared.call.Call.{Call}
+use Rattle.std.specs.Prelude.{Option, Bool, Result, IfOk, is_some, if◌then◌else◌}
+use Rattle.std.proofs.lemmas.List.Elements.{All-nil}
 use Rattle.maxj_syntax.specs.declared.tree.NodeKind.TheVariants as N
 use Rattle.maxj_syntax.specs.Tree.{Tree, Node, Trees, Nil, Cons, ClassTree}
 use Rattle.kernel_meaning.specs.declared.value.Declared.{Declared}
@@ -34,7 +34,7 @@ use Rattle.kernel_meaning.specs.declared.error.EvalError.TheVariants as E
 use Rattle.kernel_meaning.specs.Names.{bound_in, is_mute, mute_place}
 use Rattle.kernel_meaning.specs.Values.{declared_by, has_kind}
 use Rattle.kernel_meaning.specs.Arrays.{content, with_content}
-use Rattle.kernel_meaning.specs.Answer.{Answer, Refused, Then, Next, leave, back_in, calls_of}
+use Rattle.kernel_meaning.specs.Answer.{Answer, Finished, Refused, Then, Next, leave, back_in, calls_of, plan_at_end}
 use Rattle.kernel_meaning.specs.Rows.{row_of}
 use Rattle.kernel_meaning.specs.Plans.{OperandPlan, Fault, Reads, plan_of, number_of_trees}
 use Rattle.kernel_meaning.specs.Methods.{
@@ -80,7 +80,9 @@ use Rattle.kernel_meaning.specs.Constructors.{
   building_run,
 }
 use Rattle.kernel_calls.specs.Laws.{AreLawful}
-use Rattle.kernel_meaning.specs.Sound.{IsSound, AreSound, AreBound, Sound, Good}
+use Rattle.kernel_meaning.specs.Sound.{IsSound, AreSound}
+use Rattle.kernel_meaning.specs.declared.plan.Plan.{Plan}
+use Rattle.kernel_meaning.proofs.Kept.{IsManaged, IsFollowed, EndsWell, History, IsHeld, AreHeld, AreBound, Sound, Good}
 use Rattle.kernel_meaning.proofs.Later.{
   Later,
   at_once,
@@ -127,35 +129,39 @@ use Rattle.kernel_meaning.proofs.PlanLaws.{PlanOk, RowSound, row_later, plan_goo
 use Rattle.kernel_meaning.specs.Plans.{Library, OfKernel, OfManager, AddsKernel}
 use Rattle.kernel_meaning.specs.ManagerRows.{kernel_added}
 use Rattle.kernel_meaning.specs.Run.{addition, is_settings, scope_of, in_constructor}
-use Rattle.kernel_meaning.specs.Constructors.{first_argument}
+use Rattle.kernel_meaning.specs.Constructors.{first_argument, is_manager, no_plan}
 use Rattle.kernel_meaning.proofs.ManagerLaws.{good_classed, good_named, kernel_good}
 
-abbrev pub GoodCall : Callee → Type 0
-GoodCall call = (name : List ℕ) (at : ℕ) (values : List Value) (so_far : List Call) (state : State)
-    (next : Then) → AreSound so_far values → Sound so_far state → GoodThen so_far next
+abbrev pub GoodCall : Library → Callee → Type 0
+GoodCall library call = (name : List ℕ) (at : ℕ) (values : List Value)
+    (so_far : History library) (state : State) (next : Then) → AreHeld so_far values
+    → Sound so_far state → GoodThen so_far next
     → Good so_far (call name at values state next)
 
-abbrev pub GoodMany : List Call → (List Value → Next) → Type 0
-GoodMany so_far next = (later : List Call) → Later so_far later
-    → (values : List Value) (state : State) → AreSound later values → Sound later state
+abbrev pub GoodMany : {library : Library} → History library → (List Value → Next) → Type 0
+GoodMany {library} so_far next = (later : History library) → Later so_far later
+    → (values : List Value) (state : State) → AreHeld later values → Sound later state
     → Good later (next values state)
 
-abbrev pub GoodSpot : List Call → (Spot → Next) → Type 0
-GoodSpot so_far next = (later : List Call) → Later so_far later → (place : Spot) (state : State)
+abbrev pub GoodSpot : {library : Library} → History library → (Spot → Next) → Type 0
+GoodSpot {library} so_far next = (later : History library) → Later so_far later → (place : Spot)
+    (state : State)
     → Sound later state → Good later (next place state)
 
-good_planned : (plan : OperandPlan) (so_far : List Call) (state : State) (next : Row → ℕ → ℕ → Next)
+good_planned : (plan : OperandPlan) {library : Library} (so_far : History library) (state : State)
+    (next : Row → ℕ → ℕ → Next)
     (add : Next) → PlanOk so_far plan → Sound so_far state
     → ((row : Row) (from count : ℕ) → RowSound so_far row → GoodNext so_far (next row from count))
     → GoodNext so_far add → Good so_far (planned plan state next add)
-good_planned (Fault e) so_far state next add p s h k = record { lawful = tt {0} }
+good_planned (Fault e) so_far state next add p s h k = record { lawful = tt {0}; plan = tt {0} }
 good_planned (Reads row from count) so_far state next add p s h k =
     h row from count p.sound so_far (at_once so_far) state s
 good_planned AddsKernel so_far state next add p s h k = k so_far (at_once so_far) state s
 
-module _ (here : Place) (g : GoodCall here.call) where
-  good_operate : (row : Row) (at : ℕ) (values : List Value) (so_far : List Call) (state : State)
-      (next : Then) → RowSound so_far row → AreSound so_far values → Sound so_far state
+module _ (here : Place) (g : GoodCall here.library here.call) where
+  good_operate : (row : Row) (at : ℕ) (values : List Value) (so_far : History here.library)
+      (state : State)
+      (next : Then) → RowSound so_far row → AreHeld so_far values → Sound so_far state
       → GoodThen so_far next → Good so_far (operate here row at values state next)
   good_operate (R.OwnMethod name) at values so_far state next r v s h =
       g name at values so_far state next v s h
@@ -166,12 +172,12 @@ module _ (here : Place) (g : GoodCall here.call) where
   mutual
     unfolding expr
 
-    pub good_expr : (t : Tree) (so_far : List Call) (state : State) (next : Then)
+    pub good_expr : (t : Tree) (so_far : History here.library) (state : State) (next : Then)
         → Sound so_far state → GoodThen so_far next → Good so_far (expr here t state next)
     good_expr (Node kind word span trees) so_far state next s h =
         good_decided (is_mute state (Node kind word span trees)) so_far state
         (λ state. Refused (E.UnknownName (mute_place (Node kind word span trees)))) _ s
-        (λ _ _ _ _. record { lawful = tt {0} }) (λ c1 l1 state1 s1.
+        (λ _ _ _ _. record { lawful = tt {0}; plan = tt {0} }) (λ c1 l1 state1 s1.
         good_counted c1 state1 _ s1 (λ c2 l2 state2 s2.
         let m2 = and_later so_far c1 c2 l1 l2 in
         good_formed (form_of kind word) c2 state2 _ _ _ s2
@@ -192,43 +198,45 @@ module _ (here : Place) (g : GoodCall here.call) where
         (then_later so_far c4 next (and_later so_far c3 c4 (and_later so_far c2 c3 m2 l3) l4)
         h)))))
 
-    pub good_added : (at : ℕ) (ts : Trees) (so_far : List Call) (state : State) (next : Then)
+    pub good_added : (at : ℕ) (ts : Trees) (so_far : History here.library) (state : State)
+        (next : Then)
         → Sound so_far state → GoodThen so_far next → Good so_far (addition here at ts state next)
     good_added at (Cons (Node N.New class span (Cons (Node N.Call word inner names) trees)) Nil)
         so_far state next s h =
         good_counted so_far state _ s (λ c1 l1 state1 s1.
-        good_classed here.library span.from class c1 state1 _ s1 (λ number c2 l2 state2 s2.
+        good_classed here.library span.from class c1 state1 _ s1 (λ number known c2 l2 state2 s2.
         let m2 = and_later so_far c1 c2 l1 l2 in
         good_decided (is_settings here word) c2 state2 _ _ s2
         (λ c3 l3 state3 s3. good_counted c3 state3 _ s3 (λ c4 l4 state4 s4.
         good_needs _ _ c4 state4 _ s4 (λ c5 l5 state5 s5.
         good_operands inner.from 0 1 names [] c5 state5 _ tt s5 (λ c6 l6 found state6 v6 s6.
-        good_named inner.from found c6 state6 _ s6 (λ name c7 l7 state7 s7.
+        good_named inner.from found c6 state6 _ s6 (λ name plain c7 l7 state7 s7.
         let m5 = and_later c3 c4 c5 l4 l5 in
         let m7 = and_later c3 c5 c7 m5 (and_later c5 c6 c7 l6 l7) in
         good_operands span.from 0 (number_of_trees trees) trees [] c7 state7 _ tt s7
         (λ c8 l8 values state8 v8 s8.
         good_does (kernel_added span.from name number values state8) c8 next
-        (kernel_good c8 state8 span.from name number values s8)
+        (kernel_good c8 state8 span.from name number values plain known v8 s8)
         (then_later so_far c8 next (and_later so_far c2 c8 m2
         (and_later c2 c3 c8 l3 (and_later c3 c7 c8 m7 l8))) h)))))))
         (λ c3 l3 state3 s3.
         good_operands span.from 0 (suc (number_of_trees trees))
         (Cons (Node N.Call word inner names) trees) [] c3 state3 _ tt s3
-        (λ _ _ _ _ _ _. record { lawful = tt {0} }))))
+        (λ _ _ _ _ _ _. record { lawful = tt {0}; plan = tt {0} }))))
     good_added at (Cons (Node N.New class span Nil) Nil) so_far state next s h =
         good_counted so_far state _ s (λ c1 l1 state1 s1.
-        good_classed here.library span.from class c1 state1 _ s1 (λ _ _ _ _ _.
-        record { lawful = tt {0} }))
+        good_classed here.library span.from class c1 state1 _ s1 (λ _ _ _ _ _ _.
+        record { lawful = tt {0}; plan = tt {0} }))
     good_added at (Cons (Node N.New class span trees) Nil) so_far state next s h =
         good_counted so_far state _ s (λ c1 l1 state1 s1.
-        good_classed here.library span.from class c1 state1 _ s1 (λ number c2 l2 state2 s2.
+        good_classed here.library span.from class c1 state1 _ s1 (λ number _ c2 l2 state2 s2.
         good_operands span.from 0 (number_of_trees trees) trees [] c2 state2 _ tt s2
-        (λ _ _ _ _ _ _. record { lawful = tt {0} })))
-    good_added at _ so_far state next s h = record { lawful = tt {0} }
+        (λ _ _ _ _ _ _. record { lawful = tt {0}; plan = tt {0} })))
+    good_added at _ so_far state next s h = record { lawful = tt {0}; plan = tt {0} }
 
-    pub good_operands : (at from count : ℕ) (ts : Trees) (values : List Value) (so_far : List Call)
-        (state : State) (next : List Value → Next) → AreSound so_far values → Sound so_far state
+    pub good_operands : (at from count : ℕ) (ts : Trees) (values : List Value)
+        (so_far : History here.library)
+        (state : State) (next : List Value → Next) → AreHeld so_far values → Sound so_far state
         → GoodMany so_far next → Good so_far (operands here at from count ts values state next)
     good_operands at from count Nil values so_far state next v s h =
         h so_far (at_once so_far) values state v s
@@ -245,7 +253,8 @@ module _ (here : Place) (g : GoodCall here.call) where
         (more_sound c2 values value2 (all_later so_far c2 values m v) v2) s2
         (λ c3 l3. h c3 (and_later so_far c2 c3 m l3))))
 
-    pub good_choice : (at : ℕ) (ts : Trees) (so_far : List Call) (state : State) (next : Then)
+    pub good_choice : (at : ℕ) (ts : Trees) (so_far : History here.library) (state : State)
+        (next : Then)
         → Sound so_far state → GoodThen so_far next → Good so_far (choice here at ts state next)
     good_choice at (Cons test (Cons first (Cons second Nil))) so_far state next s h =
         good_expr test so_far state _ s
@@ -271,9 +280,10 @@ module _ (here : Place) (g : GoodCall here.call) where
         (sound_later c2 c6 v2 m2 w2, (sound_later c4 c6 a4 m4 w4, (w6, tt))))
         (then_later so_far c6 next (and_later so_far c2 c6 (and_later so_far c1 c2 l1 l2) m2)
         h)))))))
-    good_choice at _ so_far state next s h = record { lawful = tt {0} }
+    good_choice at _ so_far state next s h = record { lawful = tt {0}; plan = tt {0} }
 
-    pub good_short : (either : Bool) (at : ℕ) (ts : Trees) (so_far : List Call) (state : State)
+    pub good_short : (either : Bool) (at : ℕ) (ts : Trees) (so_far : History here.library)
+        (state : State)
         (next : Then) → Sound so_far state → GoodThen so_far next
         → Good so_far (short here either at ts state next)
     good_short either at (Cons first (Cons second Nil)) so_far state next s h =
@@ -285,13 +295,14 @@ module _ (here : Place) (g : GoodCall here.call) where
         good_flag at v3 c3 state3 next s3
         (then_later so_far c3 next (and_later so_far c2 c3 (and_later so_far c1 c2 l1 l2) l3)
         h))))
-    good_short either at _ so_far state next s h = record { lawful = tt {0} }
+    good_short either at _ so_far state next s h = record { lawful = tt {0}; plan = tt {0} }
 
   -- where the value of an assignment goes
   mutual
     unfolding expr
 
-    pub good_where : (user : ℕ) (t : Tree) (so_far : List Call) (state : State) (next : Spot → Next)
+    pub good_where : (user : ℕ) (t : Tree) (so_far : History here.library) (state : State)
+        (next : Spot → Next)
         → Sound so_far state → GoodSpot so_far next → Good so_far (target here user t state next)
     good_where user (Node N.Name name span ts) so_far state next s h =
         good_needs _ _ so_far state _ s (λ c l state1 s1. h c l (Variable name) state1 s1)
@@ -304,13 +315,15 @@ module _ (here : Place) (g : GoodCall here.call) where
         let m = and_later so_far c2 c4 (and_later so_far c1 c2 l1 l2) (and_later c2 c3 c4 l3 l4) in
         good_spot user array v4 c4 state4 next s4
         (λ place c5 l5 state5 s5. h c5 (and_later so_far c4 c5 m l5) place state5 s5)))))
-    good_where user (Node _ word span ts) so_far state next s h = record { lawful = tt {0} }
+    good_where user (Node _ word span ts) so_far state next s h =
+        record { lawful = tt {0}; plan = tt {0} }
 
   mutual
     unfolding expr
 
     pub good_inits : (at : ℕ) (of : Declared) (ts : Trees) (values : List Value)
-        (so_far : List Call) (state : State) (next : List Value → Next) → AreSound so_far values
+        (so_far : History here.library) (state : State) (next : List Value → Next)
+        → AreHeld so_far values
         → Sound so_far state → GoodMany so_far next
         → Good so_far (inits here at of ts values state next)
     good_inits at of Nil values so_far state next v s h = h so_far (at_once so_far) values state v s
@@ -332,7 +345,8 @@ module _ (here : Place) (g : GoodCall here.call) where
         (more_sound c3 values value2 (all_later so_far c3 values m v)
         (sound_later c2 c3 value2 l3 v2)) s3 (λ c4 l4. h c4 (and_later so_far c3 c4 m l4)))))
 
-  pub good_initial : (user : ℕ) (of : Declared) (place : Spot) (ts : Trees) (so_far : List Call)
+  pub good_initial : (user : ℕ) (of : Declared) (place : Spot) (ts : Trees)
+      (so_far : History here.library)
       (state : State) (next : Next) → Sound so_far state → GoodNext so_far next
       → Good so_far (initial here user of place ts state next)
   unfolding expr
@@ -355,7 +369,8 @@ module _ (here : Place) (g : GoodCall here.call) where
   mutual
     unfolding expr
 
-    pub good_exec : (t : Tree) (so_far : List Call) (state : State) (next : Next) (back : Then)
+    pub good_exec : (t : Tree) (so_far : History here.library) (state : State) (next : Next)
+        (back : Then)
         → Sound so_far state → GoodNext so_far next → GoodThen so_far back
         → Good so_far (exec here t state next back)
     good_exec (Node N.Empty word span ts) so_far state next back s h b =
@@ -455,9 +470,11 @@ module _ (here : Place) (g : GoodCall here.call) where
         s2 (λ c2 l2 state3 s3. h c2 (and_later so_far c c2 m l2)
         (leave (length state1.variables) state3)
         (left_block c2 (length state1.variables) state3 s3))))
-    good_exec (Node _ word span ts) so_far state next back s h b = record { lawful = tt {0} }
+    good_exec (Node _ word span ts) so_far state next back s h b =
+        record { lawful = tt {0}; plan = tt {0} }
 
-    pub good_block : (count : ℕ) (ts : Trees) (so_far : List Call) (state : State) (next : Next)
+    pub good_block : (count : ℕ) (ts : Trees) (so_far : History here.library) (state : State)
+        (next : Next)
         (back : Then) → Sound so_far state → GoodNext so_far next → GoodThen so_far back
         → Good so_far (block here count ts state next back)
     good_block count Nil so_far state next back s h b =
@@ -467,7 +484,8 @@ module _ (here : Place) (g : GoodCall here.call) where
         (λ c1 l1 state1 s1. good_block count ts c1 state1 next back s1
         (next_later so_far c1 next l1 h) (then_later so_far c1 back l1 b)) b
 
-    pub good_branches : (at : ℕ) (ts : Trees) (so_far : List Call) (state : State) (next : Next)
+    pub good_branches : (at : ℕ) (ts : Trees) (so_far : History here.library) (state : State)
+        (next : Next)
         (back : Then) → Sound so_far state → GoodNext so_far next → GoodThen so_far back
         → Good so_far (branches here at ts state next back)
     good_branches at Nil so_far state next back s h b = h so_far (at_once so_far) state s
@@ -483,14 +501,16 @@ module _ (here : Place) (g : GoodCall here.call) where
         (next_later so_far c2 next (and_later so_far c1 c2 l1 l2) h)
         (then_later so_far c2 back (and_later so_far c1 c2 l1 l2) b)))
 
-  pub good_body : (t : Tree) (so_far : List Call) (state : State) (next : Next) (back : Then)
+  pub good_body : (t : Tree) (so_far : History here.library) (state : State) (next : Next)
+      (back : Then)
       → Sound so_far state → GoodNext so_far next → GoodThen so_far back
       → Good so_far (block_of here t state next back)
   good_body (Node N.Block word span ts) so_far state next back s h b =
       good_block 0 ts so_far state next back s h b
-  good_body (Node _ word span ts) so_far state next back s h b = record { lawful = tt {0} }
+  good_body (Node _ word span ts) so_far state next back s h b =
+      record { lawful = tt {0}; plan = tt {0} }
 
-  pub good_fields : (ms : Trees) (so_far : List Call) (state : State) (next : Next)
+  pub good_fields : (ms : Trees) (so_far : History here.library) (state : State) (next : Next)
       → Sound so_far state → GoodNext so_far next → Good so_far (set_fields here ms state next)
   good_fields Nil so_far state next s h = h so_far (at_once so_far) state s
   good_fields (Cons (Node N.Field name span (Cons type ts)) ms) so_far state next s h =
@@ -503,21 +523,24 @@ module _ (here : Place) (g : GoodCall here.call) where
 
 -- Bodies of methods.
 
-abbrev pub OkBound : List Call → Result (List Binding) EvalError → Type 0
+abbrev pub OkBound : {library : Library} → History library → Result (List Binding) EvalError
+    → Type 0
 OkBound so_far (Err e) = Unit {0}
 OkBound so_far (Ok variables) = AreBound so_far variables
 
-abbrev pub OkBody : List Call → Result Body EvalError → Type 0
+abbrev pub OkBody : {library : Library} → History library → Result Body EvalError → Type 0
 OkBody so_far (Err e) = Unit {0}
 OkBody so_far (Ok body) = AreBound so_far body.variables
 
-if_bound : (so_far : List Call) (b : Bool) (x y : Result (List Binding) EvalError)
+if_bound : {library : Library} (so_far : History library) (b : Bool)
+    (x y : Result (List Binding) EvalError)
     → OkBound so_far x → OkBound so_far y → OkBound so_far (if b then x else y)
 if_bound so_far true x y p q = p
 if_bound so_far false x y p q = q
 
-bound_param : (so_far : List Call) (user at : ℕ) (name : List ℕ) (value : Value)
-    (variables : List Binding) (of : Result Declared ℕ) → IsSound so_far value
+bound_param : {library : Library} (so_far : History library) (user at : ℕ) (name : List ℕ)
+    (value : Value)
+    (variables : List Binding) (of : Result Declared ℕ) → IsHeld so_far value
     → AreBound so_far variables → OkBound so_far (bound_by user at name value variables of)
 bound_param so_far user at name value variables (Err place) v h = tt
 bound_param so_far user at name value variables (Ok of) v h =
@@ -528,9 +551,10 @@ bound_param so_far user at name value variables (Ok of) v h =
     (Ok (record { name = name; of = of; value = value } ∷ variables)) (Err (E.WrongKind user))
     (v, h) tt)
 
-body_good : (so_far : List Call) (wanted : Option Declared) (user : ℕ) (trees : Trees)
+body_good : {library : Library} (so_far : History library) (wanted : Option Declared) (user : ℕ)
+    (trees : Trees)
     (values : List Value) (r : Result (List Binding) EvalError) → OkBound so_far r
-    → AreSound so_far values → OkBody so_far (body_by wanted user trees values r)
+    → AreHeld so_far values → OkBody so_far (body_by wanted user trees values r)
 body_good so_far wanted user trees values (Err e) h v = tt
 body_good so_far wanted user (Cons block Nil) [] (Ok variables) h v = h
 body_good so_far wanted user (Cons (Node kind name span (Cons type Nil)) trees) (value ∷ values)
@@ -540,29 +564,32 @@ body_good so_far wanted user (Cons (Node kind name span (Cons type Nil)) trees) 
     (bound_param so_far user span.from name value variables (declared_by type) v.0 h) v.1
 body_good so_far wanted user _ _ (Ok variables) h v = tt
 
-entered_by_good : (so_far : List Call) (user : ℕ) (rest : Trees) (values : List Value)
-    (r : Result (Option Declared) ℕ) → AreSound so_far values
+entered_by_good : {library : Library} (so_far : History library) (user : ℕ) (rest : Trees)
+    (values : List Value)
+    (r : Result (Option Declared) ℕ) → AreHeld so_far values
     → OkBody so_far (entered_by user rest values r)
 entered_by_good so_far user rest values (Err at) v = tt
 entered_by_good so_far user rest values (Ok wanted) v =
     body_good so_far wanted user rest values (Ok []) tt v
 
-entered_good : (so_far : List Call) (user : ℕ) (values : List Value)
-    (method : Option (Tree × Trees)) → AreSound so_far values
+entered_good : {library : Library} (so_far : History library) (user : ℕ) (values : List Value)
+    (method : Option (Tree × Trees)) → AreHeld so_far values
     → OkBody so_far (entered user values method)
 entered_good so_far user values None v = tt
 entered_good so_far user values (Some method) v =
     entered_by_good so_far user method.1 values (result_by method.0) v
 
-called_good : (so_far : List Call) (run : Body → State → Then → Answer) (r : Result Body EvalError)
+called_good : {library : Library} (so_far : History library) (run : Body → State → Then → Answer)
+    (r : Result Body EvalError)
     (state : State) (next : Then) → OkBody so_far r
     → ((body : Body) → AreBound so_far body.variables → Good so_far (run body state next))
     → Good so_far (called run r state next)
-called_good so_far run (Err e) state next b h = record { lawful = tt {0} }
+called_good so_far run (Err e) state next b h = record { lawful = tt {0}; plan = tt {0} }
 called_good so_far run (Ok body) state next b h = h body b
 
-run_good : (here : Place) (body : Body) (so_far : List Call) (state : State) (next : Then)
-    → GoodCall here.call → AreBound so_far body.variables → Sound so_far state
+run_good : (here : Place) (body : Body) (so_far : History here.library) (state : State)
+    (next : Then)
+    → GoodCall here.library here.call → AreBound so_far body.variables → Sound so_far state
     → GoodThen so_far next → Good so_far (run_body here body state next)
 run_good here body so_far state next g b s h =
     good_body (record here { wanted = body.wanted }) g body.block so_far
@@ -576,11 +603,11 @@ run_good here body so_far state next g b s h =
     (bound_later so_far later state.variables l s.variables) s2))
 
 pub good_call : (library : Library) (members : Trees) (deeper : ℕ)
-    → GoodCall (call_to library members deeper)
+    → GoodCall library (call_to library members deeper)
 unfolding call_to
 good_call library members zero name at values so_far state next v s h =
     called_good so_far _ _ state next (entered_good so_far at values (method_of name members) v)
-    (λ body b. record { lawful = tt {0} })
+    (λ body b. record { lawful = tt {0}; plan = tt {0} })
 good_call library members (suc deeper) name at values so_far state next v s h =
     called_good so_far _ _ state next (entered_good so_far at values (method_of name members) v)
     (λ body b. run_good (in_class library members (call_to library members deeper)) body so_far
@@ -588,64 +615,121 @@ good_call library members (suc deeper) name at values so_far state next v s h =
 
 -- The whole run.
 
-unset_by : (name : List ℕ) (of : Result Declared ℕ) (fields : List Binding) → AreBound [] fields
-    → AreBound [] (ahead_by name of fields)
-unset_by name (Ok of) fields h = (tt, h)
-unset_by name (Err at) fields h = (tt, h)
+-- nothing was done
+begun : (library : Library) → History library
+begun library = record { calls = []; plan = no_plan (is_manager library) }
 
-unset : (member : Tree) (fields : List Binding) → AreBound [] fields
-    → AreBound [] (ahead member fields)
-unset (Node N.Field name span (Cons type trees)) fields h =
-    unset_by name (declared_by type) fields h
-unset _ fields h = h
+unset_by : {library : Library} (so_far : History library) (name : List ℕ) (of : Result Declared ℕ)
+    (fields : List Binding) → AreBound so_far fields → AreBound so_far (ahead_by name of fields)
+unset_by so_far name (Ok of) fields h = (tt, h)
+unset_by so_far name (Err at) fields h = (tt, h)
 
-all_unset : (members : Trees) (fields : List Binding) → AreBound [] fields
-    → AreBound [] (all_ahead members fields)
-all_unset Nil fields h = h
-all_unset (Cons member members) fields h =
-    all_unset members (ahead member fields) (unset member fields h)
+unset : {library : Library} (so_far : History library) (member : Tree) (fields : List Binding)
+    → AreBound so_far fields → AreBound so_far (ahead member fields)
+unset so_far (Node N.Field name span (Cons type trees)) fields h =
+    unset_by so_far name (declared_by type) fields h
+unset so_far _ fields h = h
 
-built_good : (here : Place) (members : Trees) (r : Result Body EvalError) (so_far : List Call)
-    (state : State) → GoodCall here.call → OkBody so_far r → Sound so_far state
-    → Good so_far (built_by here members r state)
-built_good here members (Err e) so_far state g b s = record { lawful = tt {0} }
+all_unset : {library : Library} (so_far : History library) (members : Trees)
+    (fields : List Binding) → AreBound so_far fields → AreBound so_far (all_ahead members fields)
+all_unset so_far Nil fields h = h
+all_unset so_far (Cons member members) fields h =
+    all_unset so_far members (ahead member fields) (unset so_far member fields h)
+
+finished_by : (library : Library) (so_far plan : Plan) → IsFollowed library so_far plan
+    → EndsWell library plan
+finished_by OfKernel so_far plan f = tt
+finished_by (OfManager kernels) so_far plan f = f.managed
+
+finished_good : {library : Library} (so_far : History library) (state : State)
+    → Sound so_far state → Good so_far (Finished state)
+finished_good {library = library} so_far state s = record {
+  lawful = tt;
+  plan = finished_by library so_far.plan state.plan s.plan;
+}
+
+built_good : (here : Place) (members : Trees) (r : Result Body EvalError)
+    (so_far : History here.library) (state : State) → GoodCall here.library here.call
+    → OkBody so_far r → Sound so_far state → Good so_far (built_by here members r state)
+built_good here members (Err e) so_far state g b s = record { lawful = tt {0}; plan = tt {0} }
 built_good here members (Ok body) so_far state g b s =
     good_fields here g members so_far state _ s (λ later l state2 s2.
     good_body here g body.block later (record state2 { variables = body.variables }) _ _
     (with_vars later state2 body.variables (bound_later so_far later body.variables l b) s2)
-    (λ _ _ _ _. record { lawful = tt {0} }) (λ _ _ _ _ _ _. record { lawful = tt {0} }))
+    (λ c _ state3 s3. finished_good c state3 s3) (λ c _ _ state3 _ s3. finished_good c state3 s3))
+
+empty_plan : (library : Library)
+    → IsFollowed library (no_plan (is_manager library)) (no_plan (is_manager library))
+empty_plan OfKernel = tt
+empty_plan (OfManager kernels) = record {
+  same = refl;
+  managed = record {
+    manager = refl;
+    kernels = All-nil _;
+    joined = record {
+      lefts = All-nil _;
+      rights = All-nil _;
+      from_cpu = All-nil _;
+      to_cpu = All-nil _;
+    };
+  };
+}
 
 started : (library : Library) (members : Trees) (steps : ℕ)
-    → Sound [] (start library members steps)
+    → Sound (begun library) (start library members steps)
+unfolding begun
 started library members steps = record {
   made = refl;
   variables = tt;
-  fields = all_unset members [] tt;
+  fields = all_unset (begun library) members [] tt;
   arrays = tt;
   digits = λ chain. refl;
+  plan = empty_plan library;
 }
 
-first_sound : (library : Library) → IsSound [] (first_argument library)
-first_sound OfKernel = tt
-first_sound (OfManager kernels) = tt
+first_held : (library : Library) → IsHeld (begun library) (first_argument library)
+first_held OfKernel = tt
+first_held (OfManager kernels) = tt
 
-pub run_of_good : (library : Library) (members : Trees) (args : List Value) (steps : ℕ)
-    (ctor : Option (ℕ × Trees)) → AreSound [] args
-    → Good [] (run_of library members args steps ctor)
-run_of_good library members args steps None v = record { lawful = tt {0} }
+run_of_good : (library : Library) (members : Trees) (args : List Value) (steps : ℕ)
+    (ctor : Option (ℕ × Trees)) → AreHeld (begun library) args
+    → Good (begun library) (run_of library members args steps ctor)
+run_of_good library members args steps None v = record { lawful = tt {0}; plan = tt {0} }
 run_of_good library members args steps (Some ctor) v =
     let values : List Value = first_argument library ∷ args in
-    good_needs _ _ [] (start library members steps) _ (started library members steps)
+    let first = begun library in
+    good_needs _ _ first (start library members steps) _ (started library members steps)
     (λ later l state s. built_good (in_constructor library members) members
     (body_by None ctor.0 ctor.1 values (Ok [])) later state (good_call library members 64)
     (body_good later None ctor.0 ctor.1 values (Ok []) tt (
-      sound_later [] later (first_argument library) l (first_sound library),
-      all_later [] later args l v,
+      sound_later first later (first_argument library) l (first_held library),
+      all_later first later args l v,
     )) s)
+
+-- a kernel's run asks no more of a value than that it is sound
+held_one : (so_far : History OfKernel) (value : Value) → IsSound so_far.calls value
+    → IsHeld so_far value
+held_one so_far (V.Block number) h = tt
+held_one so_far (V.Link end side) h = tt
+held_one so_far value h = h
+
+held : (so_far : History OfKernel) (values : List Value) → AreSound so_far.calls values
+    → AreHeld so_far values
+held so_far [] h = tt
+held so_far (value ∷ values) h = (held_one so_far value h.0, held so_far values h.1)
 
 -- each call of the building run of a class may come after those before it
 pub all_lawful : (class : ClassTree) (args : List Value) → AreSound [] args
     → AreLawful [] (calls_of (building_run class args))
+unfolding begun
 all_lawful class args v =
     (run_of_good OfKernel (members_of class.tree) args 1000000
-    (ctor_of (members_of class.tree)) v).lawful
+    (ctor_of (members_of class.tree)) (held (begun OfKernel) args v)).lawful
+
+-- where a manager's run ends, its plan can be carried out with classes that it may add
+pub managed_plan : (kernels : List ℕ → Option ℕ) (members : Trees) (steps : ℕ)
+    (ctor : Option (ℕ × Trees))
+    → IfOk (plan_at_end (run_of (OfManager kernels) members [] steps ctor))
+    (IsManaged (OfManager kernels))
+managed_plan kernels members steps ctor =
+    (run_of_good (OfManager kernels) members [] steps ctor tt).plan

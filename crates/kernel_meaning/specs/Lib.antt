@@ -20,6 +20,7 @@ pub mod Run
 pub mod Constructors
 pub mod Managers
 pub mod Sound
+pub mod SoundPlans
 pub mod Nodes
 pub mod Places
 pub mod Index

@@ -1,10 +1,12 @@
 // What holds of every building run.
-ghost use Rattle.std.specs.Prelude.{List, []};
+ghost use Rattle.std.specs.Prelude.{List, [], IfOk};
 ghost use Rattle.maxj_syntax.specs.Tree.{ClassTree};
 ghost use Rattle.kernel_calls.specs.Laws.{AreLawful};
 ghost use Rattle.kernel_meaning.specs.Answer.{calls_of};
 ghost use Rattle.kernel_meaning.specs.Constructors.{building_run};
+ghost use Rattle.kernel_meaning.specs.Managers.{source_plan};
 ghost use Rattle.kernel_meaning.specs.Sound.{AreSound};
+ghost use Rattle.kernel_meaning.specs.SoundPlans.{IsSoundPlan};
 ghost use Rattle.kernel_meaning.specs.declared.value.Value.{Value};
 
 /// Each call of a building run may come after those before it: it speaks of nodes that were made, of
@@ -12,4 +14,13 @@ ghost use Rattle.kernel_meaning.specs.declared.value.Value.{Value};
 #[tactic(auto, using(crate::proofs::WholeRun::all_lawful))]
 pub fn lawful()
     ensures { (class : ClassTree) (args : List Value) → AreSound [] args → AreLawful [] (calls_of (building_run class args)) }
+{}
+
+/// What a source builds, by its manager or without one, can be carried out: each kernel has a name,
+/// a class of the source and arguments that it can be built with; a join has on each side a port of
+/// a kernel that was added, or a stream that was; and a stream has a name of at most 64 bytes, as
+/// ports have. Without a manager it is one kernel, and nothing is joined.
+#[tactic(auto, using(crate::proofs::SourcePlans::source_sound))]
+pub fn plans_are_sound()
+    ensures { (classes : List ClassTree) → IfOk (source_plan classes) (IsSoundPlan classes) }
 {}

@@ -13,7 +13,7 @@ mod value;
 
 pub use bindings::Bindings;
 pub use error::EvalError;
-pub use laws::lawful;
+pub use laws::{lawful, plans_are_sound};
 pub use plan::{Arg, End, Join, Made, Plan, Side};
 pub use row::{Row, Sign};
 pub use stack::Stack;

@@ -13,7 +13,8 @@ loop-vars-init g c =
           rw c.new-vars.ensures.items
           (Way.way_begins g.B.Builder.has_room g.B.Builder.receives g.B.Builder.made
           g.B.Var.Numbered.number c.args.builder.now class c.args.args c.in_ok-machine.machine
-          c.requires.fresh c.requires.sound c.requires.room c.in_ok-machine.ensures.begins);
+          c.requires.fresh c.requires.kernel c.requires.sound c.requires.room
+          c.in_ok-machine.ensures.begins);
       fit = c.in_ok-machine.ensures.fit;
     }
 

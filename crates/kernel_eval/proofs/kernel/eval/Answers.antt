@@ -1,8 +1,9 @@
 -- The class is that of its number, and its run is the kernel's.
-use Rattle.std.proofs.Common.{[], sym, subst}
+use Rattle.std.proofs.Common.{[], sym, subst, ap}
 use Rattle.kernel_meaning.specs.Answer.{calls_of}
 use Rattle.kernel_meaning.specs.Sound.{AreSound}
 use Rattle.kernel_rows.specs.Fit.{AreFit}
+use Rattle.kernel_plans.specs.Classes.{ClassView, library_of}
 use Rattle.kernel_eval.specs.Building.{Builds}
 use Rattle.kernel_eval.specs.Sending.{HasRoomBelow}
 use Rattle.kernel_eval.proofs.Programs.{number-in-range, run-by, fit-args, sound-args}
@@ -11,6 +12,10 @@ use Rattle.kernel_eval.proofs.kernel.eval.Goals as goal
 pub at-requires : goal.at-requires
 at-requires g c =
     number-in-range c.args.program.now c.args.class c.requires.kernel.0 c.requires.kernel.1
+
+pub run_class-requires-clause-kernel : goal.run_class-requires-clause-kernel
+run_class-requires-clause-kernel g c =
+    ap (λ (class : ClassView). library_of class.library) c.in_ok-class.ensures
 
 pub run_class-requires-clause-fit : goal.run_class-requires-clause-fit
 run_class-requires-clause-fit g c =
