@@ -1,0 +1,4 @@
+pub mod Called
+pub mod Counting
+pub mod Digital
+pub mod Typing

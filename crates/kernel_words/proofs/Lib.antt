@@ -1,0 +1,12 @@
+mod Below
+mod Cells
+mod Finishing
+mod Holding
+mod Operating
+mod Parting
+mod Putting
+mod Reading
+mod Settling
+mod Small
+mod Stepping
+mod Taking

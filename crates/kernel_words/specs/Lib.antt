@@ -1,0 +1,4 @@
+pub mod Streams
+pub mod Filling
+pub mod Guarded
+pub mod Sides
