@@ -1,0 +1,4 @@
+pub mod Building
+pub mod Causes
+pub mod Errors
+pub mod Lines

@@ -1,0 +1,12 @@
+//! Tests of the crate `project_build`, apart from it, so that a change of a test proves no function
+//! of it again: worked sources with the project that they build, or the line of their refusal.
+#![tactic(auto)]
+
+mod telling;
+
+pub use telling::{Told, tell};
+
+#[cfg(test)]
+mod sources;
+#[cfg(test)]
+mod tests;

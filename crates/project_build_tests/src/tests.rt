@@ -1,0 +1,53 @@
+// Worked sources: the projects that they build, and refusals in the order of the stages.
+use crate::sources::{
+    LOOSE_WRONG, PASS, RING, SAME_NAME, SPLIT_ADD, UNLINKED, WRONG_LOOSE, WRONG_MANAGER,
+};
+use crate::telling::{Told, tell};
+use std::test::Fail;
+
+/// A source, its kernels with the number of their nodes, and how many links there are.
+type Row = (&'static str, &'static [(&'static [u8], usize)], usize);
+
+const PROJECTS: [Row; 2] = [
+    (PASS, &[(b"Pass", 2)], 0),
+    (SPLIT_ADD, &[(b"A", 5), (b"B", 4)], 2),
+];
+
+#[test]
+fn sources_have_projects(rt: HostRuntime) -> Result<(), Fail> {
+    for (source, kernels, links) in PROJECTS {
+        match tell(rt.alloc(), source.as_bytes())? {
+            Told::Project(project) => {
+                assert_eq!(rt; project.kernels().len(), kernels.len());
+                for (kernel, (name, nodes)) in project.kernels().iter().zip(kernels) {
+                    assert_eq!(rt; kernel.name(), *name);
+                    assert_eq!(rt; kernel.count() as usize, *nodes);
+                }
+                assert_eq!(rt; project.links().len(), links);
+            }
+            Told::Refused(line) => assert!(rt; false, "{line:?}"),
+        }
+    }
+    Ok(())
+}
+
+// Sources that have no project, with the line that is said.
+const REFUSED: [(&str, &str); 6] = [
+    (RING, "refused P5 A B\n"),
+    (LOOSE_WRONG, "refused G1 A 0\n"),
+    (WRONG_LOOSE, "refused E2 278\n"),
+    (WRONG_MANAGER, "refused E1 279\n"),
+    (SAME_NAME, "refused P7 A\n"),
+    (UNLINKED, "refused P2 A.y\n"),
+];
+
+#[test]
+fn sources_are_refused(rt: HostRuntime) -> Result<(), Fail> {
+    for (source, expected) in REFUSED {
+        match tell(rt.alloc(), source.as_bytes())? {
+            Told::Project(_) => assert!(rt; false, "{expected}"),
+            Told::Refused(line) => assert_eq!(rt; line.as_slice(), expected.as_bytes()),
+        }
+    }
+    Ok(())
+}
