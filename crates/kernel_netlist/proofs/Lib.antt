@@ -1,0 +1,5 @@
+mod Lists
+mod Ports
+mod Names
+mod Sizes
+mod Whole

@@ -1,0 +1,5 @@
+pub mod Bits
+pub mod Scheduled
+pub mod Modules
+pub mod Netlists
+pub mod Refused
