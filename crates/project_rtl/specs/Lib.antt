@@ -1,0 +1,10 @@
+pub mod Shapes
+pub mod Blocks
+pub mod Tops
+pub mod Projects
+pub mod Kept
+pub mod Words
+pub mod Times
+pub mod Storage
+pub mod Designs
+pub mod Laws
