@@ -1,0 +1,13 @@
+pub mod Steps
+pub mod Network
+pub mod Edges
+pub mod Networks
+pub mod Lists
+pub mod Lookups
+pub mod Places
+pub mod Feeding
+pub mod Fifos
+pub mod Wiring
+pub mod Steady
+pub mod Parts
+pub mod Runs
