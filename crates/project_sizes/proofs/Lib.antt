@@ -1,0 +1,12 @@
+pub mod Lists
+pub mod Counts
+pub mod Limits
+pub mod Facts
+pub mod LeastBits
+pub mod Stored
+pub mod PortNames
+pub mod KernelNets
+pub mod Sizes
+pub mod Names
+pub mod TextNames
+pub mod Whole
