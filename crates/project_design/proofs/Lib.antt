@@ -1,0 +1,12 @@
+mod Porters
+mod Few
+mod Blocking
+mod Finding
+mod Making
+mod Instancing
+mod Ending
+mod Widening
+mod Porting
+mod Linking
+mod Placing
+mod Topping

@@ -1,0 +1,17 @@
+use Rattle.std.proofs.Common.{◌∙◌, map, ap, sym}
+use Rattle.rtl_ir.specs.Ports.{host_input_ports}
+use Rattle.project_rtl.specs.Shapes.{host_shape}
+use Rattle.project_design.specs.Building.{with_ports}
+use Rattle.project_design.proofs.Ending.{none_more}
+use Rattle.project_design.proofs.Porting.{input_step}
+use Rattle.project_design.proofs.ports.add_inputs.Goals as goal
+
+pub loop-host-preserved : goal.loop-host-preserved
+loop-host-preserved c =
+    let l = c.loop-host in
+    input_step c.args.hosts.now l.host-index c.host-item.result l.netlist c.add_input.new.netlist _ c.loop-host-test.true c.host-item.is c.in_ok-add_input.ensures l.invariant
+
+pub returns : goal.returns
+returns c =
+    let l = c.loop-host in
+    ap (λ xs. with_ports l.netlist (host_input_ports (map host_shape xs))) (sym (none_more c.args.hosts.now l.host-index c.loop-host-test.false)) ∙ l.invariant

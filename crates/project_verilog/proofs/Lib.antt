@@ -1,0 +1,5 @@
+mod Designs
+mod Sums
+mod Modules
+mod Sizes
+mod Whole
