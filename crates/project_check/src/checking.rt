@@ -51,8 +51,10 @@ fn judgements(
     Ok(all)
 }
 
-// The law that a part of one of these kernels that is shown has the fewest bits.
-fn all_shown_are_least(kernels: &[Kernel], table: &Table)
+/// A part of a report that is shown for one of these kernels, by a latency table, says times that are
+/// a legal schedule of it, and no legal schedule has FIFOs of fewer bits. The function changes
+/// nothing: its contract is the law.
+pub fn all_shown_are_least(kernels: &[Kernel], table: &Table)
     ensures { All (ShownAreLeast table.now) kernels.now }
 {
     for kernel in kernels {

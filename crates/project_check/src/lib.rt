@@ -8,5 +8,5 @@ mod error;
 mod faults;
 mod problems;
 
-pub use checking::check_report;
+pub use checking::{all_shown_are_least, check_report};
 pub use error::CheckError;
