@@ -55,6 +55,14 @@ pub record IsGiven (nodes : List Node) (run : KernelRun) : Type 0 where
       → chosen (slice_index_or run.sources n []) k ≡ Some x
       → x < 2 ^ width_at nodes n
 
+-- what is given to one node has its width
+pub record IsGivenAt (nodes : List Node) (run : KernelRun) (n : ℕ) : Type 0 where
+  pub scalar : kind_at nodes n ≡ K.Scalar → slice_index run.scalars n < 2 ^ width_at nodes n
+  pub word :
+      (k x : ℕ)
+      → chosen (slice_index_or run.sources n []) k ≡ Some x
+      → x < 2 ^ width_at nodes n
+
 -- ---- the words of streams
 
 -- what a cell shows

@@ -55,8 +55,8 @@ pub(crate) fn word_at(
     }
 }
 
-// The word of a scalar.
-fn scalar_word(run: &KernelRun, node: NodeId) -> u128
+/// The word of a scalar.
+pub(crate) fn scalar_word(run: &KernelRun, node: NodeId) -> u128
     requires { node < length run.now.scalars }
     ensures { result ≡ slice_index run.now.scalars node }
 {

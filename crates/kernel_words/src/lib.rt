@@ -4,6 +4,7 @@
 
 mod cell;
 mod evaluate;
+mod given;
 mod guarded;
 mod nodes;
 mod ports;
@@ -12,6 +13,7 @@ mod settle;
 mod streams;
 mod words;
 
+pub use given::is_given;
 pub use guarded::first_unguarded;
 pub use ports::{is_enabled, port_words};
 pub use run::KernelRun;

@@ -1,0 +1,56 @@
+// Worked words.
+use crate::{FOURTH, GUARD, NEXT, QUOT, Ran, run_alone};
+use kernel_eval_tests::{ACC, Built, SUM3, build_alone};
+use std::test::Fail;
+
+// A source, the name of its kernel, its ticks, the words of its inputs, and those of its output.
+const WORDS: [(&str, &str, u64, &[&[u128]], &[Option<u128>]); 6] = [
+    (
+        NEXT,
+        "Next",
+        4,
+        &[&[1, 2, 3, 4]],
+        &[Some(2), Some(3), Some(4), None],
+    ),
+    (
+        GUARD,
+        "Guard",
+        4,
+        &[&[1, 2, 3, 4]],
+        &[Some(2), Some(3), Some(4), Some(0)],
+    ),
+    (
+        FOURTH,
+        "Fourth",
+        8,
+        &[&[0, 1, 2, 3, 4, 5, 6, 7]],
+        &[Some(3), Some(7)],
+    ),
+    (ACC, "Acc", 3, &[&[1, 2, 3]], &[Some(1), Some(3), Some(6)]),
+    (
+        QUOT,
+        "Quot",
+        3,
+        &[&[0xf9, 0x80, 0x05], &[0x02, 0xff, 0x00]],
+        &[Some(0xfd), Some(0x80), None],
+    ),
+    (SUM3, "Sum3", 3, &[&[1, 2, 3]], &[None, Some(6), None]),
+];
+
+#[test]
+fn kernels_compute_these_words(rt: HostRuntime) -> Result<(), Fail> {
+    let alloc = rt.alloc();
+    for (source, name, ticks, inputs, words) in WORDS {
+        match build_alone(alloc, source.as_bytes(), name.as_bytes())? {
+            Built::Kernel(kernel) => match run_alone(alloc, &kernel, ticks, inputs)? {
+                Ran::Words(found, guarded) => {
+                    assert_eq!(rt; found.as_slice(), words, "{name}");
+                    assert!(rt; guarded, "{name}");
+                }
+                Ran::NotRun => assert!(rt; false, "{name}"),
+            },
+            Built::Refused(line) => assert!(rt; false, "{name}: {line:?}"),
+        }
+    }
+    Ok(())
+}
