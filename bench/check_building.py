@@ -136,7 +136,7 @@ def wrong_program(all_worked):
         for worked in all_worked:
             said = program_line(pathlib.Path(folder), worked.source)
             built = building_run.build(worked.source)
-            code, right = wanted_of(worked.source, built).judged(said)
+            code, right = wanted_of(built).judged(said)
             if not right:
                 yield f"{worked.name}: the program says {said}, and not {worked.line or code}"
 

@@ -4,8 +4,9 @@
 The sources are files of the grammar: kernels with loops, arrays, methods, strings, rounding modes and
 streams, some of them broken, some at a limit of the language, and some with a manager. Where the
 evaluator (bench/building_run.py, written from that page alone) says a refusal by a code E or G, the program
-is to say that line. Where the run ends well, bench/schedule_rules.py says whether L1, C1, C2 or B1 stands by a
-random latency table; where none does, the program is to compile the source, with FIFOs of the fewest bits.
+is to say that line. Where the runs end well, bench/join_rules.py says whether a manager breaks a rule of joins,
+and bench/schedule_rules.py whether L1, C1, C2 or B1 stands by a random latency table; where none does, the
+program is to compile the source, with FIFOs of the fewest bits.
 
     bench/random_programs.py [COUNT [SEED]]
 """
@@ -17,13 +18,11 @@ from collections import Counter
 from dataclasses import dataclass
 
 import building_run
+import join_rules
 import program_maker
 import schedule_rules
 import trials
 from trials import PROGRAM, TOP
-
-# a source with a manager is refused as N0 before its constructors run
-RUNS_MANAGERS = False
 
 
 ZERO = json.loads((TOP / "examples/tables/zero.json").read_text())
@@ -31,24 +30,25 @@ ZERO = json.loads((TOP / "examples/tables/zero.json").read_text())
 
 @dataclass
 class Wanted:
-    """What the program is to say: a line, or where there is none what bench/schedule_rules.py says of the kernel."""
+    """What the program is to say: a line, or where there is none what the rules say of the kernels and of the manager."""
 
     line: str
-    kernel: tuple = None
+    kernels: list = None
+    manager: object = None
     table: dict = None
 
     def judged(self, said):
         """The code that stands, and whether the program says it rightly."""
-        if self.line is None:
-            return schedule_rules.judged(*self.kernel, self.table, said)
-        return self.line.split()[1], said == self.line
+        if self.line is not None:
+            return self.line.split()[1], said == self.line
+        if self.manager:
+            return join_rules.judged(self.kernels, self.manager, self.table, said)
+        return schedule_rules.judged(*self.kernels[0], self.table, said)
 
 
-def wanted_of(source, built, table=None):
+def wanted_of(built, table=None):
     """What the program is to say of a source, by what the evaluator built of it, and a latency table."""
-    if "extends CustomManager" in source and not RUNS_MANAGERS:
-        return Wanted("refused N0")
-    return Wanted(built.line, built.line is None and built.kernels[0], table or ZERO)
+    return Wanted(built.line, built.kernels, built.manager, table or ZERO)
 
 
 def any_table():
@@ -86,7 +86,7 @@ def main():
 
     def trial(folder):
         source, table = program_maker.any_program(steps_of), any_table()
-        wanted = wanted_of(source, building_run.build(source), table)
+        wanted = wanted_of(building_run.build(source), table)
         said = program_line(folder, source, table)
         code, right = wanted.judged(said)
         codes[code] += 1

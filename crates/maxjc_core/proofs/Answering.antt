@@ -10,8 +10,7 @@ use Rattle.maxjc_core.specs.Stops.{IfRefused, AreBytes, Answers}
 use Rattle.maxjc_core.specs.declared.compile.Compiled.{Compiled}
 use Rattle.maxjc_core.specs.declared.stop.Stop.{Stop}
 use Rattle.maxjc_core.specs.declared.stop.Stop.TheVariants as stops
-use Rattle.maxjc_core.proofs.Alone.{refused-so}
-use Rattle.maxjc_core.proofs.Refusing.{if_cause_so}
+use Rattle.maxjc_core.proofs.Refusing.{if_cause_so, refused-so}
 
 -- the bytes of a project that was read are those of its files
 abbrev pub readable : (source_name table_name : Name) (held : Held) (source table : List ℕ)

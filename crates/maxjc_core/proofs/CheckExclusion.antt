@@ -3,6 +3,7 @@ use Rattle.std.proofs.Common.{
   ◌≡◌,
   ◌∙◌,
   ◌<◌,
+  ◌+◌,
   ◌⊎◌,
   inl,
   inr,
@@ -22,12 +23,13 @@ use Rattle.std.proofs.Common.{
   subst,
 }
 use Rattle.std.specs.Prelude.{IsSome, pos, ◌≤ℤ◌}
+use Rattle.std.specs.List.{AllZip, Contains}
 use Rattle.std.proofs.lemmas.Int.{ints}
+use Rattle.std.proofs.lemmas.List.Elements.{All-contains}
 use Rattle.mx_base.specs.Files.{Held, Lacks}
-use Rattle.cycle_find.specs.Constraints.{Numbers, numbers_of, Solves}
+use Rattle.cycle_find.specs.Constraints.{Solves}
 use Rattle.schedule_problem.specs.declared.problem.Problem.{Problem}
 use Rattle.schedule_problem.specs.Flow.{flow_of, cost_of, value_of, IsFlow}
-use Rattle.maxj_syntax.specs.Tree.{ClassTree}
 use Rattle.latency_table.specs.declared.table.Table.{Table}
 use Rattle.stream_graph.specs.declared.kernel.Kernel.{Kernel}
 use Rattle.stream_graph.specs.declared.node.Node.{Node}
@@ -36,7 +38,7 @@ use Rattle.offset_edges.specs.declared.error.EdgeError.{EdgeError}
 use Rattle.offset_edges.specs.declared.error.EdgeError.TheVariants as edge_errors
 use Rattle.offset_edges.specs.Edges.{edges_of}
 use Rattle.offset_edges.specs.Latencies.{AllTimed}
-use Rattle.offset_edges.specs.Problems.{problem_of, problem_over}
+use Rattle.offset_edges.specs.Problems.{problem_of}
 use Rattle.offset_edges.specs.Refused.{IsRefused}
 use Rattle.offset_edges.specs.Walks.{IsClosed, IsCausal, offsets_of}
 use Rattle.schedule_report.specs.declared.report.Report.{Report}
@@ -44,37 +46,38 @@ use Rattle.schedule_report.specs.declared.report.ReportKernel.{ReportKernel}
 use Rattle.schedule_report.specs.Reading.{Says}
 use Rattle.schedule_report.proofs.OneReport.{texts_differ}
 use Rattle.kernel_report.specs.Judging.{IsMismatch, IsShown, times_in}
-use Rattle.kernel_report.specs.Times.{whole_times}
-use Rattle.maxjc_core.specs.Command.{CheckNames}
-use Rattle.maxjc_core.specs.Causes.{OneKernel, IsMissing, IsTooLarge}
-use Rattle.maxjc_core.specs.CheckCauses.{
-  IsOfParts,
-  IsOfReport,
-  IsOfCheck,
-  CheckStands,
-  LacksChecked,
+use Rattle.project_check.specs.Checked.{HasProblem, IsCheckedReport}
+use Rattle.project_check.specs.Refused.{
+  lines_of,
+  IsFirstOther,
+  IsPartFault,
+  IsFirstFault,
+  IsNotChecked,
 }
-use Rattle.maxjc_core.specs.Showing.{ShowsLeast}
+use Rattle.project_check.specs.declared.error.CheckError.{CheckError}
+use Rattle.maxjc_core.specs.Command.{CheckNames}
+use Rattle.maxjc_core.specs.Causes.{IsMissing, IsTooLarge}
+use Rattle.maxjc_core.specs.CheckCauses.{IsOfCheck, CheckStands, LacksChecked}
 use Rattle.maxjc_core.specs.Checking.{IsShowing, IsChecked, IsGood}
 use Rattle.maxjc_core.specs.Lines.{Cause}
 use Rattle.maxjc_core.specs.Stops.{IfRefused, AreBytes}
 use Rattle.maxjc_core.specs.declared.stop.Stop.{Stop}
 use Rattle.maxjc_core.specs.declared.stop.Stop.TheVariants as stops
 use Rattle.maxjc_core.proofs.Answering.{readable}
-use Rattle.maxjc_core.proofs.Latencies.{SameLatencies, same_at, same_ticks, timed_has}
+use Rattle.maxjc_core.proofs.Latencies.{SameLatencies, same_at, same_problem, timed_has}
+use Rattle.maxjc_core.proofs.Lists.{zip_weaker, in_back}
 use Rattle.maxjc_core.proofs.Exclusion.{
   told,
   same_bytes,
   not_past,
   not_large,
   told_from_large,
-  same-project,
-  one-nodes,
+  are-one,
   no-cause,
   missing_reads,
 }
 
--- ---- a kernel that has a problem of schedules
+-- ---- kernels that have problems of schedules
 
 -- a walk of a causal kernel looks back
 not-ahead : (edges : List Edge) (round : List ℕ) → IsCausal edges → 0 < length round
@@ -99,44 +102,32 @@ not-lacking a b nodes (edge_errors.Cycle walk) same fault timed causal refused =
     (subst (λ z. pos 0 ≤ℤ z) shown.summed.offset refused.1.ahead)
 not-lacking a b nodes edge_errors.NoMemory same fault timed causal refused = fault refl
 
--- ---- a part that is shown
+-- ---- parts that are shown
 
--- by tables of the same latencies kernels of the same nodes have one problem
-one-problem : (a b : Table) (nodes others : List Node) → SameLatencies a b → nodes ≡ others
-    → problem_of a nodes ≡ problem_of b others
-one-problem a b nodes others same e =
-    ap (λ t. problem_over t nodes (edges_of nodes)) (same_ticks a b same nodes) ∙ ap (problem_of b) e
-
--- a part that is shown for a kernel is shown for one of the same name, nodes and problem
-module _ (a b : Table) (k l : Kernel) (part : ReportKernel) (named : k.name ≡ l.name)
-    (nodes : k.nodes ≡ l.nodes) (same : problem_of a k.nodes ≡ problem_of b l.nodes) where
-  times-same : times_in k part ≡ times_in l part
-  times-same = ap (λ ns. whole_times ns (numbers_of part.times)) nodes
-
-  costs-same : cost_of (problem_of a k.nodes) (times_in k part)
-      ≡ cost_of (problem_of b l.nodes) (times_in l part)
-  costs-same =
-      ap (λ (p : Problem). cost_of p (times_in k part)) same
-      ∙ ap (λ x. cost_of (problem_of b l.nodes) x) times-same
-
-  shown-along : IsShown b l part → IsShown a k part
-  shown-along s = record {
-    of = record {
-      head = record {
-        named = s.of.head.named ∙ sym named;
-        nodes = s.of.head.nodes ∙ ap (λ (ns : List Node). length ns) (sym nodes);
-        edges = s.of.head.edges ∙ ap (λ (ns : List Node). length (edges_of ns)) (sym nodes);
-        bits = s.of.head.bits ∙ sym costs-same;
+-- a part that is shown by a table is shown by one of the same latencies
+shown-along : (a b : Table) → SameLatencies a b → (kernel : Kernel) (part : ReportKernel)
+    → IsShown b kernel part → IsShown a kernel part
+shown-along a b same kernel part s =
+    let problem : problem_of a kernel.nodes ≡ problem_of b kernel.nodes =
+    same_problem a b same kernel.nodes in
+    let costs : cost_of (problem_of a kernel.nodes) (times_in kernel part)
+    ≡ cost_of (problem_of b kernel.nodes) (times_in kernel part) =
+    ap (λ (p : Problem). cost_of p (times_in kernel part)) problem in
+    record {
+      of = record {
+        head = record {
+          named = s.of.head.named;
+          nodes = s.of.head.nodes;
+          edges = s.of.head.edges;
+          bits = s.of.head.bits ∙ sym costs;
+        };
+        timely = s.of.timely;
       };
-      timely = λ v h. s.of.timely v (subst (λ (ns : List Node). v < length ns) nodes h);
-    };
-    legal =
-        subst (λ (x : Numbers). Solves x (problem_of a k.nodes).arcs.list) (sym times-same)
-        (subst (λ (p : Problem). Solves (times_in l part) p.arcs.list) (sym same) s.legal);
-    flow = subst (λ (p : Problem). IsFlow p (flow_of part.flow)) (sym same) s.flow;
-    equal =
-        costs-same ∙ s.equal ∙ ap (λ (p : Problem). value_of p (flow_of part.flow)) (sym same);
-  }
+      legal = subst (λ (p : Problem). Solves (times_in kernel part) p.arcs.list) (sym problem) s.legal;
+      flow = subst (λ (p : Problem). IsFlow p (flow_of part.flow)) (sym problem) s.flow;
+      equal =
+          costs ∙ s.equal ∙ ap (λ (p : Problem). value_of p (flow_of part.flow)) (sym problem);
+    }
 
 -- each line of it is the kernel's
 not-mismatch : (table : Table) (kernel : Kernel) (part : ReportKernel) (line : ℕ)
@@ -144,79 +135,82 @@ not-mismatch : (table : Table) (kernel : Kernel) (part : ReportKernel) (line : �
 not-mismatch table kernel part zero s m = m s.of.head
 not-mismatch table kernel part (suc v) s m = m.2 (s.of.timely v m.1)
 
-one-part : {part other : ReportKernel} → part ∷ [] ≡ other ∷ [] → part ≡ other
-one-part e = cc
-
-first-part : {part other : ReportKernel} {parts : List ReportKernel} → part ∷ parts ≡ other ∷ []
-    → part ≡ other
-first-part e = cc
-
--- a report of one part that is shown has no cause for which it is refused
-not-parts : (table : Table) (kernel : Kernel) (parts : List ReportKernel) (shown : ReportKernel)
-    (cause : Cause) → parts ≡ shown ∷ [] → IsShown table kernel shown
-    → IsOfParts table kernel parts cause → ⊥
-not-parts table kernel _ shown _ e s IsOfParts.none = absurd (cc)
-not-parts table kernel _ shown _ e s (IsOfParts.mismatch part parts line m) =
-    not-mismatch table kernel part line (subst (IsShown table kernel) (sym (first-part e)) s) m
-not-parts table kernel _ shown _ e s (IsOfParts.second part other parts of) = absurd (cc)
-not-parts table kernel _ shown _ e s (IsOfParts.times part arc breaks) =
-    let own = subst (IsShown table kernel) (sym (one-part e)) s in
-    breaks.first.broken (own.legal arc breaks.first.arc)
-not-parts table kernel _ shown _ e s (IsOfParts.flow part node breaks) =
-    let own = subst (IsShown table kernel) (sym (one-part e)) s in
-    let flow = own.flow node in
+-- nor has it a fault
+not-faulty : (table : Table) (kernel : Kernel) (part : ReportKernel) (error : CheckError)
+    → IsShown table kernel part → IsPartFault table kernel part error → ⊥
+not-faulty table kernel part _ s (IsPartFault.times arc breaks) =
+    breaks.first.broken (s.legal arc breaks.first.arc)
+not-faulty table kernel part _ s (IsPartFault.flow node breaks) =
+    let flow = s.flow node in
     breaks.first.other (omega (arith, ints, flow))
-not-parts table kernel _ shown _ e s (IsOfParts.costs part cost value other) =
-    let own = subst (IsShown table kernel) (sym (one-part e)) s in
-    other.apart (other.costs ∙ own.equal ∙ sym other.worth)
+not-faulty table kernel part _ s (IsPartFault.costs cost value other) =
+    other.apart (other.costs ∙ s.equal ∙ sym other.worth)
+
+-- parts that are all shown have no line that is none of the kernels
+no-other : (table : Table) (begin : ℕ) (kernels : List Kernel) (parts : List ReportKernel)
+    (line : ℕ) → AllZip (IsShown table) kernels parts
+    → IsFirstOther table begin kernels parts line → ⊥
+no-other table begin [] [] line shown other = other
+no-other table begin [] (part ∷ parts) line shown other = shown
+no-other table begin (kernel ∷ kernels) [] line shown other = shown
+no-other table begin (kernel ∷ kernels) (part ∷ parts) line shown (inl m) =
+    not-mismatch table kernel part m.0 shown.0 m.1
+no-other table begin (kernel ∷ kernels) (part ∷ parts) line shown (inr rest) =
+    no-other table (begin + lines_of part) kernels parts line shown.1 rest.1
+
+-- nor a fault
+no-fault : (table : Table) (kernels : List Kernel) (parts : List ReportKernel) (error : CheckError)
+    → AllZip (IsShown table) kernels parts → IsFirstFault table kernels parts error → ⊥
+no-fault table [] [] error shown fault = fault
+no-fault table [] (part ∷ parts) error shown fault = fault
+no-fault table (kernel ∷ kernels) [] error shown fault = fault
+no-fault table (kernel ∷ kernels) (part ∷ parts) error shown (inl f) =
+    not-faulty table kernel part error shown.0 f
+no-fault table (kernel ∷ kernels) (part ∷ parts) error shown (inr rest) =
+    no-fault table kernels parts error shown.1 rest.1
+
+-- ---- reports that are shown
 
 -- bytes say one report
-one-report : (bytes others : List ℕ) (a b : Report) → bytes ≡ others → Says bytes a → Says others b
-    → a ≡ b
-one-report bytes others a b same p q = texts_differ a b p.is q.is (sym p.text ∙ same ∙ q.text)
+one-report : (bytes : List ℕ) (a b : Report) → Says bytes a → Says bytes b → a ≡ b
+one-report bytes a b p q = texts_differ a b p.is q.is (sym p.text ∙ q.text)
 
--- nor have its bytes one
-not-report : (table : Table) (kernel : Kernel) (bytes others : List ℕ) (cause : Cause)
-    → bytes ≡ others → (q : ShowsLeast table kernel others) → IsOfReport table kernel bytes cause → ⊥
-not-report table kernel bytes others _ same q (IsOfReport.form line wrong) =
-    wrong.none q.report (subst (λ (b : List ℕ). Says b q.report) (sym same) q.says)
-not-report table kernel bytes others cause same q (IsOfReport.parts report _ says is) =
-    not-parts table kernel report.kernels q.part cause
-    (ap (λ (r : Report). r.kernels) (one-report bytes others report q.report same says q.says) ∙ q.alone)
-    q.shown is
+-- by tables of the same latencies, a report that is shown has no cause for which it is refused
+not-refused : (a b : Table) (kernels : List Kernel) (bytes : List ℕ) (report : Report)
+    (error : CheckError) → SameLatencies a b → IsCheckedReport b kernels bytes report
+    → IsNotChecked a kernels bytes error → ⊥
+not-refused a b kernels bytes report _ same is (IsNotChecked.problem name error lacks) =
+    let has = All-contains (HasProblem b) kernels lacks.kernel is.problems
+    (subst (λ ks. Contains ks lacks.kernel) (sym lacks.split) (in_back lacks.before lacks.after lacks.kernel)) in
+    not-lacking a b lacks.kernel.nodes error same lacks.fault has.timed has.causal lacks.refused
+not-refused a b kernels bytes report _ same is (IsNotChecked.form line problems wrong) =
+    wrong.none report is.says
+not-refused a b kernels bytes report _ same is (IsNotChecked.other told line problems says other) =
+    let one = one-report bytes report told is.says says in
+    no-other a 2 kernels told.kernels line
+    (subst (λ (r : Report). AllZip (IsShown a) kernels r.kernels) one
+    (zip_weaker (IsShown b) (IsShown a) kernels report.kernels (shown-along a b same) is.shown))
+    other
+not-refused a b kernels bytes report error same is (IsNotChecked.fault told _ problems says of fault) =
+    let one = one-report bytes report told is.says says in
+    no-fault a kernels told.kernels error
+    (subst (λ (r : Report). AllZip (IsShown a) kernels r.kernels) one
+    (zip_weaker (IsShown b) (IsShown a) kernels report.kernels (shown-along a b same) is.shown))
+    fault
 
--- what a report shows for one kernel it shows for the same one
-shows-along : (a b : Table) (k l : Kernel) (bytes : List ℕ) → k.name ≡ l.name → k.nodes ≡ l.nodes
-    → problem_of a k.nodes ≡ problem_of b l.nodes → ShowsLeast b l bytes → ShowsLeast a k bytes
-shows-along a b k l bytes named nodes same q = record {
-  part = q.part;
-  report = q.report;
-  says = q.says;
-  alone = q.alone;
-  shown = shown-along a b k l q.part named nodes same q.shown;
-}
-
+-- so its bytes have none
 not-of-check : {source table report other others another : List ℕ} (cause : Cause) → source ≡ other
     → table ≡ others → report ≡ another → IsOfCheck source table report cause
-    → (q : OneKernel other others) → IsShowing q another → ⊥
-not-of-check cause bytes latencies told (IsOfCheck.of_project _ is) q has =
-    no-cause cause bytes latencies is q has.has.kernel.nodes has.has.is
-not-of-check _ bytes latencies told (IsOfCheck.lacks_problem p error lacks) q has =
-    let same = same-project p q bytes latencies in
-    let nodes = one-nodes p.kernel q.kernel lacks.nodes has.has.kernel.nodes same.kernel lacks.is has.has.is in
-    not-lacking p.latencies q.latencies has.has.kernel.nodes error same.latencies lacks.fault
-    has.has.timed has.has.causal
-    (subst (λ ns. IsRefused p.latencies ns error) nodes lacks.refused)
-not-of-check {source} {table} {report} {other} {others} {another} _ bytes latencies told
-    (IsOfCheck.of_report p own cause is) q has =
-    let same = same-project p q bytes latencies in
-    let nodes = one-nodes p.kernel q.kernel own.kernel.nodes has.has.kernel.nodes same.kernel own.is has.has.is in
-    let named : own.kernel.name ≡ has.has.kernel.name =
-    own.named ∙ ap (λ (k : ClassTree). k.name) same.kernel ∙ sym has.has.named in
-    let one = one-problem p.latencies q.latencies own.kernel.nodes has.has.kernel.nodes same.latencies nodes in
-    not-report p.latencies own.kernel report another cause told
-    (shows-along p.latencies q.latencies own.kernel has.has.kernel another named nodes one has.shows)
-    is
+    → IsShowing other others another → ⊥
+not-of-check cause bytes latencies told (IsOfCheck.makes_none _ none) shows =
+    no-cause cause shows.project shows.latencies bytes latencies none shows.is
+not-of-check {report = report} {another = another} _ bytes latencies told
+    (IsOfCheck.not_checked project table error is refused) shows =
+    let one = are-one project shows.project table shows.latencies bytes latencies is shows.is in
+    not-refused table shows.latencies shows.project.kernels another shows.report error one.latencies
+    shows.checked
+    (subst (λ ks. IsNotChecked table ks another error) one.same.kernels
+    (subst (λ (b : List ℕ). IsNotChecked table project.kernels b error) told refused))
 
 -- ---- the files
 
@@ -234,7 +228,7 @@ excluded_check names held _ (CheckStands.of_files files cause is) good =
     files.project.table_is.holds good.files.project.table_is.holds)
     (same_bytes held names.report files.report good.files.report files.report_is.holds
     good.files.report_is.holds)
-    is good.project good.is
+    is good.shows
 
 -- where a cause stands the source is held
 pub told_from_check : (names : CheckNames) (held : Held) (cause : Cause)
@@ -251,8 +245,7 @@ pub good_from_checked : (names : CheckNames) (held : Held) (line : List ℕ)
     → IsChecked names held line → IsGood names held
 good_from_checked names held line c = record {
   files = c.files;
-  project = c.checks.project;
-  is = c.checks.is;
+  shows = c.checks.shows;
 }
 
 -- where a file of a check is missing, reading the project stops with a read fault or want of memory

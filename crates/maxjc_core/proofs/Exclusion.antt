@@ -3,20 +3,15 @@ use Rattle.std.proofs.Common.{
   ◌≡◌,
   ◌∙◌,
   ◌<◌,
-  ◌≤◌,
-  ◌^◌,
   ◌⊎◌,
   inl,
   inr,
   ℕ,
   List,
-  [],
   Some,
   None,
   Ok,
   Err,
-  true,
-  false,
   length,
   arith,
   refl,
@@ -24,33 +19,43 @@ use Rattle.std.proofs.Common.{
   sym,
   subst,
 }
-use Rattle.std.specs.Prelude.{IsSome, ◌≤ℤ◌}
+use Rattle.std.specs.Prelude.{IsSome, All, slice_get}
 use Rattle.std.proofs.lemmas.Int.{ints, clamps}
+use Rattle.std.proofs.lemmas.List.Elements.{All-contains}
 use Rattle.mx_base.specs.Files.{Held, Name, Holds}
-use Rattle.maxj_syntax.specs.Tree.{ClassTree}
 use Rattle.maxj_syntax.specs.Source.{IsSourceOf, HasFirst}
 use Rattle.maxj_syntax.proofs.Sources.{one_source, no_fault}
-use Rattle.kernel_meaning.specs.Answer.{calls_of}
-use Rattle.kernel_meaning.specs.Constructors.{building_run}
 use Rattle.latency_table.specs.declared.table.Table.{Table}
 use Rattle.latency_table.specs.Tables.{Reads}
 use Rattle.stream_graph.specs.declared.node.Node.{Node}
-use Rattle.stream_graph.specs.Nodes.{later, AreNodes}
 use Rattle.offset_edges.specs.declared.error.EdgeError.TheVariants as edge_errors
 use Rattle.offset_edges.specs.Edges.{edges_of}
 use Rattle.offset_edges.specs.Latencies.{ticks_of}
-use Rattle.offset_edges.specs.Schedules.{IsLegal, fifo_bits}
-use Rattle.cycle_find.specs.Constraints.{Numbers}
+use Rattle.offset_edges.specs.Schedules.{fifo_bits}
 use Rattle.offset_edges.specs.Walks.{IsShown}
 use Rattle.offset_edges.proofs.CoveredLemmas.{shown_back, shown_covered}
 use Rattle.kernel_schedule.specs.declared.error.ScheduleError.{ScheduleError}
 use Rattle.kernel_schedule.specs.declared.error.ScheduleError.TheVariants as schedule_errors
 use Rattle.kernel_schedule.specs.Refused.{IsRefused}
-use Rattle.kernel_schedule.specs.Schedules.{IsSchedulable, IsLeastLegal}
-use Rattle.kernel_verilog.specs.declared.error.TextError.{TextError}
-use Rattle.kernel_verilog.specs.declared.error.TextError.TheVariants as text_errors
-use Rattle.kernel_verilog.specs.Bits.{NeedsBits}
-use Rattle.kernel_verilog.specs.Refused as texts
+use Rattle.kernel_schedule.specs.Schedules.{IsSchedulable}
+use Rattle.kernel_netlist.specs.Bits.{NeedsFewBits}
+use Rattle.kernel_netlist.specs.Refused.{NeedsTooMany}
+use Rattle.manager_links.specs.declared.links.Link.{Link}
+use Rattle.manager_links.specs.declared.project.Project.{Project}
+use Rattle.manager_links.specs.Links.{AreLinksOf, IsWithinLimit, IsFirstOver}
+use Rattle.manager_links.proofs.Pieces.{stands_in}
+use Rattle.manager_links.proofs.PortLemmas.{mapped}
+use Rattle.project_build.specs.Building as builds
+use Rattle.project_build.specs.Causes.{LacksProject}
+use Rattle.project_netlists.specs.declared.error.NetlistsError.{NetlistsError}
+use Rattle.project_netlists.specs.declared.error.NetlistsError.TheVariants as netlists_errors
+use Rattle.project_netlists.specs.Laws.{HasCause}
+use Rattle.project_netlists.specs.Refused.{FitsBits}
+use Rattle.project_netlists.specs.Scheduled.{HasSchedule, IsBestOf, AreBestSchedules, all_times}
+use Rattle.project_netlists.proofs.Excluding.{made_has}
+use Rattle.project_netlists.proofs.Unique.{one_links, one_list as one_times}
+use Rattle.project_verilog.specs.declared.writing.ProjectText.{ProjectText}
+use Rattle.project_verilog.specs.Texts.{IsTextOf}
 use Rattle.maxjc_core.proofs.Latencies.{
   SameLatencies,
   same_latencies,
@@ -58,20 +63,22 @@ use Rattle.maxjc_core.proofs.Latencies.{
   same_ticks,
   timed_has,
   no_fault_read,
+  least_along,
+  best_along,
 }
-use Rattle.kernel_schedule.proofs.Unique.{one_list}
-use Rattle.maxjc_core.specs.Kernels.{IsAlone, IsKernel, LacksKernel}
-use Rattle.maxjc_core.proofs.Rules.{not-refused}
+use Rattle.maxjc_core.proofs.Lists.{zip_weaker}
+use Rattle.maxjc_core.proofs.OneProject.{AreSame, one_project, links_along}
+use Rattle.maxjc_core.proofs.Rules.{not-lacking}
 use Rattle.maxjc_core.specs.Command.{Names}
 use Rattle.maxjc_core.specs.Lines.{Cause}
+use Rattle.maxjc_core.specs.Projects.{IsProjectOf, MakesNoProject}
 use Rattle.maxjc_core.specs.Causes.{
   file_limit,
   IsWithin,
   IsPast,
-  OneKernel,
   HasText,
-  IsOfProject,
   IsOfFiles,
+  CanBeBuilt,
   IsReadable,
   IsTooLarge,
   Stands,
@@ -101,56 +108,41 @@ not_past held name bytes past within =
     let small = within.within in
     omega arith
 
--- ---- one project
-
--- the same bytes are one source of one kernel, and their tables have the same latencies
-pub record AreSame {source table other others : List ℕ} (p : OneKernel source table) (q : OneKernel
-    other others) : Type 0 where
-  pub classes : p.classes ≡ q.classes
-  pub kernel : p.kernel ≡ q.kernel
-  pub latencies : SameLatencies p.latencies q.latencies
-
-one-kernel : {classes others : List ClassTree} (a b : ClassTree) → classes ≡ others
-    → IsAlone classes a
-    → IsAlone others b → a ≡ b
-one-kernel a b same p q = let both = sym p.0 ∙ same ∙ q.0 in cc
-
-pub same-project : {source table other others : List ℕ} (p : OneKernel source table) (q : OneKernel
-    other others)
-    → source ≡ other → table ≡ others → AreSame p q
-same-project {source} {table} {other} {others} p q bytes latencies =
-    let classes : p.classes ≡ q.classes =
-    one_source other p.classes q.classes (subst (λ (b : List ℕ). IsSourceOf b p.classes) bytes p.is)
-    q.is in
-    record {
-      classes = classes;
-      kernel = one-kernel p.kernel q.kernel classes p.alone q.alone;
-      latencies = same_latencies others p.latencies q.latencies
-          (subst (λ (b : List ℕ). Reads b (Ok p.latencies)) latencies p.reads) q.reads;
-    }
-
-pub one-nodes : (kernel other : ClassTree) (a b : List Node) → kernel ≡ other → IsKernel kernel a
-    → IsKernel other b
-    → a ≡ b
-one-nodes kernel other a b same p q =
-    one_list (later [] (calls_of (building_run other []))) a b
-    (subst (λ k. AreNodes (later [] (calls_of (building_run k []))) a) same p.are) q.are
-
 -- ---- no cause stands of a project that is compiled
 
--- a class that has a kernel has no cause for which it has none
-has-one : (kernel : ClassTree) (nodes : List Node) (cause : Cause) → IsKernel kernel nodes
-    → LacksKernel kernel cause → ⊥
-has-one kernel nodes _ has (LacksKernel.name plain) =
-    let both : true ≡ false = sym has.name ∙ plain in
-    absurd (cc)
-has-one kernel nodes _ has (LacksKernel.run error plain memory ends) =
-    let both = sym has.ends ∙ ends in
-    absurd (cc)
-has-one kernel nodes _ has (LacksKernel.rule error plain ends refuses) =
-    not-refused (calls_of (building_run kernel [])) error has.sound refuses
+-- a project that is made has no cause for which none is made
+pub no-cause : {source table other others : List ℕ} (cause : Cause) (project : Project)
+    (latencies : Table) → source ≡ other → table ≡ others → MakesNoProject source table cause
+    → IsProjectOf other others project latencies → ⊥
+no-cause {other = other} _ project latencies bytes told (MakesNoProject.fault fault first) is =
+    no_fault other is.classes fault is.is (subst (λ (b : List ℕ). HasFirst b fault) bytes first)
+no-cause {others = others} _ project latencies bytes told (MakesNoProject.table_fault error lacks) is =
+    no_fault_read others latencies error lacks.fault is.reads
+    (subst (λ (b : List ℕ). Reads b (Err error)) told lacks.reads)
+no-cause {other = other} _ project latencies bytes told (MakesNoProject.builds_none error none) is =
+    let classes : none.classes ≡ is.classes =
+    one_source other none.classes is.classes
+    (subst (λ (b : List ℕ). IsSourceOf b none.classes) bytes none.is) is.is in
+    not-lacking is.classes project error is.built
+    (subst (λ cs. LacksProject cs error) classes none.lacks)
 
--- nor has a kernel that has a schedule one for which it has none
+-- the projects of the same bytes are one, and their tables have the same latencies
+pub record AreOne (p q : Project) (a b : Table) : Type 0 where
+  pub same : AreSame p q
+  pub latencies : SameLatencies a b
+
+pub are-one : {source table other others : List ℕ} (p q : Project) (a b : Table) → source ≡ other
+    → table ≡ others → IsProjectOf source table p a → IsProjectOf other others q b → AreOne p q a b
+are-one {other = other} {others = others} p q a b bytes told is too =
+    let classes : is.classes ≡ too.classes =
+    one_source other is.classes too.classes
+    (subst (λ (s : List ℕ). IsSourceOf s is.classes) bytes is.is) too.is in
+    record {
+      same = one_project too.classes p q (subst (λ cs. builds.IsProjectOf cs p) classes is.built) too.built;
+      latencies = same_latencies others a b (subst (λ (t : List ℕ). Reads t (Ok a)) told is.reads) too.reads;
+    }
+
+-- a kernel that has a schedule has no cause for which it has none
 has-none : (a b : Table) (nodes : List Node) (error : ScheduleError) → SameLatencies a b
     → (error ≡ schedule_errors.Edges edge_errors.NoMemory → ⊥) → IsSchedulable b nodes
     → IsRefused a nodes error → ⊥
@@ -174,77 +166,66 @@ has-none a b nodes (schedule_errors.Uncovered walk) same fault has refused =
     let uncovered = refused.uncovered.uncovered in
     omega (arith, ints, clamps, back, waits, uncovered)
 
--- what no legal schedule needs fewer bits than is the same by tables of the same latencies
-least-along : (a b : Table) (nodes : List Node) (s : Numbers) → SameLatencies a b
-    → IsLeastLegal a nodes s → IsLeastLegal b nodes s
-least-along a b nodes s same is =
-    let e = same_ticks a b same nodes in
-    record {
-      legal = subst (λ t. IsLegal t (edges_of nodes) s) e is.legal;
-      least = λ other legal.
-          subst (λ t. fifo_bits t nodes (edges_of nodes) s
-          ≤ℤ fifo_bits t nodes (edges_of nodes) other) e
-          (is.least other (subst (λ t. IsLegal t (edges_of nodes) other) (sym e) legal));
-    }
+-- a kernel whose FIFOs need few bits needs not too many
+few-bits : (a b : Table) (nodes : List Node) (bits : ℕ) → SameLatencies a b
+    → NeedsFewBits b nodes → NeedsTooMany a nodes bits → ⊥
+few-bits a b nodes bits same few many =
+    let along = least_along a b same nodes many.needs.times many.needs.least in
+    let least = along.least few.times few.least.legal in
+    let most = few.few in
+    let holds =
+    ap (λ t. fifo_bits t nodes (edges_of nodes) many.needs.times) (sym (same_ticks a b same nodes))
+    ∙ many.needs.holds in
+    let over = many.many in
+    omega (arith, ints, least, most, holds, over)
 
-one-need : (a b : Table) (nodes : List Node) (x y : ℕ) → SameLatencies a b → NeedsBits a nodes x
-    → NeedsBits b nodes y → x ≡ y
-one-need a b nodes x y same p q =
-    let e = same_ticks a b same nodes in
-    let along = least-along a b nodes p.times same p.least in
-    let first = along.least q.times q.least.legal in
-    let second = q.least.least p.times along.legal in
-    let has = ap (λ t. fifo_bits t nodes (edges_of nodes) p.times) (sym e) ∙ p.holds in
-    let needs = q.holds in
-    omega (arith, ints, first, second, has, needs)
+-- links that are all within the limit have none that is over it
+none-over : (links : List Link) (number words : ℕ) → All IsWithinLimit links
+    → IsFirstOver links number words → ⊥
+none-over links number words within first =
+    let at = mapped (λ (link : Link). link.depth) (slice_get links number) words first.here in
+    let few = All-contains IsWithinLimit links at.0 within (stands_in links number at.0 at.1) in
+    let over = first.over in
+    let same = at.2 in
+    omega (arith, few, over, same)
 
--- a kernel that has a text has no cause for which it has none
-not-lacking : (a b : Table) (nodes : List Node) (error : TextError) (bits : ℕ) → SameLatencies a b
-    → texts.is_memory error ≡ false → IsSchedulable b nodes → NeedsBits b nodes bits
-    → bits ≤ 2 ^ 28 → texts.IsRefused a nodes error → ⊥
-not-lacking a b nodes (text_errors.Schedule error) bits same fault has needs few refused =
-    has-none a b nodes error same
-    (λ e. let both = subst (λ x. texts.is_memory (text_errors.Schedule x) ≡ false) e fault in absurd (cc))
-    has refused
-not-lacking a b nodes (text_errors.TooManyBits most) bits same fault has needs few refused =
-    let e = one-need a b nodes most bits same refused.needs needs in
-    let many = refused.many in
-    omega (arith, e, many, few)
-not-lacking a b nodes text_errors.NoMemory bits same fault has needs few refused =
-    absurd (cc)
+-- a project that has a text has no cause for which it has none
+not-lacking-text : (p q : Project) (a b : Table) (error : NetlistsError) → AreOne p q a b
+    → HasText b q → HasCause a p error → ⊥
+not-lacking-text p q a b (netlists_errors.Schedule number error) one has cause =
+    let lacks = cause.refused in
+    has-none a b lacks.kernel.nodes error one.latencies lacks.lacks.fault
+    (All-contains (HasSchedule b) p.kernels lacks.kernel
+    (subst (All (HasSchedule b)) (sym one.same.kernels) has.scheduled)
+    (stands_in p.kernels number lacks.kernel lacks.here))
+    lacks.lacks.refused
+not-lacking-text p q a b (netlists_errors.TooManyBits number bits) one has cause =
+    let first = cause.refused.first in
+    few-bits a b first.kernel.nodes bits one.latencies
+    (All-contains (FitsBits b) p.kernels first.kernel
+    (subst (All (FitsBits b)) (sym one.same.kernels) has.fit)
+    (stands_in p.kernels number first.kernel first.here))
+    first.needs
+not-lacking-text p q a b (netlists_errors.LinkTooDeep number words) one has cause =
+    let deep = cause.refused in
+    let best = zip_weaker (IsBestOf a) (IsBestOf b) p.kernels deep.schedules
+    (λ kernel schedule is. best_along a b one.latencies kernel.nodes schedule is) deep.best in
+    let within = has.shallow deep.schedules deep.deep.made
+    (subst (λ ks. AreBestSchedules b ks deep.schedules) one.same.kernels best)
+    (links_along p q (all_times deep.schedules) deep.deep.made one.same deep.deep.are) in
+    none-over deep.deep.made.links number words within deep.deep.first
+not-lacking-text p q a b netlists_errors.NoMemory one has cause = cause.fault refl
 
--- a project that makes a kernel has no cause for which it makes none
-pub no-cause : {source table other others : List ℕ} (cause : Cause) → source ≡ other
-    → table ≡ others → IsOfProject source table cause → (q : OneKernel other others)
-    → (nodes : List Node) → IsKernel q.kernel nodes → ⊥
-no-cause {source} {table} {other} {others} _ bytes latencies (IsOfProject.fault fault first) q nodes
-    is =
-    no_fault other q.classes fault q.is (subst (λ (b : List ℕ). HasFirst b fault) bytes first)
-no-cause {source} {table} {other} {others} _ bytes latencies (IsOfProject.manager lacks) q nodes is =
-    let classes : lacks.classes ≡ q.classes =
-    one_source other lacks.classes q.classes (subst (λ (b : List ℕ). IsSourceOf b lacks.classes) bytes
-    lacks.is) q.is in
-    lacks.not_alone q.kernel (subst (λ (cs : List ClassTree). IsAlone cs q.kernel) (sym classes)
-    q.alone)
-no-cause {source} {table} {other} {others} _ bytes latencies (IsOfProject.table_fault error lacks) q
-    nodes is =
-    no_fault_read others q.latencies error lacks.fault q.reads
-    (subst (λ (b : List ℕ). Reads b (Err error)) latencies lacks.reads)
-no-cause cause bytes latencies (IsOfProject.lacks_kernel p _ lacks) q nodes is =
-    let same = same-project p q bytes latencies in
-    has-one q.kernel nodes cause is (subst (λ k. LacksKernel k cause) same.kernel lacks)
-
--- nor has one whose kernel has a text one for which it isn't compiled
+-- so the bytes of one that can be built have no cause for which they aren't compiled
 not-of-files : {source table other others : List ℕ} (cause : Cause) → source ≡ other
-    → table ≡ others → IsOfFiles source table cause → (q : OneKernel other others) → HasText q → ⊥
-not-of-files cause bytes latencies (IsOfFiles.of_project _ is) q has =
-    no-cause cause bytes latencies is q has.nodes has.is
-not-of-files _ bytes latencies (IsOfFiles.lacks_text p error lacks) q has =
-    let same = same-project p q bytes latencies in
-    let nodes = one-nodes p.kernel q.kernel lacks.nodes has.nodes same.kernel lacks.is has.is in
-    not-lacking p.latencies q.latencies has.nodes error has.bits same.latencies lacks.fault
-    has.schedulable has.needs has.few
-    (subst (λ ns. texts.IsRefused p.latencies ns error) nodes lacks.refused)
+    → table ≡ others → IsOfFiles source table cause → CanBeBuilt other others → ⊥
+not-of-files cause bytes told (IsOfFiles.makes_none _ none) can =
+    no-cause cause can.project can.latencies bytes told none can.is
+not-of-files _ bytes told (IsOfFiles.lacks_text project latencies cause is lacks) can =
+    not-lacking-text project can.project latencies can.latencies lacks.error
+    (are-one project can.project latencies can.latencies bytes told is can.is) can.has lacks.has
+
+-- ---- the files
 
 -- where both files are within the limit none is past it
 pub not_large : (source_name table_name : Name) (held : Held) (cause : Cause)
@@ -264,7 +245,7 @@ excluded names held cause (Stands.of_files files _ is) built =
     built.files.source_is.holds)
     (same_bytes held names.table files.table built.files.table files.table_is.holds
     built.files.table_is.holds)
-    is built.project built.has
+    is built.can
 
 -- where a file is past the limit the source is held
 pub told_from_large : (source_name table_name : Name) (held : Held) (cause : Cause)
@@ -295,18 +276,32 @@ told_from_cause names held _ (Stands.too_large cause large) =
 told_from_cause names held _ (Stands.of_files files cause is) = told held names.source files.source
     files.source_is.holds
 
+-- what was made of a project shows that it has a text
+made-has : (table : Table) (project : Project) (made : ProjectText) → IsTextOf table project made
+    → HasText table project
+made-has table project made t =
+    let has = made_has table project t.own t.netlists in
+    record {
+      scheduled = has.scheduled;
+      fit = has.fit;
+      shallow = λ schedules links best are.
+          subst (All IsWithinLimit)
+          (one_links project (all_times schedules) has.links links
+          (subst (λ times. AreLinksOf project times has.links)
+          (one_times table project.kernels has.schedules schedules has.best best) has.are) are)
+          has.within;
+    }
+
 pub built_from_compiled : (names : Names) (held : Held) (text report line : List ℕ)
     → IsCompiled names held text report line → IsBuilt names held
 built_from_compiled names held text report line c =
+    let m = c.compiles in
     record {
       files = c.files;
-      project = c.compiles.project;
-      has = record {
-        nodes = c.compiles.kernel.nodes;
-        is = c.compiles.is;
-        schedulable = c.compiles.text_of.schedulable;
-        bits = c.compiles.shows.part.bits;
-        needs = c.compiles.text_of.needs;
-        few = c.compiles.text_of.few;
+      can = record {
+        project = m.project;
+        latencies = m.latencies;
+        is = m.is;
+        has = made-has m.latencies m.project m.made m.text_of;
       };
     }

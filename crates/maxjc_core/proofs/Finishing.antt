@@ -8,13 +8,11 @@ use Rattle.std.proofs.Common.{
   Bool,
   true,
   false,
-  map,
   Option,
   Ok,
   Err,
   inl,
   inr,
-  unsigned_abs,
   refl,
   subst,
   arith,
@@ -22,10 +20,9 @@ use Rattle.std.proofs.Common.{
 use Rattle.mx_base.specs.Files.{Held, Name}
 use Rattle.rtl_ir.specs.declared.design.Design.{Design}
 use Rattle.rtl_ir.specs.Flat.{Families}
-use Rattle.kernel_control.specs.Ports.{inputs_of}
-use Rattle.link_rtl.specs.Times.{reads_of}
+use Rattle.project_rtl.specs.Times.{all_reads}
+use Rattle.project_streams.specs.Streams.{GivenProject, ProjectValues}
 use Rattle.stall_source.specs.Stalls.{Answers, IsFreeAtZero}
-use Rattle.stream_equations.specs.Equations.{GivenRun, Values}
 use Rattle.verilog_sim.specs.Start.{all_cells}
 use Rattle.simulation.specs.Answers.{Finishes, Breaks, end_of}
 use Rattle.simulation.specs.Ends.{End, Ends, Stopped}
@@ -37,7 +34,7 @@ use Rattle.simulation.specs.declared.stop.Stop.{Stop}
 use Rattle.simulation.specs.declared.stop.Stop.TheVariants as stops
 use Rattle.maxjc_core.specs.Command.{RunNames, said_more}
 use Rattle.maxjc_core.specs.Compiling.{Compiles}
-use Rattle.maxjc_core.specs.Finishing.{RunsFreely, most_edges, IsDoneWithin, AllFinish}
+use Rattle.maxjc_core.specs.Finishing.{RunsFreely, times_in, most_edges, IsDoneWithin, AllFinish}
 use Rattle.maxjc_core.specs.Loading.{IsLoaded, setup}
 use Rattle.maxjc_core.specs.LoadStops.{IsOnlyDesign}
 use Rattle.maxjc_core.specs.RunStops.{end_status, end_line}
@@ -57,17 +54,17 @@ EndsTimely stalls s most =
 ends-timely : {names : RunNames} {stalls : Answers} {held : Held} {d : Design} {p : Plan}
     → IsFreeAtZero stalls → IsMade names held d p → (l : IsLoaded names held)
     (source table report line : List ℕ) (c : Compiles source table l.files.text report line)
-    (run : GivenRun) (val : Values) → RunsFreely c.kernel l run val
-    → most_edges c run ≤ (setup l).edges → EndsTimely stalls (setup l) (most_edges c run)
-ends-timely {names} {stalls} {held} {d} {p} free made l source table report line c run val freely
+    (given : GivenProject) (values : ProjectValues)
+    → RunsFreely c.project (times_in c) c.made.links l given values
+    → most_edges c given ≤ (setup l).edges → EndsTimely stalls (setup l) (most_edges c given)
+ends-timely {names} {stalls} {held} {d} {p} free made l source table report line c given values freely
     enough =
     let made_as = made.loaded (told_loaded l) in
     let only = subst (λ (t : List ℕ). IsOnlyDesign t d) (same_file held names.text made_as.files.text
     l.files.text made_as.files.text_is l.files.text_is) made_as.is.only in
     let of = run_is source table report line l d only c in
-    timely stalls free (setup l) (most_edges c run)
-    (map (reads_of c.kernel.nodes run val) (inputs_of c.kernel.nodes))
-    (ready-run c.kernel (λ n. unsigned_abs (c.text_of.needs.times n)) l of run val freely enough)
+    timely stalls free (setup l) (most_edges c given) (all_reads c.project given values)
+    (ready-run c.project (times_in c) c.made.links l of given values freely enough)
 
 done-within : (done : Bool) (edges most : ℕ) (r : Status) (before after : Option (List ℕ))
     → IsTimely most (end_of (outcome done edges)) → IsEnded (outcome done edges) r
@@ -83,12 +80,12 @@ pub finishes-ended : {names : RunNames} {stalls : Answers} {held now : Held} {d 
     → IsMade names held d p → IsSimulated stalls d p held now (Ok o) → IsEnded o r
     → (r ≡ end_status o → after ≡ said_more before (end_line o)) → AllFinish names held before after r
 finishes-ended {stalls = stalls} {now = now} o r before after free made sim ended said l source table
-    report line c run val freely enough =
+    report line c given values freely enough =
     let finishes = of_loaded l made (λ (s : Setup) (outputs : List (Name × ℕ)).
     Finishes stalls s outputs now (end_of o))
     (sim.tells made.can.is.top made.can.is.shape made.can.is.is_top made.can.is.is_run.has (told_loaded l)) in
-    done-within o.done o.edges (most_edges c run) r before after
-    (ends-timely free made l source table report line c run val freely enough finishes.restart
+    done-within o.done o.edges (most_edges c given) r before after
+    (ends-timely free made l source table report line c given values freely enough finishes.restart
     finishes.vs (end_of o) finishes.ends) ended said
 
 -- and a run isn't stopped but by a failure of a call
@@ -102,33 +99,33 @@ pub finishes-stopped : {names : RunNames} {stalls : Answers} {held now : Held} {
     → IsMade names held d p → IsSimulated stalls d p held now (Err stop) → IsStopped stop r
     → AllFinish names held before after r
 finishes-stopped {d = d} (stops.TooManyCells n) r before after free made sim stopped l source table
-    report line c run val freely enough =
+    report line c given values freely enough =
     let many = (sim.cells n refl).0 in
     let small = subst (λ (e : Design). all_cells e ≤ 2 ^ 26) (same_run l made).designs freely.small in
     absurd (omega (arith, many, small))
 finishes-stopped {stalls = stalls} {now = now} (stops.BadLine file line) r before after free made sim
-    stopped l source table report said c run val freely enough =
+    stopped l source table report said c given values freely enough =
     absurd (breaks-not (lines.BadLine file line)
-    (ends-timely free made l source table report said c run val freely enough)
+    (ends-timely free made l source table report said c given values freely enough)
     (of_loaded l made (λ (s : Setup) (outputs : List (Name × ℕ)).
     Breaks stalls s outputs now (Stopped (lines.BadLine file line)))
     (sim.tells made.can.is.top made.can.is.shape made.can.is.is_top made.can.is.is_run.has (told_loaded l))))
 finishes-stopped {stalls = stalls} {now = now} (stops.WordRange file line) r before after free made sim
-    stopped l source table report said c run val freely enough =
+    stopped l source table report said c given values freely enough =
     absurd (breaks-not (lines.WordRange file line)
-    (ends-timely free made l source table report said c run val freely enough)
+    (ends-timely free made l source table report said c given values freely enough)
     (of_loaded l made (λ (s : Setup) (outputs : List (Name × ℕ)).
     Breaks stalls s outputs now (Stopped (lines.WordRange file line)))
     (sim.tells made.can.is.top made.can.is.shape made.can.is.is_top made.can.is.is_run.has (told_loaded l))))
-finishes-stopped stops.ReadFault r before after free made sim stopped l source table report line c run
-    val freely enough = inr (stopped_cut_off stops.ReadFault r tt stopped)
+finishes-stopped stops.ReadFault r before after free made sim stopped l source table report line c
+    given values freely enough = inr (stopped_cut_off stops.ReadFault r tt stopped)
 finishes-stopped stops.WriteFault r before after free made sim stopped l source table report line c
-    run val freely enough = inr (stopped_cut_off stops.WriteFault r tt stopped)
-finishes-stopped stops.NoMemory r before after free made sim stopped l source table report line c run
-    val freely enough = inr (stopped_cut_off stops.NoMemory r tt stopped)
+    given values freely enough = inr (stopped_cut_off stops.WriteFault r tt stopped)
+finishes-stopped stops.NoMemory r before after free made sim stopped l source table report line c
+    given values freely enough = inr (stopped_cut_off stops.NoMemory r tt stopped)
 
 -- where nothing is loaded nothing is run
 pub finishes-unloaded : {names : RunNames} {held : Held} (r : Status) (before after : Option (List ℕ))
     → (IsLoaded names held → ⊥) → AllFinish names held before after r
-finishes-unloaded r before after never l source table report line c run val freely enough =
+finishes-unloaded r before after never l source table report line c given values freely enough =
     absurd (never l)

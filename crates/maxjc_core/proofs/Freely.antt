@@ -27,7 +27,8 @@ use Rattle.std.proofs.Common.{
 use Rattle.std.proofs.lemmas.Bool.Decides.{nat_tests}
 use Rattle.rtl_ir.specs.Value.{Family}
 use Rattle.rtl_ir.specs.Run.{Channel, Outer, Event, moves, left_of}
-use Rattle.link_rtl.specs.Times.{
+use Rattle.project_rtl.specs.Times.{
+  none_held,
   all_accept,
   has_one,
   all_offer,
@@ -41,7 +42,7 @@ use Rattle.link_rtl.specs.Times.{
 pub record IsFree (o : Outer) (e : Event) : Type 0 where
   pub offers : (k : ℕ) → k < length o.inputs → e.offers k ≡ true
   pub accepts : (k : ℕ) → k < length o.outputs → e.accepts k ≡ true
-  pub held : e.held 0 ≡ false
+  pub held : (k : ℕ) → k < length o.holds → e.held k ≡ false
 
 abbrev pub AllFree : Outer → List Event → Type 0
 AllFree o [] = Unit {0}
@@ -79,6 +80,12 @@ accepted e k [] free = refl
 accepted e k (ch ∷ chs) free =
     rw (free k (omega arith), accepted e (k + 1) chs (λ i lt. free i (omega arith))) refl
 
+not-held : (e : Event) (k : ℕ) (holds : List ℕ)
+    → ((i : ℕ) → i < k + length holds → e.held i ≡ false) → none_held e k holds ≡ true
+not-held e k [] free = refl
+not-held e k (hold ∷ holds) free =
+    rw (free k (omega arith), not-held e (k + 1) holds (λ i lt. free i (omega arith))) refl
+
 one-offered : (b : Bool) (n : ℕ) (ws : List ℕ) → b ≡ true → n ≤ length ws
     → nat_eq n 0 || (b && has_one ws) ≡ true
 one-offered b n [] e h = let z : n ≡ 0 = omega (arith, h) in rw z refl
@@ -98,10 +105,10 @@ offered e k (n ∷ still) (ws ∷ left) free h =
 -- in such an edge nothing waits
 pub unstalled : (o : Outer) (e : Event) (still : List ℕ) (left : List (List ℕ)) → IsFree o e
     → length still ≤ length o.inputs → AllWait still left
-    → is_unstalled e o.outputs still left ≡ true
+    → is_unstalled o e still left ≡ true
 unstalled o e still left free few wait =
     rw (
-      free.held,
+      not-held e 0 o.holds (λ i lt. free.held i (omega arith)),
       accepted e 0 o.outputs (λ i lt. free.accepts i (omega arith)),
       offered e 0 still left (λ i lt. free.offers i (omega (arith, lt, few))) wait,
     ) refl

@@ -1,6 +1,6 @@
 -- Tables that are read from one text have the same latencies.
 use Rattle.std.proofs.Common.{◌≡◌, ◌∙◌, ℕ, List, Bool, true, false, Ok, Err, refl, sym, ap, subst}
-use Rattle.std.specs.Prelude.{Some, None, IsSome, option_map, if◌then◌else◌}
+use Rattle.std.specs.Prelude.{Some, None, IsSome, option_map, if◌then◌else◌, ◌≤ℤ◌}
 use Rattle.std.specs.Option.{unwrap_or}
 use mathlib.Core.Path.{fun_ext}
 use Rattle.mx_bits.specs.declared.op.Op.{Op}
@@ -14,8 +14,17 @@ use Rattle.latency_table.specs.declared.rows.Row.{Row}
 use Rattle.latency_table.specs.declared.table.Table.{Table}
 use Rattle.latency_table.specs.Rows.{row_at}
 use Rattle.latency_table.specs.Tables.{rows_at, is_free, latency_of, Reads, IsTable, shape_fault, range_fault}
-use Rattle.offset_edges.specs.Edges.{kind_at}
+use Rattle.cycle_find.specs.Constraints.{Numbers, numbers_of}
+use Rattle.schedule_problem.specs.Flow.{cost_of}
+use Rattle.kernel_schedule.specs.declared.schedule.Schedule.{Schedule}
+use Rattle.kernel_schedule.specs.Schedules.{IsSchedulable, IsLeastLegal}
+use Rattle.kernel_netlist.specs.Scheduled.{IsBestSchedule}
+use Rattle.offset_edges.specs.Edges.{kind_at, edges_of}
+use Rattle.offset_edges.specs.Problems.{problem_of, problem_over}
+use Rattle.offset_edges.specs.Schedules.{IsLegal, fifo_bits}
+use Rattle.offset_edges.specs.Walks.{AreCovered}
 use Rattle.offset_edges.specs.Latencies.{
+  AllTimed,
   latency_as,
   latency_at,
   ticks_of,
@@ -105,3 +114,54 @@ timed_has table nodes n op width some h =
     let e : latency_at table nodes n ≡ None = ap (latency_as table nodes n) kind ∙ none in
     let both = rw e at some in
     absurd (cc)
+
+-- ---- schedules
+
+module _ (a b : Table) (same : SameLatencies a b) (nodes : List Node) where
+  ticks : ticks_of a nodes ≡ ticks_of b nodes
+  ticks = same_ticks a b same nodes
+
+  pub timed_along : AllTimed a nodes → AllTimed b nodes
+  timed_along timed n lt = subst (λ o. IsSome o) (same_at a b same nodes n) (timed n lt)
+
+  pub same_problem : problem_of a nodes ≡ problem_of b nodes
+  same_problem = ap (λ t. problem_over t nodes (edges_of nodes)) ticks
+
+  pub schedulable_along : IsSchedulable a nodes → IsSchedulable b nodes
+  schedulable_along is = record {
+    timed = timed_along is.timed;
+    covered = subst (λ t. AreCovered t (edges_of nodes)) ticks is.covered;
+  }
+
+  -- what no legal schedule needs fewer bits than
+  pub least_along : (s : Numbers) → IsLeastLegal a nodes s → IsLeastLegal b nodes s
+  least_along s is = record {
+    legal = subst (λ t. IsLegal t (edges_of nodes) s) ticks is.legal;
+    least = λ other legal.
+        subst (λ t. fifo_bits t nodes (edges_of nodes) s
+        ≤ℤ fifo_bits t nodes (edges_of nodes) other) ticks
+        (is.least other (subst (λ t. IsLegal t (edges_of nodes) other) (sym ticks) legal));
+  }
+
+  pub best_along : (s : Schedule) → IsBestSchedule a nodes s → IsBestSchedule b nodes s
+  best_along s is = record {
+    schedulable = schedulable_along is.schedulable;
+    least = record {
+      latencies = record {
+        counted = is.least.latencies.counted;
+        each = λ n lt. sym (same_at a b same nodes n) ∙ is.least.latencies.each n lt;
+        at_most = is.least.latencies.at_most;
+      };
+      problem = is.least.problem ∙ same_problem;
+      best = is.least.best;
+      small = is.least.small;
+      earliest = is.least.earliest;
+      times = least_along (numbers_of s.answer.times) is.least.times;
+      bits =
+          subst (λ t. fifo_bits t nodes (edges_of nodes) (numbers_of s.answer.times)
+          ≡ cost_of s.problem (numbers_of s.answer.times)) ticks is.least.bits;
+    };
+    arcs = is.arcs;
+    most = is.most;
+    begins = is.begins;
+  }

@@ -9,7 +9,9 @@ pub mod RunClauses
 pub mod OneCommand
 pub mod Exclusion
 pub mod OneShape
-pub mod Alone
+pub mod Lists
+pub mod OneProject
+pub mod Building
 pub mod Judging
 pub mod Latencies
 pub mod Answering
@@ -23,4 +25,5 @@ pub mod Timely
 pub mod Ready
 pub mod Finishing
 pub mod Checking
+pub mod SaidLines
 pub mod CheckExclusion

@@ -51,7 +51,7 @@ use Rattle.simulation.specs.Inputs.{words_of}
 use Rattle.simulation.specs.Asked.{AreAsked}
 use Rattle.simulation.specs.Runs.{Setup, IsIdle, IsDoneAt, UndoneBefore, contents_after}
 use Rattle.simulation.proofs.Snoc.{own_snoc}
-use Rattle.link_rtl.specs.Times.{IsDoneBy}
+use Rattle.project_rtl.specs.Times.{IsDoneBy}
 use Rattle.maxjc_core.proofs.Freely.{AllFree, AllWait, done-last}
 
 -- ---- at pattern number 0
@@ -62,20 +62,20 @@ not-false false e = absurd (false≢true (sym e))
 
 -- at pattern number 0 no port stalls
 pub asked-free : (stalls : Answers) → IsFreeAtZero stalls → (n : ℕ) (o : Outer) (es : List Event)
-    → n + length es ≤ 2 ^ 64 → 0 < length o.holds
+    → n + length es ≤ 2 ^ 64
     → length o.inputs + length o.outputs + length o.holds ≤ 2 ^ 32
     → AreAsked stalls 0 n o es → AllFree o es
-asked-free stalls free n o [] early some few asked = tt
-asked-free stalls free n o (e ∷ es) early some few asked = (
+asked-free stalls free n o [] early few asked = tt
+asked-free stalls free n o (e ∷ es) early few asked = (
   record {
     offers = λ k lt. not-false (e.offers k)
         (free n k now (omega (arith, lt, few)) (not (e.offers k)) (asked.0.offers k lt));
     accepts = λ k lt. not-false (e.accepts k)
         (free n (length o.inputs + k) now (omega (arith, lt, few)) (not (e.accepts k)) (asked.0.accepts k lt));
-    held = free n (length o.inputs + length o.outputs + 0) now (omega (arith, some, few)) (e.held 0)
-        (asked.0.held 0 some);
+    held = λ k lt. free n (length o.inputs + length o.outputs + k) now (omega (arith, lt, few))
+        (e.held k) (asked.0.held k lt);
   },
-  asked-free stalls free (n + 1) o es (omega (arith, early)) some few asked.1,
+  asked-free stalls free (n + 1) o es (omega (arith, early)) few asked.1,
 )
   where
     now : n < 2 ^ 64

@@ -2,16 +2,13 @@
 use Rattle.std.proofs.Common.{
   ◌≡◌,
   ℕ,
-  ◌+◌,
   ◌-◌,
-  ◌<◌,
   ◌≤◌,
   ◌^◌,
   Bool,
   true,
   false,
   List,
-  [],
   ◌∷◌,
   length,
   map,
@@ -27,10 +24,11 @@ use Rattle.std.proofs.Common.{
   subst,
   arith,
 }
-use Rattle.std.specs.Prelude.{nat_le, if◌then◌else◌, codes}
+use Rattle.std.specs.Prelude.{ℤ, nat_le, if◌then◌else◌, codes, slice_index}
 use Rattle.std.proofs.lemmas.Bool.Decides.{nat_tests}
 use Rattle.std.proofs.lemmas.List.{length-map}
 use Rattle.mx_base.specs.Files.{Held}
+use Rattle.manager_links.proofs.Pieces.{zip_length}
 use Rattle.serde_json.specs.Data.{Data}
 use Rattle.serde_json.specs.Find.{get, as_number, as_u64}
 use Rattle.word_files.specs.RunFiles.{Reads, up_to, most_count}
@@ -38,23 +36,21 @@ use Rattle.word_files.specs.declared.run_file.RunFile.{RunFile}
 use Rattle.rtl_ir.specs.declared.design.Module.{Module}
 use Rattle.rtl_ir.specs.Parts.{own_of}
 use Rattle.rtl_ir.specs.Ports.{Shape, outer_of, first_input, first_output}
-use Rattle.rtl_ir.specs.Run.{IsDriven}
 use Rattle.verilog_sim.proofs.Shapes.{length_channels, length_seconds}
-use Rattle.stream_graph.specs.declared.kernel.Kernel.{Kernel}
-use Rattle.stream_equations.specs.Equations.{GivenRun, Values}
-use Rattle.kernel_control.specs.Ports.{port_shape, inputs_of}
-use Rattle.kernel_control.specs.Refines.{last_time}
-use Rattle.link_rtl.specs.Shapes.{shape_of}
-use Rattle.link_rtl.specs.Words.{AreSources}
-use Rattle.link_rtl.specs.Times.{reads_of, IsDoneBy}
+use Rattle.manager_links.specs.declared.links.Links.{Links}
+use Rattle.manager_links.specs.declared.project.Project.{Project}
+use Rattle.project_rtl.specs.Shapes.{shape_of, host_shape}
+use Rattle.project_rtl.specs.Times.{reads_of, all_reads, done_count, IsDoneBy}
+use Rattle.project_rtl.specs.Words.{outer}
+use Rattle.project_streams.specs.Streams.{GivenProject, ProjectValues}
 use Rattle.simulation.specs.Inputs.{words_of, input_files}
 use Rattle.simulation.proofs.Making.{own_cells, formed_top}
 use Rattle.simulation.proofs.Shaping.{few_ports}
 use Rattle.maxjc_core.specs.Command.{RunNames}
-use Rattle.maxjc_core.specs.Finishing.{RunsFreely}
+use Rattle.maxjc_core.specs.Finishing.{HasAllWords, RunsFreely}
 use Rattle.maxjc_core.specs.Loading.{IsLoaded, setup}
 use Rattle.maxjc_core.proofs.Moments.{IsDoneIn}
-use Rattle.maxjc_core.proofs.Writing.{IsRunOf}
+use Rattle.maxjc_core.proofs.Writing.{IsRunOf, driven_over}
 use Rattle.maxjc_core.proofs.Timely.{IsReady, none-behind, all-wait}
 
 -- ---- the edges that a run file allows are few
@@ -80,60 +76,48 @@ few-edges bytes run reads = told-within most_count run.edges (get (codes "edges"
 
 -- ---- the ports
 
-sources-count : (run : GivenRun) (ns : List ℕ) (words : List (List ℕ)) → AreSources run ns words
-    → length ns ≡ length words
-sources-count run [] [] h = refl
-sources-count run [] (ws ∷ words) h = absurd h
-sources-count run (n ∷ ns) [] h = absurd h
-sources-count run (n ∷ ns) (ws ∷ words) h =
-    let r = sources-count run ns words h.1 in omega (arith, r)
-
-input-count : (kernel : Kernel) (m : Module) (s : Shape) → s ≡ shape_of kernel
-    → length (outer_of s m).inputs ≡ length (inputs_of kernel.nodes)
-input-count kernel m s same =
-    let is : length (outer_of (shape_of kernel) m).inputs ≡ length (inputs_of kernel.nodes) =
-    length_channels m (first_input (shape_of kernel)) (shape_of kernel).inputs
-    ∙ length-map (inputs_of kernel.nodes) (port_shape kernel.nodes) in
-    subst (λ (x : Shape). length (outer_of x m).inputs ≡ length (inputs_of kernel.nodes)) (sym same) is
-
-hold-count : (kernel : Kernel) (m : Module) (s : Shape) → s ≡ shape_of kernel
-    → 0 < length (outer_of s m).holds
-hold-count kernel m s same =
-    subst (λ (x : Shape). 0 < length (outer_of x m).holds) (sym same) (omega arith)
+input-count : (project : Project) (m : Module) (s : Shape) → s ≡ shape_of project
+    → length (outer_of s m).inputs ≡ length project.joints.inputs
+input-count project m s same =
+    let is : length (outer project m).inputs ≡ length project.joints.inputs =
+    length_channels m (first_input (shape_of project)) (shape_of project).inputs
+    ∙ length-map project.joints.inputs host_shape in
+    subst (λ (x : Shape). length (outer_of x m).inputs ≡ length project.joints.inputs) (sym same) is
 
 -- ---- what is run
 
-pub ready-run : (kernel : Kernel) (times : ℕ → ℕ) {names : RunNames} {before : Held}
-    (l : IsLoaded names before) → IsRunOf kernel times l → (run : GivenRun) (val : Values)
-    → RunsFreely kernel l run val
-    → 1 + run.ticks + last_time kernel.nodes times + 1 ≤ (setup l).edges
-    → IsReady (setup l) (1 + run.ticks + last_time kernel.nodes times + 1)
-    (map (reads_of kernel.nodes run val) (inputs_of kernel.nodes))
-ready-run kernel times {names} {before} l of run val freely enough =
+pub ready-run : (project : Project) (times : List (List ℤ)) (made : Links) {names : RunNames}
+    {before : Held} (l : IsLoaded names before) → IsRunOf project times made l
+    → (given : GivenProject) (values : ProjectValues)
+    → RunsFreely project times made l given values
+    → done_count times (slice_index made.starts) given 0 project.kernels ≤ (setup l).edges
+    → IsReady (setup l) (done_count times (slice_index made.starts) given 0 project.kernels)
+    (all_reads project given values)
+ready-run project times made {names} {before} l of given values freely enough =
     let top = l.fit.is.top in
     let s = l.fit.is.shape in
     let d = l.fit.design in
-    let nodes = kernel.nodes in
-    let reads = map (reads_of nodes run val) (inputs_of nodes) in
-    let most = 1 + run.ticks + last_time nodes times + 1 in
-    let words = map words_of (input_files before l.fit.plan.inputs) in
-    let inputs = input-count kernel top s of.shape in
+    let over = freely.over in
+    let reads = all_reads project given values in
+    let most = done_count times (slice_index made.starts) given 0 project.kernels in
+    let files = input_files before l.fit.plan.inputs in
+    let hosts = project.joints.inputs in
+    let inputs = input-count project top s of.shape in
     let ports = few_ports (take (length d.modules - 1) d.modules) top s
     (formed_top d top l.fit.is.accepted l.fit.is.is_top) l.fit.is.is_run.has
     (own_cells d top l.fit.is.accepted l.fit.is.is_top freely.small) in
     let done : IsDoneIn (setup l) most reads = λ restart vs events edges driven.
-    subst (λ (x : Shape). IsDoneBy (outer_of x top) most reads words 0 events (own_of vs)) (sym of.shape)
-    (of.on_time run val words events (setup l).contents restart vs freely.short freely.equations
-    freely.guarded freely.sources edges
-    (subst (λ (xs : List ℕ). IsDriven (outer_of (shape_of kernel) top) xs words events
-    (own_of (restart ∷ vs))) freely.steady
-    (subst (λ (x : Shape). IsDriven (outer_of x top) (setup l).steady words events
-    (own_of (restart ∷ vs))) of.shape driven))).done in
+    subst (λ (x : Shape). IsDoneBy (outer_of x top) most reads (map words_of files) 0 events (own_of vs))
+    (sym of.shape)
+    (subst (λ (ws : List (List ℕ)). IsDoneBy (outer project top) most reads ws 0 events (own_of vs))
+    over.words
+    (of.on_time given values events (setup l).contents restart vs over.short over.equations
+    over.guarded freely.balanced edges
+    (driven_over project l given values of.shape over events (own_of (restart ∷ vs)) driven)).done) in
     record {
       pick = freely.picked;
       enough = enough;
       edges = omega (arith, few-edges l.files.run l.fit.run_file l.fit.says, l.fit.planned.edges);
-      some = hold-count kernel top s of.shape;
       few = omega (
         arith,
         ports,
@@ -142,9 +126,13 @@ ready-run kernel times {names} {before} l of run val freely enough =
         length_seconds top 2 s.kernels,
       );
       done = done;
-      counted = omega (arith, length-map (inputs_of nodes) (reads_of nodes run val), inputs);
-      same = omega (arith, inputs, sources-count run (inputs_of nodes) words freely.sources);
-      wait = all-wait nodes run val (input_files before l.fit.plan.inputs) (inputs_of nodes) freely.words;
-      readable = none-behind nodes run val (input_files before l.fit.plan.inputs) (inputs_of nodes)
-          freely.words;
+      counted = omega (arith, length-map hosts (reads_of project given values), inputs);
+      same = omega (
+        arith,
+        inputs,
+        length-map files words_of,
+        zip_length (HasAllWords project given values) files hosts freely.words,
+      );
+      wait = all-wait project given values files hosts freely.words;
+      readable = none-behind project given values files hosts freely.words;
     }

@@ -14,11 +14,14 @@ use Rattle.word_files.specs.declared.error.RunFileError.{RunFileError}
 use Rattle.word_files.specs.declared.error.RunFileError.TheVariants as run_errors
 use Rattle.word_files.specs.declared.run_file.RunFile.{RunFile}
 use Rattle.rtl_ir.specs.declared.interface.Interface.{Interface}
-use Rattle.maxjc_core.specs.Causes.{IsOfProject}
 use Rattle.maxjc_core.specs.Lines.{Cause}
 use Rattle.maxjc_core.specs.LoadStops.{IsRunFault, IsUnfitFor}
-use Rattle.maxjc_core.specs.Refusals.{IfCause, source_cause, run_file_cause}
+use Rattle.maxjc_core.specs.Projects.{MakesNoProject}
+use Rattle.maxjc_core.specs.Refusals.{IfCause, cause_told, source_cause, run_file_cause}
 use Rattle.maxjc_core.specs.RunCauses.{rule_cause, text_cause}
+use Rattle.maxjc_core.specs.Stops.{IfRefused}
+use Rattle.maxjc_core.specs.declared.stop.Stop.{Stop}
+use Rattle.maxjc_core.specs.declared.stop.Stop.TheVariants as stops
 
 -- a further property that it has
 pub if_cause_so : (o : Option Cause) (P Q : Cause → Type 0) → ((cause : Cause) → P cause → Q cause) → IfCause o P → IfCause o Q
@@ -40,15 +43,25 @@ pub of_cause : (o : Option Cause) (A : Type 0) → IfCause o (λ _. A) → A
 of_cause (Some cause) A a = a
 of_cause None A a = absurd a
 
+-- what is refused for causes of which something follows
+pub refused-so : (stop : Stop) (P Q : Cause → Type 0) → ((cause : Cause) → P cause → Q cause)
+    → IfRefused stop P → IfRefused stop Q
+refused-so (stops.Refused refusal) P Q f h = if_cause_so (cause_told refusal) P Q f h
+refused-so stops.ReadFault P Q f h = tt
+refused-so stops.NoMemory P Q f h = tt
+
+pub some-same : {a b : Cause} → Some a ≡ Some b → a ≡ b
+some-same e = cc
+
 -- a source that isn't read, but for want of memory, has its first fault
 pub of_source : (bytes table : List ℕ) (e : SourceError) → (e ≡ source_errors.NoMemory → ⊥)
-    → FailsToRead bytes e → IfCause (source_cause e) (IsOfProject bytes table)
-of_source bytes table (source_errors.StrayByte place) memory h = IsOfProject.fault (Fault.StrayByte place) h.first
-of_source bytes table (source_errors.NoToken place) memory h = IsOfProject.fault (Fault.NoToken place) h.first
-of_source bytes table (source_errors.Misplaced place) memory h = IsOfProject.fault (Fault.Misplaced place) h.first
-of_source bytes table (source_errors.Outside place) memory h = IsOfProject.fault (Fault.Outside place) h.first
-of_source bytes table (source_errors.Excess place) memory h = IsOfProject.fault (Fault.Excess place) h.first
-of_source bytes table source_errors.NoProject memory h = IsOfProject.fault Fault.NoProject h.first
+    → FailsToRead bytes e → IfCause (source_cause e) (MakesNoProject bytes table)
+of_source bytes table (source_errors.StrayByte place) memory h = MakesNoProject.fault (Fault.StrayByte place) h.first
+of_source bytes table (source_errors.NoToken place) memory h = MakesNoProject.fault (Fault.NoToken place) h.first
+of_source bytes table (source_errors.Misplaced place) memory h = MakesNoProject.fault (Fault.Misplaced place) h.first
+of_source bytes table (source_errors.Outside place) memory h = MakesNoProject.fault (Fault.Outside place) h.first
+of_source bytes table (source_errors.Excess place) memory h = MakesNoProject.fault (Fault.Excess place) h.first
+of_source bytes table source_errors.NoProject memory h = MakesNoProject.fault Fault.NoProject h.first
 of_source bytes table source_errors.NoMemory memory h = memory refl
 
 -- so has a text

@@ -5,7 +5,6 @@ use Rattle.std.proofs.Common.{
   zero,
   suc,
   ◌+◌,
-  ◌<◌,
   ◌≤◌,
   ◌^◌,
   false,
@@ -23,6 +22,7 @@ use Rattle.std.proofs.Common.{
   arith,
 }
 use Rattle.std.specs.Prelude.{slice_get}
+use Rattle.std.specs.List.{AllZip}
 use Rattle.std.proofs.lemmas.Bool.{cases_lt}
 use Rattle.rtl_ir.specs.Flat.{Families, after_flat}
 use Rattle.rtl_ir.specs.Parts.{own_of}
@@ -32,10 +32,11 @@ use Rattle.simulation.specs.Asked.{AreAsked}
 use Rattle.simulation.specs.Runs.{Setup, fault_at, IsRun, IsDoneAt, contents_after}
 use Rattle.simulation.specs.Ends.{End, Done, Limit, Stopped, Ends}
 use Rattle.simulation.specs.Ends as ends
-use Rattle.stream_graph.specs.declared.node.Node.{Node}
-use Rattle.stream_equations.specs.Equations.{GivenRun, Values}
-use Rattle.link_rtl.specs.Times.{reads_of}
-use Rattle.maxjc_core.specs.Finishing.{AllHaveWords}
+use Rattle.manager_links.specs.declared.hosts.HostPort.{HostPort}
+use Rattle.manager_links.specs.declared.project.Project.{Project}
+use Rattle.project_rtl.specs.Times.{reads_of}
+use Rattle.project_streams.specs.Streams.{GivenProject, ProjectValues}
+use Rattle.maxjc_core.specs.Finishing.{HasAllWords}
 use Rattle.maxjc_core.proofs.Freely.{AllFree, AllWait}
 use Rattle.maxjc_core.proofs.Moments.{
   IsUndoneAfter,
@@ -49,22 +50,26 @@ use Rattle.maxjc_core.proofs.Moments.{
 
 -- ---- the files
 
-pub none-behind : (nodes : List Node) (run : GivenRun) (val : Values) (files : List InputFile)
-    (ns : List ℕ) → AllHaveWords nodes run val files ns → (k : ℕ)
+pub none-behind : (project : Project) (given : GivenProject) (values : ProjectValues)
+    (files : List InputFile) (hosts : List HostPort)
+    → AllZip (HasAllWords project given values) files hosts → (k : ℕ)
     → option_and_then fault_behind (slice_get files k) ≡ None
-none-behind nodes run val [] [] h k = refl
-none-behind nodes run val [] (n ∷ ns) h k = absurd h
-none-behind nodes run val (file ∷ files) [] h k = absurd h
-none-behind nodes run val (file ∷ files) (n ∷ ns) h zero = h.0.readable
-none-behind nodes run val (file ∷ files) (n ∷ ns) h (suc k) = none-behind nodes run val files ns h.1 k
+none-behind project given values [] [] h k = refl
+none-behind project given values [] (host ∷ hosts) h k = absurd h
+none-behind project given values (file ∷ files) [] h k = absurd h
+none-behind project given values (file ∷ files) (host ∷ hosts) h zero = h.0.readable
+none-behind project given values (file ∷ files) (host ∷ hosts) h (suc k) =
+    none-behind project given values files hosts h.1 k
 
-pub all-wait : (nodes : List Node) (run : GivenRun) (val : Values) (files : List InputFile)
-    (ns : List ℕ) → AllHaveWords nodes run val files ns
-    → AllWait (map (reads_of nodes run val) ns) (map words_of files)
-all-wait nodes run val [] [] h = tt
-all-wait nodes run val [] (n ∷ ns) h = absurd h
-all-wait nodes run val (file ∷ files) [] h = absurd h
-all-wait nodes run val (file ∷ files) (n ∷ ns) h = (h.0.enough, all-wait nodes run val files ns h.1)
+pub all-wait : (project : Project) (given : GivenProject) (values : ProjectValues)
+    (files : List InputFile) (hosts : List HostPort)
+    → AllZip (HasAllWords project given values) files hosts
+    → AllWait (map (reads_of project given values) hosts) (map words_of files)
+all-wait project given values [] [] h = tt
+all-wait project given values [] (host ∷ hosts) h = absurd h
+all-wait project given values (file ∷ files) [] h = absurd h
+all-wait project given values (file ∷ files) (host ∷ hosts) h =
+    (h.0.enough, all-wait project given values files hosts h.1)
 
 -- ---- how a run ends
 
@@ -74,7 +79,6 @@ pub record IsReady (s : Setup) (most : ℕ) (reads : List ℕ) : Type 0 where
   pub pick : s.pick ≡ 0
   pub enough : most ≤ s.edges
   pub edges : s.edges ≤ 2 ^ 40
-  pub some : 0 < length s.outer.holds
   pub few : length s.outer.inputs + length s.outer.outputs + length s.outer.holds ≤ 2 ^ 32
   pub done : IsDoneIn s most reads
   pub counted : length reads ≤ length s.outer.inputs
@@ -95,7 +99,7 @@ module _ (stalls : Answers) (free : IsFreeAtZero stalls) (s : Setup) (most : ℕ
   run-free {vs = vs} run within =
       let events = event-count s.outer s.steady (map words_of s.inputs) run.events (own_of vs) run.driven.1 in
       asked-free stalls free 0 s.outer run.events
-      (omega (arith, events, own-count vs, within, ready.edges)) ready.some ready.few
+      (omega (arith, events, own-count vs, within, ready.edges)) ready.few
       (subst (λ (pick : ℕ). AreAsked stalls pick 0 s.outer run.events) ready.pick run.asked)
 
   not-undone : {restart : Families} {vs : List Families} → IsRun stalls s restart vs → (n : ℕ) → most ≤ n

@@ -1,23 +1,23 @@
--- A simulation of a text that `compile` wrote gives the words of its kernel.
+-- A simulation of a text that `compile` wrote gives the words of its project.
 use Rattle.std.proofs.Common.{
   ◌≡◌,
+  ◌∙◌,
   ℕ,
   suc,
-  unsigned_abs,
   List,
   [],
   ◌∷◌,
   map,
   length,
-  true,
   Ok,
   refl,
   sym,
   subst,
   ap,
-  ◌∙◌,
   arith,
 }
+use Rattle.std.specs.Prelude.{ℤ}
+use Rattle.std.specs.List.{AllZip}
 use Rattle.mx_base.specs.Files.{Name, Held}
 use Rattle.rtl_ir.specs.declared.design.Design.{Design}
 use Rattle.rtl_ir.specs.declared.design.Module.{Module}
@@ -25,15 +25,16 @@ use Rattle.rtl_ir.specs.Value.{Family}
 use Rattle.rtl_ir.specs.Flat.{Families}
 use Rattle.rtl_ir.specs.Parts.{own_of}
 use Rattle.rtl_ir.specs.Ports.{Shape, HasShape, outer_of}
-use Rattle.rtl_ir.specs.Run.{Channel, moved, IsDriven}
+use Rattle.rtl_ir.specs.Run.{Channel, Event, moved, IsDriven}
 use Rattle.rtl_ir.specs.Interfaces.{stream_shape}
-use Rattle.stream_graph.specs.declared.kernel.Kernel.{Kernel}
-use Rattle.stream_graph.specs.declared.node.Node.{Node}
-use Rattle.stream_equations.specs.Equations.{GivenRun, Values}
-use Rattle.kernel_control.specs.Ports.{port_shape, outputs_of}
-use Rattle.link_rtl.specs.Shapes.{shape_of}
-use Rattle.link_rtl.specs.Words.{AllAgree, RunsAsEquations}
-use Rattle.link_rtl.specs.Times.{RunsOnTime}
+use Rattle.rtl_reading.specs.Reads.{ReadsAs}
+use Rattle.manager_links.specs.declared.hosts.HostPort.{HostPort}
+use Rattle.manager_links.specs.declared.links.Links.{Links}
+use Rattle.manager_links.specs.declared.project.Project.{Project}
+use Rattle.project_rtl.specs.Shapes.{shape_of, host_shape}
+use Rattle.project_rtl.specs.Words.{steady_of, outer, AgreesWith, RunsAsEquations}
+use Rattle.project_rtl.specs.Times.{RunsOnTime}
+use Rattle.project_streams.specs.Streams.{GivenProject, ProjectValues}
 use Rattle.stall_source.specs.Stalls.{Answers}
 use Rattle.simulation.specs.declared.plan.Plan.{Plan}
 use Rattle.simulation.specs.Inputs.{words_of, input_files}
@@ -43,41 +44,42 @@ use Rattle.simulation.specs.Ends.{End, Ends}
 use Rattle.simulation.specs.Answers.{Finishes, end_of}
 use Rattle.simulation.specs.declared.stop.Outcome.{Outcome}
 use Rattle.top_ports.proofs.ShapeLists.{one_alone}
-use Rattle.kernel_calls.specs.Laws.{is_port_name}
 use Rattle.maxjc_core.specs.Command.{RunNames}
 use Rattle.maxjc_core.specs.Compiling.{Compiles}
+use Rattle.maxjc_core.specs.Finishing.{times_in}
 use Rattle.maxjc_core.specs.Loading.{IsLoaded, setup}
 use Rattle.maxjc_core.specs.LoadStops.{IsOnlyDesign}
-use Rattle.maxjc_core.specs.Writing.{AllHoldWords, WritesWords, WritesAllWords}
+use Rattle.maxjc_core.specs.Writing.{HoldsWords, IsRunOver, WritesWords, WritesAllWords}
+use Rattle.maxjc_core.proofs.Building.{names_plain}
 use Rattle.maxjc_core.proofs.OneShape.{fused}
-use Rattle.maxjc_core.proofs.Shapes.{kernel_top}
+use Rattle.maxjc_core.proofs.Shapes.{project_top}
 use Rattle.maxjc_core.proofs.RunExclusion.{same_file}
 use Rattle.maxjc_core.proofs.RunEnding.{IsMade, IsSimulated, told_loaded, of_loaded}
 
 -- ---- the output files
 
-abbrev widths : List (Name × ℕ) → List ℕ
-widths files = map (λ (file : Name × ℕ). file.1) files
-
--- as many files as outputs hold what moved over as many channels
-all_written : (nodes : List Node) (run : GivenRun) (val : Values) (vs : List Family) (now : Held)
-    (chs : List Channel) (files : List (Name × ℕ)) (ns : List ℕ)
-    → AllAgree nodes run val chs ns vs → AreWritten now vs chs files → length files ≡ length ns
-    → AllHoldWords nodes run val now files ns
-all_written nodes run val vs now [] [] [] agree written count = tt
-all_written nodes run val vs now (ch ∷ chs) (file ∷ files) (n ∷ ns) agree written count = (
+-- as many files as streams to the host hold what moved over as many channels
+all_written : (project : Project) (given : GivenProject) (values : ProjectValues)
+    (vs : List Family) (now : Held) (chs : List Channel) (files : List (Name × ℕ))
+    (hosts : List HostPort) → AllZip (AgreesWith project given values vs) chs hosts
+    → AreWritten now vs chs files → length files ≡ length hosts
+    → AllZip (HoldsWords project given values now) files hosts
+all_written project given values vs now [] [] [] agree written count = tt
+all_written project given values vs now (ch ∷ chs) (file ∷ files) (host ∷ hosts) agree written count = (
   record {
     left = moved ch vs;
     agrees = agree.0;
     written = written 0 ch file refl refl;
   },
-  all_written nodes run val vs now chs files ns agree.1
+  all_written project given values vs now chs files hosts agree.1
       (λ k c o at here. written (suc k) c o at here) (omega (arith, count)),
 )
-all_written nodes run val vs now [] (file ∷ files) [] agree written count = absurd (omega (arith, count))
-all_written nodes run val vs now [] files (n ∷ ns) agree written count = absurd agree
-all_written nodes run val vs now (ch ∷ chs) files [] agree written count = absurd agree
-all_written nodes run val vs now (ch ∷ chs) [] (n ∷ ns) agree written count = absurd (omega (arith, count))
+all_written project given values vs now [] (file ∷ files) [] agree written count =
+    absurd (omega (arith, count))
+all_written project given values vs now [] files (host ∷ hosts) agree written count = absurd agree
+all_written project given values vs now (ch ∷ chs) files [] agree written count = absurd agree
+all_written project given values vs now (ch ∷ chs) [] (host ∷ hosts) agree written count =
+    absurd (omega (arith, count))
 
 same_length : {A B C : Type 0} (f : A → C) (g : B → C) (xs : List A) (ys : List B)
     → map f xs ≡ map g ys → length xs ≡ length ys
@@ -98,72 +100,90 @@ run_of stalls l restart vs end (Ends.stopped fault run few is stops) = run
 
 -- ---- the design that is run
 
--- what is run is the design that was written, with the ports of its kernel, at these times
-pub record IsRunOf (kernel : Kernel) (times : ℕ → ℕ) {names : RunNames} {before : Held}
-    (l : IsLoaded names before) : Type 0
+-- what is run is the design that was written, with the ports of its project, at these times and with
+-- these links
+pub record IsRunOf (project : Project) (times : List (List ℤ)) (made : Links) {names : RunNames}
+    {before : Held} (l : IsLoaded names before) : Type 0
   where
-    pub shape : l.fit.is.shape ≡ shape_of kernel
-    pub runs : RunsAsEquations kernel l.fit.design l.fit.is.top
-    pub on_time : RunsOnTime kernel l.fit.design l.fit.is.top times
+    pub shape : l.fit.is.shape ≡ shape_of project
+    pub runs : RunsAsEquations project l.fit.design l.fit.is.top
+    pub on_time : RunsOnTime project l.fit.design l.fit.is.top times made
 
 pub run_is : (source table report line : List ℕ) {names : RunNames} {before : Held}
     (l : IsLoaded names before) (d : Design) → IsOnlyDesign l.files.text d
     → (c : Compiles source table l.files.text report line)
-    → IsRunOf c.kernel (λ n. unsigned_abs (c.text_of.needs.times n)) l
+    → IsRunOf c.project (times_in c) c.made.links l
 run_is source table report line l d only c =
     let t = c.text_of in
-    let times : ℕ → ℕ = λ n. unsigned_abs (t.needs.times n) in
+    let project = c.project in
+    let times = times_in c in
+    let links = c.made.links in
     let same : t.design ≡ l.fit.design =
-    only t.design t.printed.reads ∙ sym (only l.fit.design l.fit.is.reads) in
+    only t.design (subst (λ (text : List ℕ). ReadsAs text t.design) (sym c.text_is) t.printed.reads)
+    ∙ sym (only l.fit.design l.fit.is.reads) in
     let top = t.is.is_top in
     let read = l.fit.is.is_top in
     let tops : t.is.top ≡ l.fit.is.top = cc in
-    let plain = subst (λ n. is_port_name n ≡ true) (sym c.named) c.is.name in
-    let shapes : shape_of c.kernel ≡ l.fit.is.shape =
-    one_alone l.fit.is.top (shape_of c.kernel) l.fit.is.shape
+    let shapes : shape_of project ≡ l.fit.is.shape =
+    one_alone l.fit.is.top (shape_of project) l.fit.is.shape
     (record {
-      is = kernel_top c.kernel plain;
-      has = subst (λ (m : Module). HasShape m (shape_of c.kernel)) tops t.is.shape;
+      is = project_top project (names_plain source table project c.latencies c.is);
+      has = subst (λ (m : Module). HasShape m (shape_of project)) tops t.is.shape;
     }) l.fit.is.is_run in
     record {
       shape = sym shapes;
       runs =
-          subst (λ (m : Module). RunsAsEquations c.kernel l.fit.design m) tops
-          (subst (λ (x : Design). RunsAsEquations c.kernel x t.is.top) same t.is.runs);
+          subst (λ (m : Module). RunsAsEquations project l.fit.design m) tops
+          (subst (λ (x : Design). RunsAsEquations project x t.is.top) same t.is.runs);
       on_time =
-          subst (λ (m : Module). RunsOnTime c.kernel l.fit.design m times) tops
-          (subst (λ (x : Design). RunsOnTime c.kernel x t.is.top times) same t.is.on_time);
+          subst (λ (m : Module). RunsOnTime project l.fit.design m times links) tops
+          (subst (λ (x : Design). RunsOnTime project x t.is.top times links) same t.is.on_time);
     }
 
-output_count : (kernel : Kernel) {names : RunNames} {before : Held} (l : IsLoaded names before)
-    → l.fit.is.shape ≡ shape_of kernel
-    → length l.fit.plan.outputs ≡ length (outputs_of kernel.nodes)
-output_count kernel l shape =
+-- a run that is driven by what was loaded is driven by what is given to the project's run
+pub driven_over : (project : Project) {names : RunNames} {before : Held} (l : IsLoaded names before)
+    (given : GivenProject) (values : ProjectValues) → l.fit.is.shape ≡ shape_of project
+    → IsRunOver project l given values → (events : List Event) (vs : List Family)
+    → IsDriven (setup l).outer (setup l).steady
+    (map words_of (input_files before l.fit.plan.inputs)) events vs
+    → IsDriven (outer project l.fit.is.top) (steady_of project given) given.words events vs
+driven_over project {before = before} l given values shape over events vs driven =
+    let top = l.fit.is.top in
+    let words = map words_of (input_files before l.fit.plan.inputs) in
+    subst (λ (ws : List (List ℕ)). IsDriven (outer project top) (steady_of project given) ws events vs)
+    (sym over.words)
+    (subst (λ (xs : List ℕ). IsDriven (outer project top) xs words events vs) over.steady
+    (subst (λ (s : Shape). IsDriven (outer_of s top) (setup l).steady words events vs) shape driven))
+
+output_count : (project : Project) {names : RunNames} {before : Held} (l : IsLoaded names before)
+    → l.fit.is.shape ≡ shape_of project
+    → length l.fit.plan.outputs ≡ length project.joints.outputs
+output_count project l shape =
     let widths = l.fit.planned.output_widths
     ∙ fused stream_shape (λ (y : Name × ℕ). y.1) l.fit.ports.outputs
     ∙ ap (λ (s : Shape). map (λ (y : Name × ℕ). y.1) s.outputs) (l.fit.are ∙ shape)
-    ∙ sym (fused (port_shape kernel.nodes) (λ (y : Name × ℕ). y.1) (outputs_of kernel.nodes)) in
-    same_length (λ (o : Name × ℕ). o.1) (λ n. (port_shape kernel.nodes n).1) l.fit.plan.outputs
-    (outputs_of kernel.nodes) widths
+    ∙ sym (fused host_shape (λ (y : Name × ℕ). y.1) project.joints.outputs) in
+    same_length (λ (o : Name × ℕ). o.1) (λ (host : HostPort). (host_shape host).1) l.fit.plan.outputs
+    project.joints.outputs widths
 
 pub words_written :
     (stalls : Answers) (source table report line : List ℕ) {names : RunNames} {before : Held}
     (l : IsLoaded names before) (d : Design) → IsOnlyDesign l.files.text d
     → (c : Compiles source table l.files.text report line) (now : Held) (end : End)
     → Finishes stalls (setup l) l.fit.plan.outputs now end
-    → WritesWords c.kernel l now
-words_written stalls source table report line {names} {before} l d only c now end finishes = λ run val few steady sources equations guarded.
+    → WritesWords c.project l now
+words_written stalls source table report line {names} {before} l d only c now end finishes = λ given values over.
+    let project = c.project in
     let of = run_is source table report line l d only c in
     let made = run_of stalls l finishes.restart finishes.vs end finishes.ends in
     let top = l.fit.is.top in
     let vs = finishes.restart ∷ finishes.vs in
-    let words = map words_of (input_files before l.fit.plan.inputs) in
-    let driven = subst (λ (s : Shape). IsDriven (outer_of s top) (setup l).steady words made.events (own_of vs)) of.shape made.driven in
-    let steadily = subst (λ (xs : List ℕ). IsDriven (outer_of (shape_of c.kernel) top) xs words made.events (own_of vs)) steady driven in
-    let agree = of.runs run val words made.events (setup l).contents vs few equations guarded sources made.edges steadily in
+    let agree = of.runs given values made.events (setup l).contents vs over.short over.equations
+    over.guarded made.edges
+    (driven_over project l given values of.shape over made.events (own_of vs) made.driven) in
     let written = subst (λ (s : Shape). AreWritten now (own_of vs) (outer_of s top).outputs l.fit.plan.outputs) of.shape finishes.written in
-    all_written c.kernel.nodes run val (own_of vs) now (outer_of (shape_of c.kernel) top).outputs
-    l.fit.plan.outputs (outputs_of c.kernel.nodes) agree written (output_count c.kernel l of.shape)
+    all_written project given values (own_of vs) now (outer project top).outputs l.fit.plan.outputs
+    project.joints.outputs agree written (output_count project l of.shape)
 
 -- what the run that was made wrote
 pub words_so : {names : RunNames} {stalls : Answers} {held now : Held} {d : Design} {p : Plan}

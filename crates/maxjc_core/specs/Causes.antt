@@ -1,20 +1,21 @@
 -- Why `compile` refuses a project, by what its files hold.
-use Rattle.std.specs.Prelude.{ℕ, ◌≡◌, ◌⊎◌, ◌≤◌, ◌<◌, ◌^◌, false, List, length, Ok, Err}
+use Rattle.std.specs.Prelude.{◌≡◌, ◌⊎◌, ◌≤◌, ◌<◌, ℕ, All, List, length, Option, Some, None, slice_get}
+use Rattle.std.specs.Option.{option_map}
 use Rattle.mx_base.specs.Files.{Held, Holds, Lacks}
-use Rattle.maxj_syntax.specs.Source.{IsSourceOf, Fault, HasFirst}
-use Rattle.maxj_syntax.specs.Tree.{ClassTree}
-use Rattle.latency_table.specs.declared.error.TableError.{TableError}
-use Rattle.latency_table.specs.declared.error.TableError.TheVariants as table_errors
 use Rattle.latency_table.specs.declared.table.Table.{Table}
-use Rattle.latency_table.specs.Tables.{Reads}
-use Rattle.stream_graph.specs.declared.node.Node.{Node}
-use Rattle.kernel_schedule.specs.Schedules.{IsSchedulable}
-use Rattle.kernel_verilog.specs.declared.error.TextError.{TextError}
-use Rattle.kernel_verilog.specs.Bits.{NeedsBits}
-use Rattle.kernel_verilog.specs.Refused.{is_memory, IsRefused}
+use Rattle.stream_graph.specs.declared.kernel.Kernel.{Kernel}
+use Rattle.kernel_schedule.specs.declared.schedule.Schedule.{Schedule}
+use Rattle.manager_links.specs.declared.links.Links.{Links}
+use Rattle.manager_links.specs.declared.project.Project.{Project}
+use Rattle.manager_links.specs.Links.{AreLinksOf, IsWithinLimit}
+use Rattle.project_netlists.specs.declared.error.NetlistsError.{NetlistsError}
+use Rattle.project_netlists.specs.declared.error.NetlistsError.TheVariants as netlists_errors
+use Rattle.project_netlists.specs.Laws.{HasCause}
+use Rattle.project_netlists.specs.Refused.{FitsBits}
+use Rattle.project_netlists.specs.Scheduled.{HasSchedule, AreBestSchedules, all_times}
 use Rattle.maxjc_core.specs.Command.{Name, Names}
-use Rattle.maxjc_core.specs.Kernels.{IsAlone, IsKernel, LacksKernel}
-use Rattle.maxjc_core.specs.Lines.{Cause, TooLarge, SourceFault, TableFault, NoText, NotBuilt}
+use Rattle.maxjc_core.specs.Lines.{Cause, TooLarge, NoSchedule, TooManyBits, LinkTooDeep}
+use Rattle.maxjc_core.specs.Projects.{IsProjectOf, MakesNoProject}
 
 -- the most bytes of a file that is read whole: 2 ^ 24
 abbrev pub file_limit : ℕ
@@ -31,67 +32,59 @@ pub record IsPast (limit : ℕ) (held : Held) (name : Name) : Type 0 where
   pub holds : Holds held name bytes
   pub past : limit < length bytes
 
--- The bytes of a source that is the class of one kernel, and of a latency table.
-pub record OneKernel (source table : List ℕ) : Type 0 where
-  pub classes : List ClassTree
-  pub is : IsSourceOf source classes
-  pub kernel : ClassTree
-  pub alone : IsAlone classes kernel
-  pub latencies : Table
-  pub reads : Reads table (Ok latencies)
+-- ---- projects that have no text
 
--- the bytes are a source with a manager: its classes aren't that of one kernel alone
-pub record HasManager (source : List ℕ) : Type 0 where
-  pub classes : List ClassTree
-  pub is : IsSourceOf source classes
-  pub not_alone : (kernel : ClassTree) → IsAlone classes kernel → ⊥
+-- the cause that an error of the modules of these kernels and of their links is. Want of memory is
+-- none
+abbrev pub netlists_cause : List Kernel → NetlistsError → Option Cause
+netlists_cause kernels (netlists_errors.Schedule number error) =
+    option_map (λ (kernel : Kernel). NoSchedule kernel.name error) (slice_get kernels number)
+netlists_cause kernels (netlists_errors.TooManyBits number bits) =
+    option_map (λ (kernel : Kernel). TooManyBits kernel.name bits) (slice_get kernels number)
+netlists_cause kernels (netlists_errors.LinkTooDeep number words) =
+    Some (LinkTooDeep number words)
+netlists_cause kernels netlists_errors.NoMemory = None
 
--- the bytes are a source without one, and those of the table have this fault
-pub record HasTableFault (source table : List ℕ) (error : TableError) : Type 0 where
-  pub classes : List ClassTree
-  pub is : IsSourceOf source classes
-  pub kernel : ClassTree
-  pub alone : IsAlone classes kernel
-  pub fault : error ≡ table_errors.NoMemory → ⊥
-  pub reads : Reads table (Err error)
+-- the cause for which a project has no text, by a table of latencies
+pub record LacksText (table : Table) (project : Project) (cause : Cause) : Type 0 where
+  pub error : NetlistsError
+  pub has : HasCause table project error
+  pub is : netlists_cause project.kernels error ≡ Some cause
 
--- the kernel of a project, and why it has no text
-pub record LacksText {source table : List ℕ} (p : OneKernel source table) (error : TextError) : Type 0 where
-  pub nodes : List Node
-  pub is : IsKernel p.kernel nodes
-  pub fault : is_memory error ≡ false
-  pub refused : IsRefused p.latencies nodes error
+-- A project has a text by a table of latencies where each kernel has a legal schedule, each has one
+-- whose FIFOs hold at most 2^28 bits, and no link is too deep at the times of the least schedules.
+pub record HasText (table : Table) (project : Project) : Type 0 where
+  pub scheduled : All (HasSchedule table) project.kernels
+  pub fit : All (FitsBits table) project.kernels
+  pub shallow :
+      (schedules : List Schedule) (links : Links)
+      → AreBestSchedules table project.kernels schedules
+      → AreLinksOf project (all_times schedules) links
+      → All IsWithinLimit links.links
 
--- the kernel of a project has a legal schedule, and FIFOs that need at most 2^28 bits
-pub record HasText {source table : List ℕ} (p : OneKernel source table) : Type 0 where
-  pub nodes : List Node
-  pub is : IsKernel p.kernel nodes
-  pub schedulable : IsSchedulable p.latencies nodes
-  pub bits : ℕ
-  pub needs : NeedsBits p.latencies nodes bits
-  pub few : bits ≤ 2 ^ 28
+-- ---- the bytes of a source and of a table
 
--- The cause for which the bytes of a source and of a table make no kernel, the first that stands: a fault of the source, a
--- manager, a fault of the table, or why the class has no kernel.
-pub data IsOfProject (source table : List ℕ) : Cause → Type 0 where
-  fault : (fault : Fault) → HasFirst source fault → IsOfProject source table (SourceFault fault)
-  manager : HasManager source → IsOfProject source table NotBuilt
-  table_fault :
-      (error : TableError)
-      → HasTableFault source table error
-      → IsOfProject source table (TableFault error)
-  lacks_kernel :
-      (p : OneKernel source table) (cause : Cause)
-      → LacksKernel p.kernel cause
-      → IsOfProject source table cause
-
--- The cause for which they are not compiled, the first that stands: why they make no kernel, or why the kernel has no text.
+-- The cause for which they are not compiled, the first that stands: why they make no project, or why
+-- the project has no text.
 pub data IsOfFiles (source table : List ℕ) : Cause → Type 0 where
-  of_project : (cause : Cause) → IsOfProject source table cause → IsOfFiles source table cause
+  makes_none :
+      (cause : Cause)
+      → MakesNoProject source table cause
+      → IsOfFiles source table cause
   lacks_text :
-      (p : OneKernel source table) (error : TextError)
-      → LacksText p error
-      → IsOfFiles source table (NoText p.kernel.name error)
+      (project : Project) (latencies : Table) (cause : Cause)
+      → IsProjectOf source table project latencies
+      → LacksText latencies project cause
+      → IsOfFiles source table cause
+
+-- the project of the bytes has a text
+pub record CanBeBuilt (source table : List ℕ) : Type 0 where
+  pub project : Project
+  pub latencies : Table
+  pub is : IsProjectOf source table project latencies
+  pub has : HasText latencies project
+
+-- ---- the files
 
 -- the table is read after a source within the limit, and the source is looked at after both
 pub record IsReadable (source_name table_name : Name) (held : Held) : Type 0 where
@@ -125,8 +118,7 @@ pub data Stands (names : Names) (held : Held) : Cause → Type 0 where
       → IsOfFiles files.source files.table cause
       → Stands names held cause
 
--- a project that is compiled: its files are held and within the limit, and its kernel has a text
+-- a project that is compiled: its files are held and within the limit, and it has a text
 pub record IsBuilt (names : Names) (held : Held) : Type 0 where
   pub files : IsReadable names.source names.table held
-  pub project : OneKernel files.source files.table
-  pub has : HasText project
+  pub can : CanBeBuilt files.source files.table

@@ -25,7 +25,8 @@ pub record IsCheckRefused (names : CheckNames) (held : Held) (said_before said_n
 
 -- The outside before and after `check` with these files, and the status that it answers.
 pub record EndsCheck (names : CheckNames) (before after : Outside) (status : Status) : Type 0 where
-  -- `Done`: the report's one part is shown for the kernel that the source is, so that its bits are the fewest, and they are said
+  -- `Done`: the report's parts are shown for the kernels that the source builds, so that their bits are the fewest, and they
+  -- are said
   pub done : status ≡ Done → IsSome before.held → IsCheckDone names before.held before.said after.said
   -- `Refused` comes exactly where a cause stands, and `Done` where none does, unless a call fails or memory is short
   pub refused : status ≡ Refused → IsCheckRefused names before.held before.said after.said

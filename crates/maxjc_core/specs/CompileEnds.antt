@@ -13,8 +13,8 @@ use Rattle.maxjc_core.specs.declared.status.Status.TheVariants.{Done, Refused, R
 
 -- The outside before and after `compile` with these files, and the status that it answers.
 pub record EndsCompile (names : Names) (before after : Outside) (status : Status) : Type 0 where
-  -- `Done`: the output holds a text of a design of the kernel that the source is, the report's file holds a report on its
-  -- schedule, and the summary is what was said
+  -- `Done`: the output holds a text of a design of the project that the source builds, the report's file holds a report on
+  -- the schedules of its kernels, and the summary is what was said
   pub done : status ≡ Done → IsSome before.held → IsDone names before.held after.held before.said after.said
   -- `Refused` comes exactly where a cause stands, and `Done` where none does, unless a call fails or memory is short
   pub refused : status ≡ Refused → IsRefused names before.held before.said after.said

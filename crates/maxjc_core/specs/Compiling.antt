@@ -1,33 +1,45 @@
 -- What `compile` makes of a source.
-use Rattle.std.specs.Prelude.{ℕ, ◌≡◌, ◌<◌, List, ◌++◌, length, codes}
+use Rattle.std.specs.Prelude.{◌≡◌, ℕ, ◌+◌, List, [], ◌∷◌, ◌++◌, codes}
 use Rattle.std.specs.Fmt.{decimal}
-use Rattle.cycle_find.specs.Constraints.{numbers_of}
-use Rattle.stream_graph.specs.declared.kernel.Kernel.{Kernel}
-use Rattle.offset_edges.specs.Edges.{edges_of}
-use Rattle.kernel_schedule.specs.Beginning.{BeginsAtZero}
-use Rattle.kernel_report.specs.Judging.{IsLeastOf}
-use Rattle.kernel_verilog.specs.Texts.{IsTextOf}
-use Rattle.maxjc_core.specs.Causes.{OneKernel}
-use Rattle.maxjc_core.specs.Kernels.{IsKernel}
+use Rattle.std.specs.List.{flat_map}
+use Rattle.latency_table.specs.declared.table.Table.{Table}
+use Rattle.manager_links.specs.declared.links.Link.{Link}
+use Rattle.manager_links.specs.declared.project.Project.{Project}
+use Rattle.project_verilog.specs.declared.writing.ProjectText.{ProjectText}
+use Rattle.project_verilog.specs.Texts.{IsTextOf}
+use Rattle.schedule_report.specs.declared.report.ReportKernel.{ReportKernel}
+use Rattle.maxjc_core.specs.Projects.{IsProjectOf}
 use Rattle.maxjc_core.specs.Showing.{ShowsLeast}
 
--- the summary: `kernel NAME fifo B`
-abbrev pub summary_of : List ℕ → ℕ → List ℕ
-summary_of name bits = codes "kernel " ++ name ++ codes " fifo " ++ decimal bits ++ codes "\n"
+-- `kernel NAME fifo B`
+abbrev pub fifo_line : ReportKernel → List ℕ
+fifo_line part = codes "kernel " ++ part.name ++ codes " fifo " ++ decimal part.bits ++ codes "\n"
 
--- The bytes of a source and of a latency table, the text and the report made of them, and the line said: the kernel is the one
--- that the building run of the source makes. The report has one part, which is shown: it has the kernel's name and counts, its
--- times are a legal schedule whose FIFOs hold the part's bits, and no legal schedule has FIFOs of fewer. The times begin at 0.
--- The text is one of a design that runs as this kernel's stream equations, at these times and with FIFOs of these bits, and the
--- line says the bits.
+-- `link I depth D`
+abbrev pub link_line : ℕ → Link → List ℕ
+link_line number link =
+    codes "link " ++ decimal number ++ codes " depth " ++ decimal link.depth ++ codes "\n"
+
+-- of these links, which are numbered from this number on
+abbrev pub link_lines : ℕ → List Link → List ℕ
+link_lines number [] = []
+link_lines number (link ∷ links) = link_line number link ++ link_lines (number + 1) links
+
+-- the summary: a line for each kernel, by what the report says of it, and then one for each link
+abbrev pub summary_of : List ReportKernel → List Link → List ℕ
+summary_of parts links = flat_map fifo_line parts ++ link_lines 0 links
+
+-- The bytes of a source and of a latency table, the text and the report made of them, and the line
+-- said: the project is the one that the source builds. The report has a part for each kernel, and
+-- shows that no legal schedule of it has FIFOs of fewer bits than the part says. The text is one of a
+-- design that runs as the stream equations of the project, at the times of these schedules, with
+-- FIFOs of these bits and links of their depths at these times; and the summary says bits and depths.
 pub record Compiles (source table text report line : List ℕ) : Type 0 where
-  pub project : OneKernel source table
-  pub kernel : Kernel
-  pub is : IsKernel project.kernel kernel.nodes
-  pub named : kernel.name ≡ project.kernel.name
-  pub shows : ShowsLeast project.latencies kernel report
-  pub least : IsLeastOf project.latencies kernel shows.part
-  pub begins : BeginsAtZero (edges_of kernel.nodes) (length kernel.nodes) (numbers_of shows.part.times)
-  pub text_of : IsTextOf project.latencies kernel text shows.part.bits
-  pub times : (v : ℕ) → v < length kernel.nodes → numbers_of shows.part.times v ≡ text_of.needs.times v
-  pub summary : line ≡ summary_of kernel.name shows.part.bits
+  pub project : Project
+  pub latencies : Table
+  pub is : IsProjectOf source table project latencies
+  pub made : ProjectText
+  pub text_is : text ≡ made.text.items
+  pub text_of : IsTextOf latencies project made
+  pub shows : ShowsLeast latencies project.kernels report made.parts
+  pub summary : line ≡ summary_of made.parts made.links.links

@@ -1,7 +1,7 @@
 pub mod Command
 pub mod Outside
-pub mod Kernels
 pub mod Lines
+pub mod Projects
 pub mod Causes
 pub mod Showing
 pub mod Compiling

@@ -1,36 +1,33 @@
 -- Why a command refuses its files, and the line that is said.
-use Rattle.std.specs.Prelude.{ℕ, ℤ, List, [], ◌∷◌, Option, Some, None, codes}
-use Rattle.std.specs.Fmt.{decimal, signed_decimal}
+use Rattle.std.specs.Prelude.{ℕ, List, [], ◌∷◌, Option, Some, None, codes}
+use Rattle.std.specs.Fmt.{decimal}
 use Rattle.refusal_line.specs.Lines.{refused}
 use Rattle.maxj_syntax.specs.Source.{Fault}
 use Rattle.maxj_syntax.specs.Lines.{fault_line}
-use Rattle.kernel_meaning.specs.declared.error.EvalError.{EvalError}
-use Rattle.kernel_eval.specs.Lines.{refusal_of}
-use Rattle.stream_graph.specs.declared.error.GraphError.{GraphError}
-use Rattle.stream_graph.specs.Lines.{fault_line as rule_fault_line}
 use Rattle.latency_table.specs.declared.error.TableError.{TableError}
 use Rattle.latency_table.specs.Refused.{said as table_fault_line}
-use Rattle.offset_edges.specs.declared.error.EdgeError.{EdgeError}
-use Rattle.offset_edges.specs.Refused.{said as edge_fault_line}
-use Rattle.kernel_verilog.specs.declared.error.TextError.{TextError}
-use Rattle.kernel_verilog.specs.Refused.{said as text_fault_line}
+use Rattle.kernel_schedule.specs.declared.error.ScheduleError.{ScheduleError}
+use Rattle.kernel_schedule.specs.Refused.{said as schedule_fault_line}
+use Rattle.kernel_netlist.specs.declared.error.NetlistError.TheVariants as netlist_errors
+use Rattle.kernel_netlist.specs.Refused.{said as netlist_fault_line}
+use Rattle.manager_links.specs.declared.error.LinkError.TheVariants as link_errors
+use Rattle.manager_links.specs.Refused.{said as link_fault_line}
+use Rattle.project_build.specs.declared.error.ProjectError.{ProjectError}
+use Rattle.project_build.specs.Lines.{said as project_fault_line}
+use Rattle.project_check.specs.declared.error.CheckError.{CheckError}
+use Rattle.project_check.specs.Refused.{said as report_fault_line}
 use Rattle.rtl_check.specs.Lines.{rule_line}
 use Rattle.maxjc_core.specs.Command.{Name}
 
 pub data Cause : Type 0 where
   TooLarge : Name → Cause  -- F1: this file has more bytes than its limit
   SourceFault : Fault → Cause  -- S1 to S6: this is the first fault of the source
-  RunRefused : EvalError → Cause  -- E1 to E15: the building run of the kernel is refused so
-  NoKernel : Name → GraphError → Cause  -- G1 to G4 and G6: what the run of this kernel makes breaks a rule
   TableFault : TableError → Cause  -- T1 to T3: this is the first fault of the latency table
-  NoText : Name → TextError → Cause  -- L1, C1, C2 and B1: this kernel has no schedule by the latency table, or FIFOs of too many bits
-  NotBuilt : Cause  -- N0: the source has a manager
-  NoProblem : Name → EdgeError → Cause  -- L1 and C1: the latency table lacks a latency for this kernel, or the kernel isn't causal
-  NoReport : ℕ → Cause  -- Q1: this line of the report is the first that no report has after those before it
-  OtherReport : ℕ → Cause  -- Q2: this line of the report is the first that is none of a report on the source's kernel alone
-  BrokenArc : Name → ℕ → Cause  -- Q3: this arc is the first that the report's times break, of this kernel
-  Unbalanced : Name → ℕ → Cause  -- Q4: this node is the first at which the report's flow is none, of this kernel
-  CostsDiffer : Name → ℤ → ℤ → Cause  -- Q5: of this kernel the report's times cost the first number, and its flow is worth the second one
+  NoProject : ProjectError → Cause  -- E1 to E15, G1 to G4 and G6, P1 to P5 and P7 to P9: why the source builds no project
+  NoSchedule : Name → ScheduleError → Cause  -- L1, C1 and C2: why this kernel has no schedule by the latency table
+  TooManyBits : Name → ℕ → Cause  -- B1: the FIFOs of this kernel need so many bits
+  LinkTooDeep : ℕ → ℕ → Cause  -- P6: the link of this number would hold so many words
+  NotChecked : CheckError → Cause  -- L1, C1 and Q1 to Q5: why the report shows no least schedules of the project's kernels
   NoToken : ℕ → Cause  -- V1: no token begins at this place of the text
   Syntax : ℕ → Cause  -- V2: the token at this place of the text is the first that no text has after those before it
   Rule : ℕ → List Name → Cause  -- V3: the rule of this number is broken by these names
@@ -50,17 +47,14 @@ line_or_none (Some line) = line
 abbrev pub line_of : Cause → List ℕ
 line_of (TooLarge name) = refused (codes "F1") (name ∷ [])
 line_of (SourceFault fault) = fault_line fault
-line_of (RunRefused error) = line_or_none (refusal_of error)
-line_of (NoKernel name error) = line_or_none (rule_fault_line name error)
 line_of (TableFault error) = line_or_none (table_fault_line error)
-line_of (NoText name error) = line_or_none (text_fault_line name error)
-line_of NotBuilt = refused (codes "N0") []
-line_of (NoProblem name error) = line_or_none (edge_fault_line name error)
-line_of (NoReport line) = refused (codes "Q1") (decimal line ∷ [])
-line_of (OtherReport line) = refused (codes "Q2") (decimal line ∷ [])
-line_of (BrokenArc name arc) = refused (codes "Q3") (name ∷ decimal arc ∷ [])
-line_of (Unbalanced name node) = refused (codes "Q4") (name ∷ decimal node ∷ [])
-line_of (CostsDiffer name cost value) = refused (codes "Q5") (name ∷ signed_decimal cost ∷ signed_decimal value ∷ [])
+line_of (NoProject error) = line_or_none (project_fault_line error)
+line_of (NoSchedule kernel error) = line_or_none (schedule_fault_line kernel error)
+line_of (TooManyBits kernel bits) =
+    line_or_none (netlist_fault_line kernel (netlist_errors.TooManyBits bits))
+line_of (LinkTooDeep link words) =
+    line_or_none (link_fault_line (link_errors.LinkTooDeep link words))
+line_of (NotChecked error) = line_or_none (report_fault_line error)
 line_of (NoToken place) = refused (codes "V1") (decimal place ∷ [])
 line_of (Syntax place) = refused (codes "V2") (decimal place ∷ [])
 line_of (Rule number names) = rule_line number names

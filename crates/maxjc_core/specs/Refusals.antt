@@ -1,5 +1,5 @@
 -- The cause that a refusal of the code names. Want of memory and a call that failed are none.
-use Rattle.std.specs.Prelude.{ℕ, List, Option, Some, None, if◌then◌else◌}
+use Rattle.std.specs.Prelude.{Option, Some, None}
 use Rattle.maxj_syntax.specs.Source.{Fault}
 use Rattle.maxj_syntax.specs.declared.source.SourceError.{SourceError}
 use Rattle.maxj_syntax.specs.declared.source.SourceError.TheVariants as source_errors
@@ -7,31 +7,22 @@ use Rattle.word_files.specs.declared.error.RunFileError.{RunFileError}
 use Rattle.word_files.specs.declared.error.RunFileError.TheVariants as run_errors
 use Rattle.simulation.specs.declared.stop.Stop.{Stop}
 use Rattle.simulation.specs.declared.stop.Stop.TheVariants as stops
-use Rattle.kernel_meaning.specs.declared.error.EvalError.{EvalError}
-use Rattle.kernel_meaning.specs.declared.error.EvalError.TheVariants as eval_errors
-use Rattle.stream_graph.specs.declared.error.GraphError.{GraphError}
-use Rattle.stream_graph.specs.declared.error.GraphError.TheVariants as graph_errors
 use Rattle.latency_table.specs.declared.error.TableError.{TableError}
 use Rattle.latency_table.specs.declared.error.TableError.TheVariants as table_errors
-use Rattle.offset_edges.specs.declared.error.EdgeError.{EdgeError}
-use Rattle.offset_edges.specs.declared.error.EdgeError.TheVariants as edge_errors
-use Rattle.kernel_verilog.specs.declared.error.TextError.{TextError}
-use Rattle.kernel_verilog.specs.Refused.{is_memory}
+use Rattle.project_build.specs.declared.error.ProjectError.{ProjectError}
+use Rattle.project_build.specs.declared.error.ProjectError.TheVariants as project_errors
+use Rattle.project_check.specs.declared.error.CheckError.{CheckError}
+use Rattle.project_check.specs.declared.error.CheckError.TheVariants as check_errors
 use Rattle.maxjc_core.specs.Lines.{
   Cause,
   TooLarge,
   SourceFault,
-  RunRefused,
-  NoKernel,
   TableFault,
-  NoText,
-  NotBuilt,
-  NoProblem,
-  NoReport,
-  OtherReport,
-  BrokenArc,
-  Unbalanced,
-  CostsDiffer,
+  NoProject,
+  NoSchedule,
+  TooManyBits,
+  LinkTooDeep,
+  NotChecked,
   TooManyCells,
   NotJson,
   RunShape,
@@ -39,8 +30,6 @@ use Rattle.maxjc_core.specs.Lines.{
   WordRange,
 }
 use Rattle.maxjc_core.specs.RunCauses.{text_cause}
-use Rattle.maxjc_core.specs.declared.report_fault.ReportFault.{ReportFault}
-use Rattle.maxjc_core.specs.declared.report_fault.ReportFault.TheVariants as report_faults
 use Rattle.maxjc_core.specs.declared.refusal.Refusal.{Refusal}
 use Rattle.maxjc_core.specs.declared.refusal.Refusal.TheVariants as refusals
 
@@ -66,42 +55,27 @@ stop_cause stops.ReadFault = None
 stop_cause stops.WriteFault = None
 stop_cause stops.NoMemory = None
 
-abbrev pub run_cause : EvalError → Option Cause
-run_cause eval_errors.NoMemory = None
-run_cause error = Some (RunRefused error)
-
-abbrev pub graph_cause : List ℕ → GraphError → Option Cause
-graph_cause name graph_errors.NoMemory = None
-graph_cause name error = Some (NoKernel name error)
-
 abbrev pub table_cause : TableError → Option Cause
 table_cause table_errors.NoMemory = None
 table_cause error = Some (TableFault error)
 
-abbrev pub kernel_cause : List ℕ → TextError → Option Cause
-kernel_cause name error = if is_memory error then None else Some (NoText name error)
+abbrev pub project_cause : ProjectError → Option Cause
+project_cause project_errors.NoMemory = None
+project_cause error = Some (NoProject error)
 
-abbrev pub problem_cause : List ℕ → EdgeError → Option Cause
-problem_cause name edge_errors.NoMemory = None
-problem_cause name error = Some (NoProblem name error)
-
-abbrev pub report_cause : ReportFault → Cause
-report_cause (report_faults.NoReport line) = NoReport line
-report_cause (report_faults.Other line) = OtherReport line
-report_cause (report_faults.BrokenArc name arc) = BrokenArc name arc
-report_cause (report_faults.Unbalanced name node) = Unbalanced name node
-report_cause (report_faults.CostsDiffer name cost value) = CostsDiffer name cost value
+abbrev pub report_cause : CheckError → Option Cause
+report_cause check_errors.NoMemory = None
+report_cause error = Some (NotChecked error)
 
 abbrev pub cause_told : Refusal → Option Cause
 cause_told (refusals.TooLarge name) = Some (TooLarge name.now)
 cause_told (refusals.Source error) = source_cause error
-cause_told (refusals.Building error) = run_cause error
-cause_told (refusals.Graph name error) = graph_cause name error
 cause_told (refusals.Table error) = table_cause error
-cause_told (refusals.Kernel name error) = kernel_cause name error
-cause_told refusals.NotBuilt = Some NotBuilt
-cause_told (refusals.Problem name error) = problem_cause name error
-cause_told (refusals.Report fault) = Some (report_cause fault)
+cause_told (refusals.Project error) = project_cause error
+cause_told (refusals.Schedule kernel error) = Some (NoSchedule kernel error)
+cause_told (refusals.TooManyBits kernel bits) = Some (TooManyBits kernel bits)
+cause_told (refusals.LinkTooDeep link words) = Some (LinkTooDeep link words)
+cause_told (refusals.Report error) = report_cause error
 cause_told (refusals.Verilog error) = text_cause error
 cause_told (refusals.RunFile error) = run_file_cause error
 cause_told (refusals.Run stop) = stop_cause stop

@@ -34,11 +34,11 @@ pub record EndsSimulate (stalls : Answers) (names : RunNames) (before after : Ou
       → IsSmall l
       → Ends stalls (setup l) restart vs (ends.Limit edges)
       → (status ≡ EdgeLimit) ⊎ IsCutOff status
-  -- of a text that `compile` wrote the output file holds words that agree with what the kernel says of the words that were
-  -- taken, and so with a prefix of what it says of all words
+  -- of a text that `compile` wrote each output file holds words that agree with a beginning of those that the stream
+  -- equations of the project say
   pub words_done : status ≡ Done → IsSome before.held → WritesAllWords names before.held after.held
   pub words_limited : status ≡ EdgeLimit → IsSome before.held → WritesAllWords names before.held after.held
-  -- of a text that `compile` wrote a run in which no port stalls and the input files hold all words is done in time
+  -- of a text that `compile` wrote a balanced run in which no port stalls and the input files hold all words is done in time
   pub finishes : IsSome before.held → AllFinish names before.held before.said after.said status
   -- `Refused` comes exactly where a cause stands, unless a call fails or memory is short. Before a run begins no file has
   -- changed; in a run the output files hold the lines of the first words that left

@@ -1,11 +1,8 @@
 -- What compiling answers before anything is written, as the code has it.
-use Rattle.std.specs.Prelude.{ℕ, ◌≡◌, List, IsSome, Result, Ok, Err}
+use Rattle.std.specs.Prelude.{ℕ, List, IsSome, Result, Ok, Err}
 use Rattle.mx_base.specs.Files.{Held}
-use Rattle.latency_table.specs.declared.table.Table.{Table}
-use Rattle.stream_graph.specs.declared.kernel.Kernel.{Kernel}
 use Rattle.maxjc_core.specs.Command.{Name, Names}
-use Rattle.maxjc_core.specs.Causes.{file_limit, IsWithin, OneKernel, IsReadable, Stands}
-use Rattle.maxjc_core.specs.Kernels.{IsKernel}
+use Rattle.maxjc_core.specs.Causes.{file_limit, IsWithin, IsReadable, Stands}
 use Rattle.maxjc_core.specs.Lines.{Cause}
 use Rattle.maxjc_core.specs.Refusals.{cause_told, IfCause}
 use Rattle.maxjc_core.specs.Compiling.{Compiles}
@@ -23,13 +20,6 @@ IfRefused stops.NoMemory P = Unit {0}
 pub record AreBytes (source_name table_name : Name) (held : Held) (source table : List ℕ) : Type 0 where
   pub source_is : IsWithin file_limit held source_name source
   pub table_is : IsWithin file_limit held table_name table
-
--- the kernel and the latency table that are made of the bytes of a project
-pub record MakesKernel (source table : List ℕ) (kernel : Kernel) (latencies : Table) : Type 0 where
-  pub project : OneKernel source table
-  pub is : IsKernel project.kernel kernel.nodes
-  pub named : kernel.name ≡ project.kernel.name
-  pub same : project.latencies ≡ latencies
 
 -- the files that are read, and what is made of them
 pub record IsCompiled (names : Names) (held : Held) (text report line : List ℕ) : Type 0 where

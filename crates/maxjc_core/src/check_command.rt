@@ -18,7 +18,7 @@ use crate::stop::Stop;
 use mx_base::{Files, Say};
 use std::alloc::Global;
 
-// Says the line of a report that is shown.
+// Says the lines of a report that is shown.
 fn confirm<S: Say>(say: &mut S, line: &[u8]) -> Status
     ensures ends { (result ≡ Status.Done) ⊎ (result ≡ Status.WriteFault) }
     ensures said { result ≡ Status.Done → S.said say.new ≡ said_more (S.said say.old) line.now }
@@ -42,7 +42,7 @@ pub fn run_check<F: Files, S: Say>(
     ensures usage { result ≡ Status.Usage → ⊥ }
     ensures no_edges { result ≡ Status.EdgeLimit → ⊥ }
 
-    // `Done`: the report's one part is shown for the kernel that the source is, and its bits are what was said.
+    // `Done`: the report's parts are shown for the kernels that the source builds, and their bits are what was said.
     ensures done { result ≡ Status.Done → IsSome (F.held files.old)
         → IsCheckDone (check_told names.entry) (F.held files.old) (S.said say.old) (S.said say.new) }
 

@@ -1,27 +1,29 @@
 // Reads a project and compiles it. No file is changed here.
-ghost use Rattle.std.specs.Prelude.{◌≡◌, ◌<◌, ◌^◌, ◌⊎◌, ◌∷◌, [], true, List, ℕ, Err, IfOk, IfErr, length};
+ghost use Rattle.std.specs.Prelude.{◌≡◌, ◌<◌, ◌^◌, ◌⊎◌, List, ℕ, Err, IfOk, IfErr, length, All};
 ghost use Rattle.mx_base.specs.Counts.{Rose};
 ghost use Rattle.mx_base.specs.Files.{Lacks};
 ghost use Rattle.schedule_report.specs.Reports.{IsKernelPart, report_text};
+ghost use Rattle.project_netlists.specs.Netlists.{HasPortName};
 ghost use Rattle.maxjc_core.specs.Causes.{IsMissing, IsOfFiles};
 ghost use Rattle.maxjc_core.specs.Compiling.{summary_of, Compiles};
-ghost use Rattle.maxjc_core.specs.Stops.{IfRefused, Answers, MakesKernel};
+ghost use Rattle.maxjc_core.specs.Projects.{IsProjectOf};
+ghost use Rattle.maxjc_core.specs.Stops.{IfRefused, Answers};
 ghost use Rattle.maxjc_core.specs.Named.{names_told};
-ghost use Rattle.kernel_calls.specs.Laws.{is_port_name};
 
 use crate::command::Compile;
-use crate::project::{make_kernel, name_of, read_project};
+use crate::project::{make_project, read_project};
 use crate::stop::Stop;
-use crate::stops::text_stop;
-use kernel_report::shown_are_least;
-use kernel_verilog::{KernelText, kernel_text};
+use crate::stops::netlists_refusal;
+use crate::summary::summary_of;
 use latency_table::Table;
+use manager_links::Project;
 use mx_base::{Files, List, NoMemory};
+use project_check::all_shown_are_least;
+use project_verilog::{ProjectText, project_text};
 use schedule_report::{Report, ReportKernel};
 use std::alloc::Global;
-use stream_graph::Kernel;
 
-/// The text of a project, the report on its schedule, and the line that sums both up.
+/// The text of a project, the report on the schedules of its kernels, and the lines that sum both up.
 #[derive(Drop)]
 pub struct Compiled {
     pub text: Vec<u8>,
@@ -29,38 +31,26 @@ pub struct Compiled {
     pub summary: Vec<u8>,
 }
 
-// The line `kernel NAME fifo B`.
-fn summary_of(alloc: Global, name: &[u8], bits: u64) -> Result<Vec<u8>, NoMemory>
-    ensures { IfOk result (λ line. line.items ≡ summary_of name.now bits) }
+// The bytes of a report of these parts.
+fn report_of(alloc: Global, parts: List<ReportKernel>) -> Result<Vec<u8>, NoMemory>
+    requires { All IsKernelPart parts }
+    ensures { IfOk result (λ bytes. bytes.items ≡ report_text (record { kernels = parts })) }
 {
-    let mut line = b"kernel ".to_vec(alloc)?;
-    line.extend_from_slice(name)?;
-    line.extend_from_slice(format!(in alloc; " fifo {bits}\n")?.as_bytes())?;
-    Ok(line)
-}
-
-// The bytes of a report of one part.
-fn report_of(alloc: Global, part: ReportKernel) -> Result<Vec<u8>, NoMemory>
-    requires { IsKernelPart part }
-    ensures { IfOk result (λ bytes. bytes.items ≡ report_text (record { kernels = part ∷ [] })) }
-{
-    let mut parts = List::new(alloc);
-    parts.push(part)?;
     let report = Report { kernels: parts };
     let mut bytes = Vec::new(alloc);
     report.print(&mut bytes)?;
     Ok(bytes)
 }
 
-// The text of a kernel, with the report on it and its summary.
-fn with_report(alloc: Global, kernel: &Kernel, made: KernelText) -> Result<Compiled, NoMemory>
-    requires { IsKernelPart made.part }
+// The text of a project, with the report on it and its summary.
+fn with_report(alloc: Global, made: ProjectText) -> Result<Compiled, NoMemory>
+    requires { All IsKernelPart made.parts }
     ensures text { IfOk result (λ c. c.text.items ≡ made.text.items) }
-    ensures report { IfOk result (λ c. c.report.items ≡ report_text (record { kernels = made.part ∷ [] })) }
-    ensures summary { IfOk result (λ c. c.summary.items ≡ summary_of kernel.now.name made.part.bits) }
+    ensures report { IfOk result (λ c. c.report.items ≡ report_text (record { kernels = made.parts })) }
+    ensures summary { IfOk result (λ c. c.summary.items ≡ summary_of made.parts made.links.links) }
 {
-    let summary = summary_of(alloc, kernel.name(), made.part.bits)?;
-    let report = report_of(alloc, made.part)?;
+    let summary = summary_of(alloc, made.parts.as_slice(), made.links.links.as_slice())?;
+    let report = report_of(alloc, made.parts)?;
     Ok(Compiled {
         text: made.text,
         report,
@@ -68,23 +58,23 @@ fn with_report(alloc: Global, kernel: &Kernel, made: KernelText) -> Result<Compi
     })
 }
 
-// What is made of a kernel by a latency table, or why it has no text.
-fn compile_kernel<'a>(
+// What is made of a project by a latency table, or why it has no text.
+fn compile_project<'a>(
     alloc: Global,
-    kernel: &Kernel,
+    project: &Project,
     latencies: &Table,
 ) -> Result<Compiled, Stop<'a>>
-    requires plain { is_port_name kernel.now.name ≡ true }
-    ensures made { (source table : List ℕ) → MakesKernel source table kernel.now latencies.now
+    requires names { All HasPortName project.now.kernels }
+    ensures made { (source table : List ℕ) → IsProjectOf source table project.now latencies.now
         → IfOk result (λ c. Compiles source table c.text.items c.report.items c.summary.items) }
-    ensures refused { (source table : List ℕ) → MakesKernel source table kernel.now latencies.now
+    ensures refused { (source table : List ℕ) → IsProjectOf source table project.now latencies.now
         → IfErr result (λ stop. IfRefused stop (IsOfFiles source table)) }
     ensures no_read { result ≡ Err Stop.ReadFault → ⊥ }
 {
-    shown_are_least(kernel, latencies);
-    match kernel_text(alloc, kernel, latencies) {
-        Ok(made) => Ok(with_report(alloc, kernel, made)?),
-        Err(error) => Err(text_stop(name_of(alloc, kernel)?, error)),
+    all_shown_are_least(project.kernels(), latencies);
+    match project_text(alloc, project, latencies) {
+        Ok(made) => Ok(with_report(alloc, made)?),
+        Err(error) => Err(Stop::Refused(netlists_refusal(alloc, project, error)?)),
     }
 }
 
@@ -95,8 +85,8 @@ fn build<'a>(alloc: Global, source: &[u8], table: &[u8]) -> Result<Compiled, Sto
     ensures refused { IfErr result (λ stop. IfRefused stop (IsOfFiles source.now table.now)) }
     ensures no_read { result ≡ Err Stop.ReadFault → ⊥ }
 {
-    match make_kernel(alloc, source, table) {
-        Ok(made) => compile_kernel(alloc, &made.kernel, &made.latencies),
+    match make_project(alloc, source, table) {
+        Ok(made) => compile_project(alloc, &made.project, &made.latencies),
         Err(stop) => Err(stop),
     }
 }

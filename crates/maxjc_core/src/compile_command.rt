@@ -76,8 +76,8 @@ pub fn run_compile<F: Files, S: Say>(
     ensures usage { result ≡ Status.Usage → ⊥ }
     ensures no_edges { result ≡ Status.EdgeLimit → ⊥ }
 
-    // `Done`: the output holds a text of a design of the kernel that the source is, the report's file holds a report on its
-    // schedule, and the summary is what was said.
+    // `Done`: the output holds a text of a design of the project that the source builds, the report's file holds a report on
+    // the schedules of its kernels, and the summary is what was said.
     ensures done { result ≡ Status.Done → IsSome (F.held files.old)
         → IsDone (names_told names.entry) (F.held files.old) (F.held files.new) (S.said say.old) (S.said say.new) }
 

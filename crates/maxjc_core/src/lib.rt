@@ -7,16 +7,15 @@ mod command;
 mod compile;
 mod compile_command;
 mod files;
-mod kernels;
 mod load;
 mod project;
 mod refusal;
-mod report_fault;
 mod saying;
 mod simulate_command;
 mod status;
 mod stop;
 mod stops;
+mod summary;
 mod top;
 
 pub use status::Status;

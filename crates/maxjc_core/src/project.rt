@@ -1,36 +1,36 @@
-// Reads a project, and makes its kernel.
-ghost use Rattle.std.specs.Prelude.{◌≡◌, ◌<◌, ◌≤◌, ◌^◌, ◌⊎◌, true, List, ℕ, Ok, Err, IfOk, IfErr, length, IsSome};
+// Reads the files of a project, and builds it.
+ghost use Rattle.std.specs.Prelude.{◌≡◌, ◌<◌, ◌≤◌, ◌^◌, ◌⊎◌, List, ℕ, Err, IfOk, IfErr, length, IsSome};
 ghost use Rattle.mx_base.specs.Counts.{Rose};
 ghost use Rattle.mx_base.specs.Files.{Lacks};
-ghost use Rattle.kernel_calls.specs.Laws.{is_port_name};
 ghost use Rattle.maxj_syntax.specs.Outcomes.{FailsToRead, IsTheSource};
 ghost use Rattle.maxj_syntax.specs.Ranges.{AreInRange};
 ghost use Rattle.maxj_syntax.specs.Tree.{ClassTree, ProgramIs};
-ghost use Rattle.maxjc_core.specs.Causes.{file_limit, IsMissing, IsOfProject, IsTooLarge};
-ghost use Rattle.maxjc_core.specs.Stops.{IfRefused, AreBytes, MakesKernel};
+ghost use Rattle.maxjc_core.specs.Causes.{file_limit, IsMissing, IsTooLarge};
+ghost use Rattle.maxjc_core.specs.Projects.{IsProjectOf, MakesNoProject};
+ghost use Rattle.maxjc_core.specs.Stops.{IfRefused, AreBytes};
 
 use crate::files::{FILE_LIMIT, read_file};
-use crate::kernels::{build_class, class_alone};
 use crate::refusal::Refusal;
 use crate::stop::Stop;
-use crate::stops::table_stop;
+use crate::stops::{project_stop, table_stop};
 use latency_table::Table;
+use manager_links::Project;
 use maxj_syntax::{Program, SourceError, parse};
-use mx_base::{Files, NoMemory, Text};
+use mx_base::{Files, Text};
+use project_build::build_project;
 use std::alloc::Global;
-use stream_graph::Kernel;
 
 /// The bytes of a source and of a latency table.
 #[derive(Drop)]
-pub struct Project {
+pub struct ProjectBytes {
     pub source: Vec<u8>,
     pub table: Vec<u8>,
 }
 
-/// The kernel of a source, and its latency table.
+/// The project of a source, and its latency table.
 #[derive(Drop)]
 pub struct Made {
-    pub kernel: Kernel,
+    pub project: Project,
     pub latencies: Table,
 }
 
@@ -40,7 +40,7 @@ pub fn read_project<'a, F: Files>(
     files: &mut F,
     source_name: &'a Text,
     table_name: &'a Text,
-) -> Result<Project, Stop<'a>>
+) -> Result<ProjectBytes, Stop<'a>>
     ensures same { F.held files.new ≡ F.held files.old }
     ensures quiet { (result ≡ Err Stop.ReadFault → ⊥) → F.read_faults files.new ≡ F.read_faults files.old }
     ensures write_quiet { F.write_faults files.new ≡ F.write_faults files.old }
@@ -61,7 +61,7 @@ pub fn read_project<'a, F: Files>(
 {
     match read_file(alloc, files, source_name, FILE_LIMIT) {
         Ok(source) => match read_file(alloc, files, table_name, FILE_LIMIT) {
-            Ok(table) => Ok(Project { source, table }),
+            Ok(table) => Ok(ProjectBytes { source, table }),
             Err(stop) => Err(stop),
         },
         Err(stop) => Err(stop),
@@ -70,7 +70,7 @@ pub fn read_project<'a, F: Files>(
 
 // The refusal of a source by its first fault.
 fn refused<'a>(error: SourceError) -> Stop<'a>
-    ensures cause { (source table : List ℕ) → FailsToRead source error → IfRefused result (IsOfProject source table) }
+    ensures cause { (source table : List ℕ) → FailsToRead source error → IfRefused result (MakesNoProject source table) }
     ensures no_read { result ≡ Stop.ReadFault → ⊥ }
 {
     match error {
@@ -79,47 +79,36 @@ fn refused<'a>(error: SourceError) -> Stop<'a>
     }
 }
 
-// The kernel of a program, and the latency table of these bytes.
+// The project of a program, and the latency table of these bytes.
 fn make<'a>(alloc: Global, program: &Program<'_>, table: &[u8]) -> Result<Made, Stop<'a>>
     requires read { (classes : List ClassTree) × ProgramIs program.now classes }
     requires numbers { AreInRange program.now.tree }
     ensures made { (source : List ℕ) → IsTheSource source program.now
-        → IfOk result (λ m. MakesKernel source table.now m.kernel m.latencies) }
-    ensures plain { IfOk result (λ m. is_port_name m.kernel.name ≡ true) }
+        → IfOk result (λ m. IsProjectOf source table.now m.project m.latencies) }
     ensures refused { (source : List ℕ) → IsTheSource source program.now
-        → IfErr result (λ stop. IfRefused stop (IsOfProject source table.now)) }
+        → IfErr result (λ stop. IfRefused stop (MakesNoProject source table.now)) }
     ensures no_read { result ≡ Err Stop.ReadFault → ⊥ }
 {
-    let Some(class) = class_alone(program) else {
-        return Err(Stop::Refused(Refusal::NotBuilt));
-    };
     let latencies = match Table::read(alloc, table) {
         Ok(latencies) => latencies,
         Err(error) => return Err(table_stop(error)),
     };
-    match build_class(alloc, program, class) {
-        Ok(kernel) => Ok(Made { kernel, latencies }),
-        Err(stop) => Err(stop),
+    match build_project(alloc, program) {
+        Ok(project) => Ok(Made { project, latencies }),
+        Err(error) => Err(project_stop(error)),
     }
 }
 
-/// The kernel and the latencies that the bytes of a source and of a table make, or why they make none.
-pub fn make_kernel<'a>(alloc: Global, source: &[u8], table: &[u8]) -> Result<Made, Stop<'a>>
+/// The project that the bytes of a source build, and the latencies that those of a table say, or
+/// why there are none.
+pub fn make_project<'a>(alloc: Global, source: &[u8], table: &[u8]) -> Result<Made, Stop<'a>>
     requires { length source.now < 2 ^ 32 }
-    ensures made { IfOk result (λ m. MakesKernel source.now table.now m.kernel m.latencies) }
-    ensures plain { IfOk result (λ m. is_port_name m.kernel.name ≡ true) }
-    ensures refused { IfErr result (λ stop. IfRefused stop (IsOfProject source.now table.now)) }
+    ensures made { IfOk result (λ m. IsProjectOf source.now table.now m.project m.latencies) }
+    ensures refused { IfErr result (λ stop. IfRefused stop (MakesNoProject source.now table.now)) }
     ensures no_read { result ≡ Err Stop.ReadFault → ⊥ }
 {
     match parse(alloc, source) {
         Ok(program) => make(alloc, &program, table),
         Err(error) => Err(refused(error)),
     }
-}
-
-/// The name of a kernel.
-pub fn name_of(alloc: Global, kernel: &Kernel) -> Result<Text, NoMemory>
-    ensures { IfOk result (λ name. name ≡ kernel.now.name) }
-{
-    Ok(Text::from_vec(kernel.name().to_vec(alloc)?))
 }

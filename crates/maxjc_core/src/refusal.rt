@@ -3,18 +3,17 @@ ghost use Rattle.std.specs.Prelude.{◌≡◌, IfOk};
 ghost use Rattle.maxjc_core.specs.Lines.{line_of};
 ghost use Rattle.maxjc_core.specs.Refusals.{cause_told, IfCause};
 
-use crate::report_fault::ReportFault;
-use kernel_eval::line_of;
-use kernel_meaning::EvalError;
-use kernel_verilog::TextError;
+use kernel_netlist::NetlistError;
+use kernel_schedule::ScheduleError;
 use latency_table::TableError;
+use manager_links::LinkError;
 use maxj_syntax::SourceError;
 use mx_base::{NoMemory, Text};
-use offset_edges::EdgeError;
+use project_build::ProjectError;
+use project_check::CheckError;
 use refusal_line::{Value, refusal_line};
 use simulation::Stop;
 use std::alloc::Global;
-use stream_graph::GraphError;
 use verilog_read::VerilogError;
 use word_files::RunFileError;
 
@@ -26,20 +25,18 @@ pub enum Refusal<'a> {
     TooLarge(&'a Text),
     /// S1 to S6: the first fault of the source.
     Source(SourceError),
-    /// E1 to E15: why the building run of the kernel is refused.
-    Building(EvalError),
-    /// G1 to G4 and G6: the rule that what this kernel's run makes breaks.
-    Graph(Text, GraphError),
     /// T1 to T3: the first fault of the latency table.
     Table(TableError),
-    /// L1, C1, C2 and B1: why this kernel has no text.
-    Kernel(Text, TextError),
-    /// N0: the source has a manager.
-    NotBuilt,
-    /// L1 and C1: why this kernel has no problem of schedules.
-    Problem(Text, EdgeError),
-    /// Q1 to Q5: why the report shows no least schedule of the kernel.
-    Report(ReportFault),
+    /// E1 to E15, G1 to G4 and G6, P1 to P5 and P7 to P9: why the source builds no project.
+    Project(ProjectError),
+    /// L1, C1 and C2: why this kernel has no schedule by the latency table.
+    Schedule(Text, ScheduleError),
+    /// B1: the FIFOs of this kernel need so many bits.
+    TooManyBits(Text, u128),
+    /// P6: the link of this number would hold so many words.
+    LinkTooDeep(u32, u64),
+    /// L1, C1 and Q1 to Q5: why the report shows no least schedules of the project's kernels.
+    Report(CheckError),
     /// V1 to V4: why the text isn't that of a design that can be run.
     Verilog(VerilogError),
     /// U1 and U2: why the run file isn't of its form, or doesn't fit the ports.
@@ -57,13 +54,16 @@ impl<'a> Refusal<'a> {
         match self {
             Refusal::TooLarge(name) => refusal_line(alloc, "F1", &[Value::Name(name)]),
             Refusal::Source(error) => error.line(alloc),
-            Refusal::Building(error) => line_of(alloc, *error),
-            Refusal::Graph(kernel, error) => error.line(alloc, kernel),
             Refusal::Table(error) => error.line(alloc),
-            Refusal::Kernel(kernel, error) => error.line(alloc, kernel),
-            Refusal::NotBuilt => refusal_line(alloc, "N0", &[]),
-            Refusal::Problem(kernel, error) => error.line(alloc, kernel),
-            Refusal::Report(fault) => fault.line(alloc),
+            Refusal::Project(error) => error.line(alloc),
+            Refusal::Schedule(kernel, error) => error.line(alloc, kernel),
+            Refusal::TooManyBits(kernel, bits) => {
+                NetlistError::TooManyBits(*bits).line(alloc, kernel)
+            }
+            Refusal::LinkTooDeep(link, words) => {
+                LinkError::LinkTooDeep(*link, *words).line(alloc)
+            }
+            Refusal::Report(error) => error.line(alloc),
             Refusal::Verilog(error) => error.line(alloc),
             Refusal::RunFile(error) => error.line(alloc),
             Refusal::Run(stop) => stop.line(alloc),

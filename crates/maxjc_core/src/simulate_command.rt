@@ -114,13 +114,13 @@ pub fn run_simulate<F: Files, S: Say, G: Fn(u64, u64, u32) -> bool>(
         → (restart : Families) (vs : List Families) (edges : ℕ)
         → Ends (G.post stalls.now.test) (setup l) restart vs (ends.Limit edges) → (result ≡ Status.EdgeLimit) ⊎ IsCutOff result }
 
-    // Of a text that `compile` wrote the output holds words that agree with what the kernel says of those that were taken.
+    // Of a text that `compile` wrote each output holds words that agree with a beginning of those of its stream.
     ensures words_done { result ≡ Status.Done → IsSome (F.held files.old)
         → WritesAllWords (run_told names.entry) (F.held files.old) (F.held files.new) }
     ensures words_limited { result ≡ Status.EdgeLimit → IsSome (F.held files.old)
         → WritesAllWords (run_told names.entry) (F.held files.old) (F.held files.new) }
 
-    // Of such a text a run in which no port stalls and the input files hold all words is done in time.
+    // Of such a text a balanced run in which no port stalls and the input files hold all words is done in time.
     ensures finishes { IsSome (F.held files.old)
         → AllFinish (run_told names.entry) (F.held files.old) (S.said say.old) (S.said say.new) result }
 

@@ -1,20 +1,20 @@
-// What errors of a project's latency table, of its kernel and of a report stop with.
-ghost use Rattle.std.specs.Prelude.{◌≡◌, Some, List, ℕ};
-ghost use Rattle.latency_table.specs.declared.table.Table.{Table};
-ghost use Rattle.stream_graph.specs.declared.kernel.Kernel.{Kernel};
-ghost use Rattle.schedule_report.specs.Reading.{IsRefused};
-ghost use Rattle.maxjc_core.specs.CheckCauses.{IsOfReport};
-ghost use Rattle.maxjc_core.specs.Refusals.{table_cause, kernel_cause, problem_cause};
+// What errors of a project and of a report on it stop with.
+ghost use Rattle.std.specs.Prelude.{◌≡◌, Some, IfOk};
+ghost use Rattle.project_netlists.specs.Lines.{IsOfThese};
+ghost use Rattle.maxjc_core.specs.Causes.{netlists_cause};
+ghost use Rattle.maxjc_core.specs.Refusals.{table_cause, project_cause, report_cause, cause_told, IfCause};
 ghost use Rattle.maxjc_core.specs.Stops.{IfRefused};
 
 use crate::refusal::Refusal;
-use crate::report_fault::ReportFault;
 use crate::stop::Stop;
-use kernel_verilog::TextError;
 use latency_table::TableError;
-use mx_base::Text;
-use offset_edges::EdgeError;
-use schedule_report::ReportError;
+use manager_links::Project;
+use mx_base::{NoMemory, Text};
+use project_build::ProjectError;
+use project_check::CheckError;
+use project_netlists::NetlistsError;
+use std::alloc::Global;
+use stream_graph::Kernel;
 
 /// What a table that is refused stops with.
 pub fn table_stop<'a>(error: TableError) -> Stop<'a>
@@ -27,37 +27,55 @@ pub fn table_stop<'a>(error: TableError) -> Stop<'a>
     }
 }
 
-/// What a kernel of this name that has no text stops with.
-pub fn text_stop<'a>(name: Text, error: TextError) -> Stop<'a>
-    ensures cause { IfRefused result (λ cause. kernel_cause name error ≡ Some cause) }
-    ensures no_read { result ≡ Stop.ReadFault → ⊥ }
-{
-    if error.is_memory() {
-        Stop::NoMemory
-    } else {
-        Stop::Refused(Refusal::Kernel(name, error))
-    }
-}
-
-/// What a kernel of this name that has no problem of schedules stops with.
-pub fn problem_stop<'a>(name: Text, error: EdgeError) -> Stop<'a>
-    ensures cause { IfRefused result (λ cause. problem_cause name error ≡ Some cause) }
+/// What a source that builds no project stops with.
+pub fn project_stop<'a>(error: ProjectError) -> Stop<'a>
+    ensures cause { IfRefused result (λ cause. project_cause error ≡ Some cause) }
     ensures no_read { result ≡ Stop.ReadFault → ⊥ }
 {
     match error {
-        EdgeError::NoMemory => Stop::NoMemory,
-        error => Stop::Refused(Refusal::Problem(name, error)),
+        ProjectError::NoMemory => Stop::NoMemory,
+        error => Stop::Refused(Refusal::Project(error)),
     }
 }
 
-/// What bytes that are no report stop with.
-pub fn report_stop<'a>(error: ReportError) -> Stop<'a>
-    ensures cause { (table : Table) (kernel : Kernel) (bytes : List ℕ)
-        → IsRefused bytes error → IfRefused result (IsOfReport table kernel bytes) }
+/// What a report that is refused stops with.
+pub fn report_stop<'a>(error: CheckError) -> Stop<'a>
+    ensures cause { IfRefused result (λ cause. report_cause error ≡ Some cause) }
     ensures no_read { result ≡ Stop.ReadFault → ⊥ }
 {
     match error {
-        ReportError::Shape(line) => Stop::Refused(Refusal::Report(ReportFault::NoReport(line))),
-        ReportError::NoMemory => Stop::NoMemory,
+        CheckError::NoMemory => Stop::NoMemory,
+        error => Stop::Refused(Refusal::Report(error)),
+    }
+}
+
+// The name of a kernel.
+fn name_of(alloc: Global, kernel: &Kernel) -> Result<Text, NoMemory>
+    ensures { IfOk result (λ name. name ≡ kernel.now.name) }
+{
+    Ok(Text::from_vec(kernel.name().to_vec(alloc)?))
+}
+
+/// The refusal of a project whose kernels have no modules, or whose links are too deep.
+pub fn netlists_refusal<'a>(
+    alloc: Global,
+    project: &Project,
+    error: NetlistsError,
+) -> Result<Refusal<'a>, NoMemory>
+    requires { IsOfThese project.now.kernels error }
+    ensures { IfOk result (λ refusal. IfCause (cause_told refusal)
+        (λ cause. netlists_cause project.now.kernels error ≡ Some cause)) }
+{
+    match error {
+        NetlistsError::Schedule(number, error) => {
+            let kernel = &project.kernels()[number as usize];
+            Ok(Refusal::Schedule(name_of(alloc, kernel)?, error))
+        }
+        NetlistsError::TooManyBits(number, bits) => {
+            let kernel = &project.kernels()[number as usize];
+            Ok(Refusal::TooManyBits(name_of(alloc, kernel)?, bits))
+        }
+        NetlistsError::LinkTooDeep(link, words) => Ok(Refusal::LinkTooDeep(link, words)),
+        NetlistsError::NoMemory => Err(NoMemory),
     }
 }

@@ -270,7 +270,7 @@ fn projects_are_refused_before_reports(rt: HostRuntime) -> Result<(), Fail> {
     let alloc = rt.alloc();
     let projects: [(&[u8], &[u8], &[u8]); 5] = [
         (b"class", b"[", b"refused S3 5\n"),
-        (MANAGER, b"[", b"refused N0\n"),
+        (MANAGER, IMMEDIATE, b"refused P9 0\n"),
         (SUM3, b"[", b"refused T1\n"),
         (SUM3, b"{}", b"refused L1 Sum3 add 32\n"),
         (

@@ -10,6 +10,8 @@ mod kernel_sources;
 #[cfg(test)]
 mod kernel_tests;
 #[cfg(test)]
+mod manager_tests;
+#[cfg(test)]
 mod schedule_tests;
 #[cfg(test)]
 mod simulate_tests;

@@ -14,6 +14,7 @@ pub(crate) const ITSELF: &[u8] = b"class Self extends Kernel {
 }
 ";
 
+// A manager that adds no kernel.
 pub(crate) const MANAGER: &[u8] = b"class K extends Kernel { K(KernelParameters p) { super(p); } }
 class M extends CustomManager { M(EngineParameters e) { super(e); } }
 ";
@@ -22,7 +23,7 @@ class M extends CustomManager { M(EngineParameters e) { super(e); } }
 const TWO: &[u8] = b"{\"add\":[[1,2]],\"eq\":[[1,0]],\"mux\":[[1,0]]}";
 
 // Sources and tables, each with the line that they are refused with. A fault of the source stands
-// before one of the table, as does a manager; one of the table stands before those of the kernel.
+// before one of the table, and that before those of the manager and of the kernel.
 const REFUSED: [(&[u8], &[u8], &[u8]); 14] = [
     (DOUBLE, b"[", b"refused T1\n"),
     (DOUBLE, b"", b"refused T1\n"),
@@ -34,7 +35,7 @@ const REFUSED: [(&[u8], &[u8], &[u8]); 14] = [
     (DOUBLE, b"{}", b"refused L1 Double add 8\n"),
     (DOUBLE, b"{\"add\":[[9,0]]}", b"refused L1 Double add 8\n"),
     (b"class", b"[", b"refused S3 5\n"),
-    (MANAGER, b"[", b"refused N0\n"),
+    (MANAGER, b"[", b"refused T1\n"),
     (ITSELF, b"[", b"refused T1\n"),
     (
         ITSELF,

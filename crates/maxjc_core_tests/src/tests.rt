@@ -1,4 +1,3 @@
-use crate::schedule_tests::MANAGER;
 use maxjc_core::{Status, maxjc};
 use mx_base::{MemFiles, MemSay, Text, read_whole};
 use stall_source::{Pattern, program_stalls};
@@ -112,8 +111,7 @@ fn a_kernel_of_one_sum_is_compiled(rt: HostRuntime) -> Result<(), Fail> {
 #[test]
 fn sources_are_refused(rt: HostRuntime) -> Result<(), Fail> {
     for (source, said) in [
-        (MANAGER, b"refused N0\n".as_slice()),
-        (b"", b"refused S3 0\n"),
+        (b"".as_slice(), b"refused S3 0\n".as_slice()),
         (b"class", b"refused S3 5\n"),
         (b"\xc8", b"refused S1 0\n"),
         (b"class #", b"refused S2 6\n"),

@@ -2,10 +2,10 @@ use Rattle.maxjc_core.proofs.Checking.{of-project}
 use Rattle.maxjc_core.proofs.check.check_bytes.Goals as goal
 
 pub returns-in-Ok-clause-checked : goal.returns-in-Ok-clause-checked
-returns-in-Ok-clause-checked c = c.check_kernel.ensures.checked c.args.source.now c.args.table.now c.in-Ok.ensures.made
+returns-in-Ok-clause-checked c = c.check_project.ensures.checked c.args.source.now c.args.table.now c.in-Ok.ensures.made
 
 pub returns-in-Ok-clause-refused : goal.returns-in-Ok-clause-refused
-returns-in-Ok-clause-refused c = c.check_kernel.ensures.refused c.args.source.now c.args.table.now c.in-Ok.ensures.made
+returns-in-Ok-clause-refused c = c.check_project.ensures.refused c.args.source.now c.args.table.now c.in-Ok.ensures.made
 
 pub returns-in-Err-clause-refused : goal.returns-in-Err-clause-refused
 returns-in-Err-clause-refused c =

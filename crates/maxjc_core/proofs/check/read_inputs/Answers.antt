@@ -4,10 +4,10 @@ use Rattle.mx_base.specs.Files.{Held}
 use Rattle.maxjc_core.specs.Causes.{file_limit, IsTooLarge}
 use Rattle.maxjc_core.specs.CheckCauses.{CheckStands}
 use Rattle.maxjc_core.specs.Named.{check_told}
-use Rattle.maxjc_core.proofs.Alone.{refused-so}
 use Rattle.maxjc_core.proofs.Answering.{readable}
 use Rattle.maxjc_core.proofs.CheckExclusion.{missing_inputs, report_fault}
 use Rattle.maxjc_core.proofs.Reading.{within, read_stops}
+use Rattle.maxjc_core.proofs.Refusing.{refused-so}
 use Rattle.maxjc_core.proofs.check.read_inputs.Goals as goal
 
 pub returns-in-Err-clause-missing : goal.returns-in-Err-clause-missing

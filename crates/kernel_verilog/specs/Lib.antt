@@ -1,5 +1,0 @@
-pub mod Bits
-pub mod Parts
-pub mod Texts
-pub mod Written
-pub mod Refused

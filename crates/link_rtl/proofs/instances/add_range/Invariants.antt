@@ -1,6 +1,0 @@
-use Rattle.std.proofs.Common.{◌≡◌, ◌+◌, ◌-◌, ◌++◌}
-use Rattle.link_rtl.specs.Tops.{range}
-use Rattle.link_rtl.proofs.instances.add_range.Given as goal
-
-abbrev pub invariant-loop-place : goal.invariant-loop-place
-invariant-loop-place l = l.nets ++ range (l.from + l.place) (l.count - l.place) ≡ l.initial.nets ++ range l.from l.count
