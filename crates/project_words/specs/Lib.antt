@@ -1,0 +1,5 @@
+pub mod Given
+pub mod Words
+pub mod Open
+pub mod Sources
+pub mod Family
