@@ -1,0 +1,7 @@
+mod Balancing
+mod Counting
+mod Guarding
+mod Ports
+mod SamePorts
+mod Starting
+mod Widths

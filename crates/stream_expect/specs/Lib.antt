@@ -1,0 +1,4 @@
+pub mod Expected
+pub mod Refused
+pub mod Ports
+pub mod Widths
