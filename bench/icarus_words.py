@@ -18,8 +18,8 @@ import tempfile
 
 import building_run
 import example_page
-import stream_equations
 import testbench
+from project_streams import ProjectStreams
 from trials import PROGRAM, TOP, build
 
 EDGES = 20_000  # in which each example is done, also with stalls
@@ -79,11 +79,12 @@ def compare(text, run_file, work, wanted=None):
 
 def wanted_of(source, spec):
     """The words of each output by the stream equations, None where one is undefined."""
-    (name, calls), *_ = building_run.build(source.read_text()).kernels
-    words = {port: [int(line, 16) for line in (TOP / file).read_text().split()] for port, file in spec["inputs"].items()}
-    scalars = {scalar.split(".")[1]: int(word, 16) for scalar, word in spec.get("scalars", {}).items()}
-    streams = stream_equations.Streams(stream_equations.nodes_of(calls), spec["ticks"][name], words, scalars)
-    return {port: streams.output(port) for port in spec["outputs"]}
+    words = {stream: [int(line, 16) for line in (TOP / file).read_text().split()] for stream, file in spec["inputs"].items()}
+    scalars = {}
+    for scalar, word in spec.get("scalars", {}).items():
+        kernel, name = scalar.split(".")
+        scalars.setdefault(kernel, {})[name] = int(word, 16)
+    return ProjectStreams(building_run.build(source.read_text()), spec["ticks"], words, scalars).outputs()
 
 
 def tables_of(source):

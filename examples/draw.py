@@ -140,6 +140,21 @@ def imbalance():
     series.save("imbalance/imbalance.svg")
 
 
+def means_of(numbers, window):
+    return [sum(numbers[end - window : end]) // window for end in range(window, len(numbers) + 1)]
+
+
+def crossing():
+    price = numbers_of("crossing/price.txt")
+    series = Series(len(price))
+    series.panel([("price", GREY), ("mean of 8", AFTER), ("mean of 32", INK), ("crossings", MARK)], price)
+    series.line(price, BEFORE)
+    for window, color in ((8, AFTER), (32, INK)):
+        series.line(means_of(price, window), color, window - 1)
+    series.points(numbers_of("crossing/tick.expected.txt"), numbers_of("crossing/at.expected.txt"), MARK)
+    series.save("crossing/crossing.svg")
+
+
 # pictures
 
 
@@ -176,7 +191,7 @@ def pictures():
 
 
 def main():
-    for draw in (average, fir, maximum, imbalance, pictures):
+    for draw in (average, fir, maximum, imbalance, crossing, pictures):
         draw()
     for path in sorted([*HERE.glob("*/*.svg"), *HERE.glob("*/*.png")]):
         print(f"{path.relative_to(HERE)}: {path.stat().st_size} bytes")

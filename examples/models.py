@@ -174,6 +174,24 @@ def imbalance_out(words):
     return {"imbalance": values, "tick": ticks, "signal": signals}
 
 
+# crossings of two means of prices
+
+
+def crossing_in():
+    return {"price": walk(random.Random(66), 8000, 240, 50, 8)}
+
+
+def crossing_out(words):
+    price, (few, many) = words["price"], (8, 32)
+
+    def is_above(tick):
+        short, long = (sum(price[tick + 1 - window : tick + 1]) // window for window in (few, many))
+        return short > long
+
+    ticks = [tick for tick in range(many, len(price)) if is_above(tick) != is_above(tick - 1)]
+    return {"at": [price[tick] for tick in ticks], "tick": ticks}
+
+
 # files: the example, its words, its model, and the width of each port's words
 
 EXAMPLES = [
@@ -183,6 +201,7 @@ EXAMPLES = [
     ("heat", heat_in, heat_out, {"before": 24, "after": 24}),
     ("maximum", maximum_in, maximum_out, {"price": 16, "greatest": 16, "since": 40}),
     ("imbalance", imbalance_in, imbalance_out, {"isAsk": 1, "bid": 16, "ask": 16, "imbalance": 32, "tick": 40, "signal": 32}),
+    ("crossing", crossing_in, crossing_out, {"price": 16, "at": 16, "tick": 40}),
 ]
 
 
