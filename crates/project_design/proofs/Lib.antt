@@ -6,7 +6,7 @@ mod Making
 mod Instancing
 mod Ending
 mod Widening
-mod Porting
+pub mod Porting
 mod Linking
 mod Placing
 mod Topping

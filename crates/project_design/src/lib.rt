@@ -16,3 +16,4 @@ mod top;
 mod wires;
 
 pub use building::design;
+pub use ports::ports_alone;

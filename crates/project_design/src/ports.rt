@@ -229,7 +229,7 @@ fn add_streams(alloc: Global, netlist: &mut Netlist, project: &Project) -> Resul
 }
 
 /// The module `top$project` that has the ports of the design of a project, and nothing else.
-pub(crate) fn ports_alone(alloc: Global, project: &Project) -> Result<Netlist, NoMemory>
+pub fn ports_alone(alloc: Global, project: &Project) -> Result<Netlist, NoMemory>
     ensures { IfOk result (λ m. m
         ≡ with_ports (empty (codes "top$project")) (shape_ports (shape_of project.now))) }
 {

@@ -34,7 +34,7 @@ use Rattle.verilog_size.proofs.Slices.{one_of}
 
 -- ---- the ports
 
-views : (m : Module) (n : ℕ) (ps : List PortView) → ((k : ℕ) (p : PortView) → slice_get ps k ≡ Some p → slice_get m.nets (n + k) ≡ Some (port_net p)) → map (port_view m) (ports_from n ps) ≡ ps
+pub views : (m : Module) (n : ℕ) (ps : List PortView) → ((k : ℕ) (p : PortView) → slice_get ps k ≡ Some p → slice_get m.nets (n + k) ≡ Some (port_net p)) → map (port_view m) (ports_from n ps) ≡ ps
 views m n [] h = refl
 views m n (p ∷ ps) h =
     let z : n ≡ n + 0 = omega arith in
