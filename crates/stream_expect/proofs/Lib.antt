@@ -1,7 +1,7 @@
 mod Balancing
 mod Counting
 mod Guarding
-mod Ports
+pub mod Ports
 mod SamePorts
 mod Starting
 mod Widths

@@ -1,11 +1,11 @@
 // What the stream equations say of a run.
-ghost use Rattle.std.specs.Prelude.{◌≤◌, ◌^◌, IfOk, IfErr};
+ghost use Rattle.std.specs.Prelude.{◌≡◌, ◌≤◌, ◌^◌, length, IfOk, IfErr, IfNone, IfSome};
 ghost use Rattle.manager_links.specs.Links.{AreLinksOf};
 ghost use Rattle.manager_links.specs.Starts.{AreTimes};
 ghost use Rattle.project_words.specs.Given as Given;
 ghost use Rattle.project_words.specs.Given.{given_of, AreCausal, IsGiven};
 ghost use Rattle.stream_expect.specs.Expected.{IsExpectedOf};
-ghost use Rattle.stream_expect.specs.Refused.{IsRefused};
+ghost use Rattle.stream_expect.specs.Refused.{IsRefused, IsTooLarge};
 ghost use Rattle.stream_expect.specs.Widths.{HaveHostWidths};
 
 use crate::balanced::unbalanced_link;
@@ -17,9 +17,26 @@ use manager_links::{Links, Project};
 use mx_base::List;
 use project_words::{ProjectRun, project_words};
 use std::alloc::Global;
+use stream_graph::Kernel;
 
 /// The kernels of a project have at most so many words in a run, 2^24.
 const MOST_WORDS: u128 = 16_777_216;
+
+/// How many words kernels have in so many ticks each, one for each node in each tick, where that is
+/// more than 2^24: those runs that `expect` refuses, before their words are at hand.
+pub fn excess_words(kernels: &[Kernel], ticks: &[u64]) -> Option<u128>
+    requires few { length kernels.now ≤ 64 }
+    requires each { length ticks.now ≡ length kernels.now }
+    ensures many { IfSome result (IsTooLarge kernels.now ticks.now) }
+    ensures few { IfNone result (Given.word_count kernels.now ticks.now ≤ 2 ^ 24) }
+{
+    let count = word_count(kernels, ticks);
+    if count > MOST_WORDS {
+        Some(count)
+    } else {
+        None
+    }
+}
 
 /// What the stream equations of a project say of a run, where the nodes of its kernels have these
 /// times and its links and starts are those that it has at them. No kernel reads a word that hangs

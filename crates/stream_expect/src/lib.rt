@@ -15,4 +15,4 @@ mod size;
 
 pub use error::ExpectError;
 pub use expected::{Expected, UnbalancedLink, UnguardedPlace};
-pub use expecting::expect;
+pub use expecting::{excess_words, expect};
