@@ -57,7 +57,7 @@ use Rattle.project_check.specs.Refused.{
 use Rattle.project_check.specs.declared.error.CheckError.{CheckError}
 use Rattle.maxjc_core.specs.Command.{CheckNames}
 use Rattle.maxjc_core.specs.Causes.{IsMissing, IsTooLarge}
-use Rattle.maxjc_core.specs.CheckCauses.{IsOfCheck, CheckStands, LacksChecked}
+use Rattle.maxjc_core.specs.CheckCauses.{IsOfCheck, IsCheckable, IsInputTooLarge, CheckStands, LacksChecked}
 use Rattle.maxjc_core.specs.Checking.{IsShowing, IsChecked, IsGood}
 use Rattle.maxjc_core.specs.Lines.{Cause}
 use Rattle.maxjc_core.specs.Stops.{IfRefused, AreBytes}
@@ -172,7 +172,7 @@ no-fault table (kernel ∷ kernels) (part ∷ parts) error shown (inr rest) =
 -- ---- reports that are shown
 
 -- bytes say one report
-one-report : (bytes : List ℕ) (a b : Report) → Says bytes a → Says bytes b → a ≡ b
+pub one-report : (bytes : List ℕ) (a b : Report) → Says bytes a → Says bytes b → a ≡ b
 one-report bytes a b p q = texts_differ a b p.is q.is (sym p.text ∙ q.text)
 
 -- by tables of the same latencies, a report that is shown has no cause for which it is refused
@@ -199,7 +199,7 @@ not-refused a b kernels bytes report error same is (IsNotChecked.fault told _ pr
     fault
 
 -- so its bytes have none
-not-of-check : {source table report other others another : List ℕ} (cause : Cause) → source ≡ other
+pub not-of-check : {source table report other others another : List ℕ} (cause : Cause) → source ≡ other
     → table ≡ others → report ≡ another → IsOfCheck source table report cause
     → IsShowing other others another → ⊥
 not-of-check cause bytes latencies told (IsOfCheck.makes_none _ none) shows =
@@ -214,12 +214,18 @@ not-of-check {report = report} {another = another} _ bytes latencies told
 
 -- ---- the files
 
+-- where the files of a check are within the limit none is past it
+pub no-large-input : (names : CheckNames) (held : Held) (cause : Cause)
+    → IsInputTooLarge names held cause → IsCheckable names held → ⊥
+no-large-input names held _ (IsInputTooLarge.project cause large) files =
+    not_large names.source names.table held cause large files.project
+no-large-input names held _ (IsInputTooLarge.report after) files =
+    not_past held names.report _ after.then_report files.report_is
+
 pub excluded_check : (names : CheckNames) (held : Held) (cause : Cause)
     → CheckStands names held cause → IsGood names held → ⊥
 excluded_check names held _ (CheckStands.too_large cause large) good =
-    not_large names.source names.table held cause large good.files.project
-excluded_check names held _ (CheckStands.report_too_large after) good =
-    not_past held names.report _ after.then_report good.files.report_is
+    no-large-input names held cause large good.files
 excluded_check names held _ (CheckStands.of_files files cause is) good =
     not-of-check cause
     (same_bytes held names.source files.project.source good.files.project.source
@@ -230,13 +236,19 @@ excluded_check names held _ (CheckStands.of_files files cause is) good =
     good.files.report_is.holds)
     is good.shows
 
+-- where a file is past the limit the source is held
+pub told-from-large-input : (names : CheckNames) (held : Held) (cause : Cause)
+    → IsInputTooLarge names held cause → IsSome held
+told-from-large-input names held _ (IsInputTooLarge.project cause large) =
+    told_from_large names.source names.table held cause large
+told-from-large-input names held _ (IsInputTooLarge.report after) =
+    told held names.source after.project.source after.project.source_is.holds
+
 -- where a cause stands the source is held
 pub told_from_check : (names : CheckNames) (held : Held) (cause : Cause)
     → CheckStands names held cause → IsSome held
 told_from_check names held _ (CheckStands.too_large cause large) =
-    told_from_large names.source names.table held cause large
-told_from_check names held _ (CheckStands.report_too_large after) =
-    told held names.source after.project.source after.project.source_is.holds
+    told-from-large-input names held cause large
 told_from_check names held _ (CheckStands.of_files files cause is) =
     told held names.source files.project.source files.project.source_is.holds
 
@@ -259,7 +271,7 @@ missing_inputs names held stop missing refused (inr after) =
     missing_reads names.source names.table held stop after.project refused
 
 -- a file that is told not to be held is told
-told_lacks : (held : Held) (name : List ℕ) → Lacks held name → IsSome held
+pub told_lacks : (held : Held) (name : List ℕ) → Lacks held name → IsSome held
 told_lacks None name l = absurd (cc)
 told_lacks (Some m) name l = refl
 

@@ -1,11 +1,13 @@
 -- What checking a report answers, from what is made of the bytes of a project and of a report.
 use Rattle.std.proofs.Common.{ℕ, List}
 use Rattle.std.specs.Prelude.{IsSome}
+use Rattle.manager_links.specs.declared.project.Project.{Project}
 use Rattle.mx_base.specs.Files.{Held}
+use Rattle.schedule_report.specs.declared.report.Report.{Report}
 use Rattle.maxjc_core.specs.Command.{CheckNames}
 use Rattle.maxjc_core.specs.CheckCauses.{IsOfCheck, IsCheckable, CheckStands}
-use Rattle.maxjc_core.specs.Checking.{Checks, IsChecked}
-use Rattle.maxjc_core.specs.CheckStops.{AreInputs}
+use Rattle.maxjc_core.specs.Checking.{IsShowing, Checks, IsChecked}
+use Rattle.maxjc_core.specs.CheckStops.{AreInputs, ShowsAs}
 use Rattle.maxjc_core.specs.Projects.{MakesNoProject}
 use Rattle.maxjc_core.specs.Stops.{IfRefused}
 use Rattle.maxjc_core.specs.declared.stop.Stop.{Stop}
@@ -17,6 +19,17 @@ pub of-project : (source table report : List ℕ) (stop : Stop)
     → IfRefused stop (MakesNoProject source table) → IfRefused stop (IsOfCheck source table report)
 of-project source table report stop h =
     refused-so stop (MakesNoProject source table) (IsOfCheck source table report) IsOfCheck.makes_none h
+
+-- a report that is shown, on the project that was built
+abbrev pub showing : (source table bytes : List ℕ) (project : Project) (report : Report)
+    → ShowsAs source table bytes project report → IsShowing source table bytes
+showing source table bytes project report s = record {
+  project = project;
+  latencies = s.latencies;
+  is = s.is;
+  report = report;
+  checked = s.checked;
+}
 
 -- the bytes that were read are those of the files
 abbrev pub checkable : (names : CheckNames) (held : Held) (source table report : List ℕ)

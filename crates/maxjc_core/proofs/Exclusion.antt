@@ -180,7 +180,7 @@ few-bits a b nodes bits same few many =
     omega (arith, ints, least, most, holds, over)
 
 -- links that are all within the limit have none that is over it
-none-over : (links : List Link) (number words : ℕ) → All IsWithinLimit links
+pub none-over : (links : List Link) (number words : ℕ) → All IsWithinLimit links
     → IsFirstOver links number words → ⊥
 none-over links number words within first =
     let at = mapped (λ (link : Link). link.depth) (slice_get links number) words first.here in

@@ -17,7 +17,6 @@ pub mod Latencies
 pub mod Answering
 mod Compiling
 mod Delivering
-pub mod Shapes
 pub mod Writing
 pub mod Freely
 pub mod Moments
@@ -27,3 +26,15 @@ pub mod Finishing
 pub mod Checking
 pub mod SaidLines
 pub mod CheckExclusion
+pub mod Linking
+pub mod Giving
+pub mod NodeWords
+pub mod RunGiving
+pub mod InputReading
+pub mod OneHosts
+pub mod ExpectExclusion
+pub mod Expecting
+pub mod ExpectMissing
+pub mod Writable
+pub mod OutputWriting
+pub mod ExpectClauses

@@ -15,7 +15,7 @@ use Rattle.word_files.specs.declared.error.RunFileError.TheVariants as run_error
 use Rattle.word_files.specs.declared.run_file.RunFile.{RunFile}
 use Rattle.rtl_ir.specs.declared.interface.Interface.{Interface}
 use Rattle.maxjc_core.specs.Lines.{Cause}
-use Rattle.maxjc_core.specs.LoadStops.{IsRunFault, IsUnfitFor}
+use Rattle.maxjc_core.specs.RunFiles.{IsRunFault, IsUnfitFor}
 use Rattle.maxjc_core.specs.Projects.{MakesNoProject}
 use Rattle.maxjc_core.specs.Refusals.{IfCause, cause_told, source_cause, run_file_cause}
 use Rattle.maxjc_core.specs.RunCauses.{rule_cause, text_cause}

@@ -21,7 +21,8 @@ use Rattle.maxjc_core.specs.RunCauses.{BreaksForm, IsFaulty}
 use Rattle.maxjc_core.proofs.Exclusion.{same_bytes}
 use Rattle.maxjc_core.proofs.OneShape.{ticks_along, scalars_along, inputs_along, outputs_along, plan_along}
 use Rattle.top_ports.proofs.ShapeLists.{one_alone}
-use Rattle.maxjc_core.specs.LoadStops.{IsOnlyDesign, IsUnfit, IsUnfitFor, IsRunFault}
+use Rattle.maxjc_core.specs.LoadStops.{IsOnlyDesign}
+use Rattle.maxjc_core.specs.RunFiles.{IsUnfit, IsUnfitFor, IsRunFault}
 use Rattle.verilog_read.specs.Refused.{Refuses}
 use Rattle.verilog_read.specs.declared.error.VerilogError.{VerilogError}
 use Rattle.maxjc_core.proofs.RunReading.{refused_so}
@@ -40,7 +41,7 @@ made_run a b t s i o e p f =
     let same : run_file a.ticks a.scalars a.inputs a.outputs a.edges a.pick a.fill ≡ run_file b.ticks b.scalars b.inputs b.outputs b.edges b.pick b.fill = rw (t, s, i, o, e, p, f) refl in
     same
 
-run_once : (run : List ℕ) (a b : RunFile) → Reads run (Ok a) → Reads run (Ok b) → a ≡ b
+pub run_once : (run : List ℕ) (a b : RunFile) → Reads run (Ok a) → Reads run (Ok b) → a ≡ b
 run_once run a b x y =
     let d = same_data run a b x y in
     let p = x.2 in
@@ -87,7 +88,7 @@ pairs_once (x ∷ xs) (y ∷ ys) e f =
 abbrev plan : List ℕ → List ℕ → List (Name × ℕ) → List (Name × ℕ) → ℕ → ℕ → ℕ → Plan
 plan t s i o e k f = record { ticks = t; scalars = s; inputs = i; outputs = o; edges = e; pick = k; fill = f }
 
-plan_once : (r : RunFile) (ports others : Interface) → shape_of ports ≡ shape_of others → (p q : Plan) → IsPlanOf r ports p → IsPlanOf r others q → p ≡ q
+pub plan_once : (r : RunFile) (ports others : Interface) → shape_of ports ≡ shape_of others → (p q : Plan) → IsPlanOf r ports p → IsPlanOf r others q → p ≡ q
 plan_once r ports others same p q a' b =
     let a = plan_along r ports others same p a' in
     let t : p.ticks ≡ q.ticks = somes_once _ _ (a.ticks ∙ sym b.ticks) in
@@ -145,7 +146,7 @@ fits_not text run f ports same key (inr (inr (inl x))) = x.3 (inputs_along f.run
 fits_not text run f ports same key (inr (inr (inr x))) = x.4 (outputs_along f.run_file f.ports ports same f.outputs)
 
 -- a run file that is of its form has no fault
-run_fits : (run : List ℕ) (a : RunFile) (cause : Cause) → Reads run (Ok a) → IsRunFault run cause → ⊥
+pub run_fits : (run : List ℕ) (a : RunFile) (cause : Cause) → Reads run (Ok a) → IsRunFault run cause → ⊥
 run_fits run a cause x (IsRunFault.not_json h) = no_text run a x h
 run_fits run a cause x (IsRunFault.shape key h) = no_error run a key x h
 

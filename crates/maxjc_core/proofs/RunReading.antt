@@ -11,7 +11,8 @@ use Rattle.rtl_ir.specs.declared.interface.Interface.{Interface}
 use Rattle.rtl_ir.specs.Interfaces.{shape_of}
 use Rattle.simulation.specs.declared.plan.Plan.{Plan}
 use Rattle.maxjc_core.specs.Lines.{Cause}
-use Rattle.maxjc_core.specs.LoadStops.{FitAs, IsOnlyDesign, IsRunFault, IsPlanned, IsUnfit, IsUnfitFor}
+use Rattle.maxjc_core.specs.LoadStops.{FitAs, IsOnlyDesign}
+use Rattle.maxjc_core.specs.RunFiles.{IsRunFault, IsPlanned, IsUnfit, IsUnfitFor}
 use Rattle.maxjc_core.specs.RunCauses.{BreaksForm}
 use Rattle.maxjc_core.specs.Refusals.{cause_told}
 use Rattle.maxjc_core.specs.Stops.{IfRefused}

@@ -67,3 +67,10 @@ links_more lines links i link lt is =
     ∙ ap (λ more. lines ++ more) (sym (links_push 0 (take i links) link))
     ∙ ap (λ ls. lines ++ link_lines 0 ls)
     (sym (take_more links i link lt ∙ ap (λ y. take i links ++ y ∷ []) (sym is)))
+
+-- three pieces behind some lines, one by one
+pub three_more : (lines one two three first second third : List ℕ) → first ≡ lines ++ one
+    → second ≡ first ++ two → third ≡ second ++ three → third ≡ lines ++ (one ++ two ++ three)
+three_more lines one two three first second third a b c =
+    c ∙ ap (λ l. l ++ three) (b ∙ ap (λ l. l ++ two) a ∙ append_assoc lines one two)
+    ∙ append_assoc lines (one ++ two) three

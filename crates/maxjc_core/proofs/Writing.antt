@@ -35,6 +35,7 @@ use Rattle.project_rtl.specs.Shapes.{shape_of, host_shape}
 use Rattle.project_rtl.specs.Words.{steady_of, outer, AgreesWith, RunsAsEquations}
 use Rattle.project_rtl.specs.Times.{RunsOnTime}
 use Rattle.project_streams.specs.Streams.{GivenProject, ProjectValues}
+use Rattle.project_ports.proofs.Shapes.{project_top}
 use Rattle.stall_source.specs.Stalls.{Answers}
 use Rattle.simulation.specs.declared.plan.Plan.{Plan}
 use Rattle.simulation.specs.Inputs.{words_of, input_files}
@@ -52,7 +53,6 @@ use Rattle.maxjc_core.specs.LoadStops.{IsOnlyDesign}
 use Rattle.maxjc_core.specs.Writing.{HoldsWords, IsRunOver, WritesWords, WritesAllWords}
 use Rattle.maxjc_core.proofs.Building.{names_plain}
 use Rattle.maxjc_core.proofs.OneShape.{fused}
-use Rattle.maxjc_core.proofs.Shapes.{project_top}
 use Rattle.maxjc_core.proofs.RunExclusion.{same_file}
 use Rattle.maxjc_core.proofs.RunEnding.{IsMade, IsSimulated, told_loaded, of_loaded}
 

@@ -35,12 +35,19 @@ pub record AfterTable (names : CheckNames) (held : Held) (P : Type 0) : Type 0 w
   pub project : IsReadable names.source names.table held
   pub then_report : P
 
+-- the cause is that the source is past the limit, or the table after it, or the report after both
+pub data IsInputTooLarge (names : CheckNames) (held : Held) : Cause → Type 0 where
+  project :
+      (cause : Cause)
+      → IsTooLarge names.source names.table held cause
+      → IsInputTooLarge names held cause
+  report :
+      AfterTable names held (IsPast file_limit held names.report)
+      → IsInputTooLarge names held (TooLarge names.report)
+
 -- the cause stands, and none before it
 pub data CheckStands (names : CheckNames) (held : Held) : Cause → Type 0 where
-  too_large : (cause : Cause) → IsTooLarge names.source names.table held cause → CheckStands names held cause
-  report_too_large :
-      AfterTable names held (IsPast file_limit held names.report)
-      → CheckStands names held (TooLarge names.report)
+  too_large : (cause : Cause) → IsInputTooLarge names held cause → CheckStands names held cause
   of_files :
       (files : IsCheckable names held) (cause : Cause)
       → IsOfCheck files.project.source files.project.table files.report cause

@@ -24,17 +24,33 @@ pub record CheckNames : Type 0 where
   pub table : Name
   pub report : Name
 
+-- the names of the files of `expect`: those of `check`, and that of a run file
+pub record ExpectNames : Type 0 where
+  pub check : CheckNames
+  pub run : Name
+
 pub data Command : Type 0 where
   Compile : Names → Command
   Simulate : RunNames → Command
+  Expect : ExpectNames → Command
   Check : CheckNames → Command
 
--- `compile SRC TABLE OUT REPORT`, where OUT and REPORT are different texts, `simulate TEXT RUN`, and `check SRC TABLE REPORT`.
--- Every other list of words is no command.
+-- the names of a source, of a table and of a report, and of a run file
+abbrev pub expect_names : Name → Name → Name → Name → ExpectNames
+expect_names source table report run = record {
+  check = record { source = source; table = table; report = report };
+  run = run;
+}
+
+-- `compile SRC TABLE OUT REPORT`, where OUT and REPORT are different texts, `simulate TEXT RUN`,
+-- `expect SRC TABLE REPORT RUN`, and `check SRC TABLE REPORT`. Every other list of words is no
+-- command.
 abbrev pub command_of : List Name → Option Command
-command_of (word ∷ source ∷ table ∷ output ∷ report ∷ []) =
-    if bytes_eq word (codes "compile") && not (bytes_eq output report)
-    then Some (Compile (record { source = source; table = table; output = output; report = report }))
+command_of (word ∷ source ∷ table ∷ third ∷ fourth ∷ []) =
+    if bytes_eq word (codes "compile") && not (bytes_eq third fourth)
+    then Some (Compile (record { source = source; table = table; output = third; report = fourth }))
+    else if bytes_eq word (codes "expect")
+    then Some (Expect (expect_names source table third fourth))
     else None
 command_of (word ∷ text ∷ run ∷ []) =
     if bytes_eq word (codes "simulate")

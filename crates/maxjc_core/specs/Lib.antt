@@ -11,6 +11,7 @@ pub mod Named
 pub mod Refusals
 pub mod Stops
 pub mod Loading
+pub mod RunFiles
 pub mod RunCauses
 pub mod RunEnds
 pub mod LoadStops
@@ -24,3 +25,9 @@ pub mod CheckCauses
 pub mod Checking
 pub mod CheckEnds
 pub mod CheckStops
+pub mod InputWords
+pub mod Expecting
+pub mod ExpectCauses
+pub mod ExpectLines
+pub mod ExpectEnds
+pub mod ExpectStops

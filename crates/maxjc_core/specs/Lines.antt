@@ -17,6 +17,8 @@ use Rattle.project_build.specs.Lines.{said as project_fault_line}
 use Rattle.project_check.specs.declared.error.CheckError.{CheckError}
 use Rattle.project_check.specs.Refused.{said as report_fault_line}
 use Rattle.rtl_check.specs.Lines.{rule_line}
+use Rattle.stream_expect.specs.declared.error.ExpectError.TheVariants as expect_errors
+use Rattle.stream_expect.specs.Refused.{said as word_count_line}
 use Rattle.maxjc_core.specs.Command.{Name}
 
 pub data Cause : Type 0 where
@@ -35,6 +37,7 @@ pub data Cause : Type 0 where
   TooManyCells : ℕ → Cause  -- V5: the design has so many wires, registers and memory words
   NotJson : Cause  -- U1: the run file is no JSON text
   RunShape : Name → Cause  -- U2: the run file isn't of its form, or doesn't fit the ports, under this key
+  TooManyWords : ℕ → Cause  -- X1: the kernels have so many words in the run, one for each node in each tick
   BadLine : Name → ℕ → Cause  -- U3: this line of this file isn't 1 to 32 hexadecimal digits
   WordRange : Name → ℕ → Cause  -- U4: this line of this file says a number past the width
 
@@ -62,5 +65,6 @@ line_of (PortShape name) = refused (codes "V4") (name ∷ [])
 line_of (TooManyCells number) = refused (codes "V5") (decimal number ∷ [])
 line_of NotJson = refused (codes "U1") []
 line_of (RunShape key) = refused (codes "U2") (key ∷ [])
+line_of (TooManyWords words) = line_or_none (word_count_line (expect_errors.TooLarge words))
 line_of (BadLine file line) = refused (codes "U3") (file ∷ decimal line ∷ [])
 line_of (WordRange file line) = refused (codes "U4") (file ∷ decimal line ∷ [])

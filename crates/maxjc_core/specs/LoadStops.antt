@@ -5,45 +5,13 @@ use Rattle.rtl_ir.specs.declared.design.Design.{Design}
 use Rattle.simulation.specs.declared.plan.Plan.{Plan}
 use Rattle.rtl_reading.specs.Reads.{ReadsAs}
 use Rattle.verilog_read.specs.Refused.{IsReadAs}
-use Rattle.word_files.specs.RunFiles.{Reads, Fits, TicksFit, ScalarsFit, InputsFit, OutputsFit}
-use Rattle.word_files.specs.declared.run_file.RunFile.{RunFile}
-use Rattle.rtl_ir.specs.declared.interface.Interface.{Interface}
-use Rattle.word_files.specs.declared.error.RunFileError.TheVariants as run_errors
-use Rattle.rtl_ir.specs.Interfaces.{shape_of}
-use Rattle.rtl_ir.specs.Ports.{Shape}
-use Rattle.simulation.specs.Plans.{IsPlanOf, FitsShape, AreApart}
+use Rattle.simulation.specs.Plans.{FitsShape, AreApart}
 use Rattle.maxjc_core.specs.Command.{RunNames}
-use Rattle.maxjc_core.specs.Lines.{Cause, NotJson, RunShape}
 use Rattle.maxjc_core.specs.Loading.{FitTogether, AreRead}
 use Rattle.maxjc_core.specs.RunCauses.{IsFaulty}
 use Rattle.maxjc_core.specs.Stops.{IfRefused}
 use Rattle.maxjc_core.specs.declared.stop.Stop.{Stop}
 use Rattle.maxjc_core.specs.declared.load.Loaded.{Loaded}
-
--- the cause of a run file's bytes
-pub data IsRunFault (bytes : List ℕ) : Cause → Type 0 where
-  not_json : Reads bytes (Err run_errors.NotJson) → IsRunFault bytes NotJson
-  shape : (key : List ℕ) → Reads bytes (Err (run_errors.Shape key)) → IsRunFault bytes (RunShape key)
-
--- a plan of a run file, for the ports of a shape
-pub record IsPlanned (run : RunFile) (s : Shape) (plan : Plan) : Type 0 where
-  pub ports : Interface
-  pub are : shape_of ports ≡ s
-  pub ticks : TicksFit run ports
-  pub scalars : ScalarsFit run ports
-  pub inputs : InputsFit run ports
-  pub outputs : OutputsFit run ports
-  pub planned : IsPlanOf run ports plan
-
--- the cause of a run file that doesn't fit these ports
-pub data IsUnfitFor (run : RunFile) (ports : Interface) : Cause → Type 0 where
-  at_key : (key : List ℕ) → Fits run ports (Err (run_errors.Shape key)) → IsUnfitFor run ports (RunShape key)
-
--- or the ports of a shape
-pub record IsUnfit (run : RunFile) (s : Shape) (cause : Cause) : Type 0 where
-  pub ports : Interface
-  pub are : shape_of ports ≡ s
-  pub unfit : IsUnfitFor run ports cause
 
 -- no other design is read from the text
 abbrev pub IsOnlyDesign : List ℕ → Design → Type 0

@@ -26,6 +26,7 @@ use Rattle.maxjc_core.specs.Lines.{
   TooManyCells,
   NotJson,
   RunShape,
+  TooManyWords,
   BadLine,
   WordRange,
 }
@@ -78,6 +79,7 @@ cause_told (refusals.LinkTooDeep link words) = Some (LinkTooDeep link words)
 cause_told (refusals.Report error) = report_cause error
 cause_told (refusals.Verilog error) = text_cause error
 cause_told (refusals.RunFile error) = run_file_cause error
+cause_told (refusals.TooManyWords words) = Some (TooManyWords words)
 cause_told (refusals.Run stop) = stop_cause stop
 
 -- there is a cause, and this holds of it

@@ -1,51 +1,28 @@
 // Reads a project and a report, and judges the report. No file is changed here.
-ghost use Rattle.std.specs.Prelude.{◌≡◌, ◌<◌, ◌≤◌, ◌^◌, ◌⊎◌, List, ℕ, Err, IfOk, IfErr, length, IsSome};
+ghost use Rattle.std.specs.Prelude.{◌≡◌, ◌<◌, ◌≤◌, ◌^◌, ◌⊎◌, Err, IfOk, IfErr, length, IsSome};
 ghost use Rattle.mx_base.specs.Counts.{Rose};
 ghost use Rattle.mx_base.specs.Files.{Lacks};
 ghost use Rattle.maxjc_core.specs.Causes.{file_limit};
-ghost use Rattle.maxjc_core.specs.CheckCauses.{IsOfCheck, CheckStands, LacksChecked};
+ghost use Rattle.maxjc_core.specs.CheckCauses.{IsOfCheck, IsInputTooLarge, CheckStands, LacksChecked};
 ghost use Rattle.maxjc_core.specs.Checking.{Checks, IsChecked};
 ghost use Rattle.maxjc_core.specs.CheckStops.{AreInputs};
 ghost use Rattle.maxjc_core.specs.Named.{check_told};
-ghost use Rattle.maxjc_core.specs.Projects.{IsProjectOf};
 ghost use Rattle.maxjc_core.specs.Stops.{IfRefused};
 
 use crate::command::Check;
 use crate::files::{FILE_LIMIT, read_file};
-use crate::project::{ProjectBytes, make_project, read_project};
+use crate::project::{ProjectBytes, read_project};
+use crate::shown::show_report;
 use crate::stop::Stop;
-use crate::stops::report_stop;
 use crate::summary::least_lines;
-use latency_table::Table;
-use manager_links::Project;
 use mx_base::Files;
-use project_check::check_report;
 use std::alloc::Global;
 
 /// The bytes of a project and of a report.
 #[derive(Drop)]
-struct Inputs {
-    project: ProjectBytes,
-    report: Vec<u8>,
-}
-
-// What is said of a report on a project, or why it is refused.
-fn check_project<'a>(
-    alloc: Global,
-    project: &Project,
-    latencies: &Table,
-    report: &[u8],
-) -> Result<Vec<u8>, Stop<'a>>
-    ensures checked { (source table : List ℕ) → IsProjectOf source table project.now latencies.now
-        → IfOk result (λ line. Checks source table report.now line.items) }
-    ensures refused { (source table : List ℕ) → IsProjectOf source table project.now latencies.now
-        → IfErr result (λ stop. IfRefused stop (IsOfCheck source table report.now)) }
-    ensures no_read { result ≡ Err Stop.ReadFault → ⊥ }
-{
-    match check_report(alloc, project.kernels(), latencies, report) {
-        Ok(shown) => Ok(least_lines(alloc, shown.kernels.as_slice())?),
-        Err(error) => Err(report_stop(error)),
-    }
+pub struct Inputs {
+    pub project: ProjectBytes,
+    pub report: Vec<u8>,
 }
 
 // What is said of the bytes of a source, of a latency table and of a report, or why they are
@@ -61,14 +38,14 @@ fn check_bytes<'a>(
     ensures refused { IfErr result (λ stop. IfRefused stop (IsOfCheck source.now table.now report.now)) }
     ensures no_read { result ≡ Err Stop.ReadFault → ⊥ }
 {
-    match make_project(alloc, source, table) {
-        Ok(made) => check_project(alloc, &made.project, &made.latencies, report),
+    match show_report(alloc, source, table, report) {
+        Ok(shown) => Ok(least_lines(alloc, shown.report.kernels.as_slice())?),
         Err(stop) => Err(stop),
     }
 }
 
-// Reads a project and then a report, each whole.
-fn read_inputs<'a, F: Files>(
+/// Reads a project and then a report, each whole.
+pub fn read_inputs<'a, F: Files>(
     alloc: Global,
     files: &mut F,
     names: Check<'a>,
@@ -86,7 +63,7 @@ fn read_inputs<'a, F: Files>(
         → AreInputs (check_told names.entry) (F.held files.old) i.project.source.items i.project.table.items i.report.items) }
     ensures fits { IfOk result (λ i. length i.project.source.items ≤ file_limit) }
     ensures refused { IfErr result (λ stop. IfRefused stop (λ cause. IsSome (F.held files.old)
-        → CheckStands (check_told names.entry) (F.held files.old) cause)) }
+        → IsInputTooLarge (check_told names.entry) (F.held files.old) cause)) }
 {
     let project = match read_project(alloc, files, names.source, names.table) {
         Ok(project) => project,

@@ -2,7 +2,6 @@
 ghost use Rattle.std.specs.Prelude.{◌≡◌, ◌⊎◌, IsSome};
 ghost use Rattle.mx_base.specs.Counts.{Rose};
 ghost use Rattle.mx_base.specs.Files.{Lacks};
-ghost use Rattle.maxjc_core.specs.Command.{said_more};
 ghost use Rattle.maxjc_core.specs.Lines.{Cause};
 ghost use Rattle.maxjc_core.specs.CheckCauses.{CheckStands, LacksChecked};
 ghost use Rattle.maxjc_core.specs.Checking.{IsGood};
@@ -13,23 +12,10 @@ ghost use Rattle.maxjc_core.specs.Ends.{IsQuiet, IsSilent, IsCutOff};
 use crate::Status;
 use crate::check::check;
 use crate::command::Check;
-use crate::saying::refuse;
+use crate::saying::{confirm, refuse};
 use crate::stop::Stop;
 use mx_base::{Files, Say};
 use std::alloc::Global;
-
-// Says the lines of a report that is shown.
-fn confirm<S: Say>(say: &mut S, line: &[u8]) -> Status
-    ensures ends { (result ≡ Status.Done) ⊎ (result ≡ Status.WriteFault) }
-    ensures said { result ≡ Status.Done → S.said say.new ≡ said_more (S.said say.old) line.now }
-    ensures quiet { result ≡ Status.Done → S.say_faults say.new ≡ S.say_faults say.old }
-    ensures fault { result ≡ Status.WriteFault → Rose (S.say_faults say.old) (S.say_faults say.new) }
-{
-    match say.say(line) {
-        Ok(()) => Status::Done,
-        Err(_) => Status::WriteFault,
-    }
-}
 
 /// Checks a report on a project: reads their files, judges the report, and says what it shows. It
 /// changes no file.

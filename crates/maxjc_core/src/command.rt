@@ -29,11 +29,19 @@ pub struct Check<'a> {
     pub report: &'a Text,
 }
 
+/// The files of `expect`: those of `check`, and a run file.
+#[derive(Clone, Copy)]
+pub struct Expect<'a> {
+    pub check: Check<'a>,
+    pub run: &'a Text,
+}
+
 /// A command.
 #[derive(Clone, Copy)]
 pub enum Command<'a> {
     Compile(Compile<'a>),
     Simulate(Simulate<'a>),
+    Expect(Expect<'a>),
     Check(Check<'a>),
 }
 
@@ -45,13 +53,22 @@ pub fn parse_command(words: &[Text]) -> Option<Command<'_>>
     ensures none { IfNone result (command_of words.now ≡ None) }
 {
     match words {
-        [word, source, table, output, report] => {
-            if word.is(b"compile") && !output.is(report.as_bytes()) {
+        [word, source, table, third, fourth] => {
+            if word.is(b"compile") && !third.is(fourth.as_bytes()) {
                 Some(Command::Compile(Compile {
                     source,
                     table,
-                    output,
-                    report,
+                    output: third,
+                    report: fourth,
+                }))
+            } else if word.is(b"expect") {
+                Some(Command::Expect(Expect {
+                    check: Check {
+                        source,
+                        table,
+                        report: third,
+                    },
+                    run: fourth,
                 }))
             } else {
                 None

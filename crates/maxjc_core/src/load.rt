@@ -1,20 +1,16 @@
 // Reads a text and a run file that fits its design. No file is changed here.
-ghost use Rattle.std.specs.Prelude.{◌≡◌, ◌⊎◌, ◌<◌, ◌^◌, ℕ, List, Some, Ok, Err, IfOk, OnOk, IfErr, length, map};
+ghost use Rattle.std.specs.Prelude.{◌≡◌, ◌⊎◌, ◌<◌, ◌^◌, Some, Err, IfOk, IfErr, length};
 ghost use Rattle.mx_base.specs.Counts.{Rose};
-ghost use Rattle.mx_base.specs.Files.{Name, Lacks};
+ghost use Rattle.mx_base.specs.Files.{Lacks};
 ghost use Rattle.rtl_ir.specs.declared.design.Design.{Design};
 ghost use Rattle.rtl_ir.specs.declared.design.Module.{Module};
 ghost use Rattle.rtl_ir.specs.Flat.{top_of};
-ghost use Rattle.rtl_ir.specs.Interfaces.{IsInterface, shape_of};
-ghost use Rattle.rtl_ir.specs.Rules.{AllDiffer};
-ghost use Rattle.serde_json.specs.Data.{Data};
+ghost use Rattle.rtl_ir.specs.Interfaces.{IsInterface};
 ghost use Rattle.verilog_read.specs.Refused.{Refuses, IsReadAs};
 ghost use Rattle.verilog_read.specs.declared.error.VerilogError.{VerilogError};
-ghost use Rattle.word_files.specs.RunFiles.{Reads, IsRunFile, Fits};
-ghost use Rattle.simulation.specs.Plans.{FitsShape, AreApart};
 ghost use Rattle.maxjc_core.specs.Lines.{Cause};
 ghost use Rattle.maxjc_core.specs.Loading.{IsLoaded, FitTogether};
-ghost use Rattle.maxjc_core.specs.LoadStops.{LoadAnswers, CanRun, FitAs, IsOnlyDesign, IsRunFault, IsPlanned, IsUnfit, IsUnfitFor};
+ghost use Rattle.maxjc_core.specs.LoadStops.{LoadAnswers, CanRun, FitAs, IsOnlyDesign};
 ghost use Rattle.maxjc_core.specs.Named.{run_told};
 ghost use Rattle.maxjc_core.specs.RunCauses.{IsFaulty, BreaksForm, LacksFile, text_cause};
 ghost use Rattle.maxjc_core.specs.Stops.{IfRefused};
@@ -22,14 +18,14 @@ ghost use Rattle.maxjc_core.specs.Stops.{IfRefused};
 use crate::command::Simulate;
 use crate::files::{FILE_LIMIT, TEXT_LIMIT, read_file};
 use crate::refusal::Refusal;
+use crate::run_file::{plan_for, run_of};
 use crate::stop::Stop;
 use mx_base::Files;
 use rtl_ir::{Design, Interface, Module};
-use simulation::{Plan, plan_of};
+use simulation::Plan;
 use std::alloc::Global;
 use top_ports::interface;
 use verilog_read::{VerilogError, read};
-use word_files::{RunFile, RunFileError};
 
 /// A design, the ports of its top module, and what its run is handed.
 #[derive(Drop)]
@@ -58,57 +54,12 @@ fn design_of<'a>(alloc: Global, text: &[u8]) -> Result<Design, Stop<'a>>
     }
 }
 
-// What the bytes of a run file say.
-fn run_of<'a>(alloc: Global, bytes: &[u8]) -> Result<RunFile, Stop<'a>>
-    ensures read { IfOk result (λ run. Reads bytes.now (Ok run)) }
-    ensures refused { IfErr result (λ stop. IfRefused stop (IsRunFault bytes.now)) }
-    ensures no_fault { result ≡ Err Stop.ReadFault → ⊥ }
-{
-    match RunFile::read(alloc, bytes) {
-        Ok(run) => Ok(run),
-        Err(error) => match error {
-            RunFileError::NoMemory => Err(Stop::NoMemory),
-            fault => Err(Stop::Refused(Refusal::RunFile(fault))),
-        },
-    }
-}
-
 // The top module of a design, which is the last one.
 fn top(design: &Design) -> &Module
     requires { (m : Module) × (top_of design.now ≡ Some m) }
     ensures { top_of design.now ≡ Some result.now }
 {
     design.modules.at(design.modules.len() - 1)
-}
-
-// Tests a run file beside the ports of a design.
-fn fit_for<'a>(alloc: Global, run: &RunFile, ports: &Interface) -> Result<(), Stop<'a>>
-    ensures fits { OnOk result (Fits run.now ports.now (Ok tt)) }
-    ensures unfit { IfErr result (λ stop. IfRefused stop (IsUnfitFor run.now ports.now)) }
-    ensures no_fault { result ≡ Err Stop.ReadFault → ⊥ }
-{
-    match run.fit(alloc, ports) {
-        Ok(()) => Ok(()),
-        Err(error) => match error {
-            RunFileError::NoMemory => Err(Stop::NoMemory),
-            fault => Err(Stop::Refused(Refusal::RunFile(fault))),
-        },
-    }
-}
-
-// What a run file hands to a run of a design, where it fits the ports.
-fn plan_for<'a>(alloc: Global, ports: &Interface, run: &RunFile) -> Result<Plan, Stop<'a>>
-    ensures planned { IfOk result (λ plan. IsPlanned run.now (shape_of ports.now) plan) }
-    ensures unfit { IfErr result (λ stop. IfRefused stop (IsUnfit run.now (shape_of ports.now))) }
-    ensures fits { (d : Data) → IsRunFile d run.now → IfOk result (λ plan. FitsShape plan (shape_of ports.now)) }
-    ensures apart { (d : Data) → IsRunFile d run.now
-        → AllDiffer (map (λ (y : Name × ℕ). y.0) (shape_of ports.now).outputs) → IfOk result (λ plan. AreApart plan) }
-    ensures no_fault { result ≡ Err Stop.ReadFault → ⊥ }
-{
-    match fit_for(alloc, run, ports) {
-        Ok(()) => Ok(plan_of(alloc, run, ports)?),
-        Err(stop) => Err(stop),
-    }
 }
 
 // The design of a text and the plan of a run file that fits it.

@@ -14,6 +14,7 @@ use project_check::CheckError;
 use refusal_line::{Value, refusal_line};
 use simulation::Stop;
 use std::alloc::Global;
+use stream_expect::ExpectError;
 use verilog_read::VerilogError;
 use word_files::RunFileError;
 
@@ -41,7 +42,9 @@ pub enum Refusal<'a> {
     Verilog(VerilogError),
     /// U1 and U2: why the run file isn't of its form, or doesn't fit the ports.
     RunFile(RunFileError),
-    /// V5, U3 and U4: why the run stopped.
+    /// X1: the kernels have so many words in the run, one for each node in each tick.
+    TooManyWords(u128),
+    /// V5, U3 and U4: why the run stopped, or the first line of an input file that says no word.
     Run(Stop),
 }
 
@@ -66,6 +69,7 @@ impl<'a> Refusal<'a> {
             Refusal::Report(error) => error.line(alloc),
             Refusal::Verilog(error) => error.line(alloc),
             Refusal::RunFile(error) => error.line(alloc),
+            Refusal::TooManyWords(words) => ExpectError::TooLarge(*words).line(alloc),
             Refusal::Run(stop) => stop.line(alloc),
         }
     }

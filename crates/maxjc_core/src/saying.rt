@@ -26,6 +26,19 @@ pub fn say_usage<S: Say>(say: &mut S) -> Status
     }
 }
 
+/// Says what a command that did its work has to say.
+pub fn confirm<S: Say>(say: &mut S, line: &[u8]) -> Status
+    ensures ends { (result ≡ Status.Done) ⊎ (result ≡ Status.WriteFault) }
+    ensures said { result ≡ Status.Done → S.said say.new ≡ said_more (S.said say.old) line.now }
+    ensures quiet { result ≡ Status.Done → S.say_faults say.new ≡ S.say_faults say.old }
+    ensures fault { result ≡ Status.WriteFault → Rose (S.say_faults say.old) (S.say_faults say.new) }
+{
+    match say.say(line) {
+        Ok(()) => Status::Done,
+        Err(_) => Status::WriteFault,
+    }
+}
+
 /// Says why the files of a command are refused.
 pub fn refuse<S: Say>(alloc: Global, say: &mut S, refusal: &Refusal<'_>) -> Status
     ensures ends { (result ≡ Status.Refused) ⊎ ((result ≡ Status.WriteFault) ⊎ (result ≡ Status.NoMemory)) }

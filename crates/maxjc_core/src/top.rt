@@ -1,17 +1,19 @@
 // The top call.
 ghost use Rattle.std.specs.Prelude.{◌≡◌, ◌⊎◌, None, Some};
 ghost use Rattle.stall_source.specs.Stalls.{IsDecided, IsFreeAtZero};
-ghost use Rattle.maxjc_core.specs.Command.{Names, RunNames, CheckNames, Compile, Simulate, Check, command_of, usage_line, said_more};
+ghost use Rattle.maxjc_core.specs.Command.{Names, RunNames, ExpectNames, CheckNames, Compile, Simulate, Expect, Check, command_of, usage_line, said_more};
 ghost use Rattle.maxjc_core.specs.Outside.{outside};
 ghost use Rattle.maxjc_core.specs.Ends.{EndsAll};
 ghost use Rattle.maxjc_core.specs.CompileEnds.{EndsCompile};
 ghost use Rattle.maxjc_core.specs.SimulateEnds.{EndsSimulate};
+ghost use Rattle.maxjc_core.specs.ExpectEnds.{EndsExpect};
 ghost use Rattle.maxjc_core.specs.CheckEnds.{EndsCheck};
 
 use crate::Status;
 use crate::check_command::run_check;
 use crate::command::{Command, parse_command};
 use crate::compile_command::run_compile;
+use crate::expect_command::run_expect;
 use crate::saying::say_usage;
 use crate::simulate_command::run_simulate;
 use mx_base::{Files, Say, Text};
@@ -55,6 +57,13 @@ pub fn maxjc<F: Files, S: Say, G: Fn(u64, u64, u32) -> bool>(
         (outside (F.held files.new) (F.read_faults files.new) (F.write_faults files.new)
         (S.said say.new) (S.say_faults say.new))
         result }
+    ensures expect { (names : ExpectNames) → command_of words.now.items ≡ Some (Expect names)
+        → EndsExpect names
+        (outside (F.held files.old) (F.read_faults files.old) (F.write_faults files.old)
+        (S.said say.old) (S.say_faults say.old))
+        (outside (F.held files.new) (F.read_faults files.new) (F.write_faults files.new)
+        (S.said say.new) (S.say_faults say.new))
+        result }
     ensures check { (names : CheckNames) → command_of words.now.items ≡ Some (Check names)
         → EndsCheck names
         (outside (F.held files.old) (F.read_faults files.old) (F.write_faults files.old)
@@ -75,6 +84,7 @@ pub fn maxjc<F: Files, S: Say, G: Fn(u64, u64, u32) -> bool>(
         None => say_usage(say),
         Some(Command::Compile(names)) => run_compile(alloc, files, say, names),
         Some(Command::Simulate(names)) => run_simulate(alloc, files, say, names, stalls),
+        Some(Command::Expect(names)) => run_expect(alloc, files, say, names),
         Some(Command::Check(names)) => run_check(alloc, files, say, names),
     }
 }

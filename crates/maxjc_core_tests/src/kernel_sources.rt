@@ -221,3 +221,13 @@ pub(crate) const SECOND: &[u8] = b"class Second extends Kernel {
   }
 }
 ";
+
+// The words before a word that is 0.
+pub(crate) const PEEK: &[u8] = b"class Peek extends Kernel {
+  Peek(KernelParameters p) {
+    super(p);
+    DFEVar x = io.input(\"x\", dfeUInt(8));
+    io.output(\"y\", x, dfeUInt(8), stream.offset(x, 1) === 0);
+  }
+}
+";

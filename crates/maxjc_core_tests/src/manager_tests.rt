@@ -28,7 +28,7 @@ class M extends CustomManager {
 ";
 
 // A kernel twice, one behind the other.
-const CHAIN: &[u8] = b"class Pass extends Kernel {
+pub(crate) const CHAIN: &[u8] = b"class Pass extends Kernel {
   Pass(KernelParameters p) {
     super(p);
     DFEVar x = io.input(\"x\", dfeUInt(8));
@@ -49,7 +49,7 @@ class M extends CustomManager {
 
 // A kernel that splits its input into two streams, the first one as this expression says, the second
 // one so many words ahead, and one that adds them up.
-fn split_and_add(alloc: Global, first: &str, ahead: u32) -> Result<Vec<u8>, Fail> {
+pub(crate) fn split_and_add(alloc: Global, first: &str, ahead: u32) -> Result<Vec<u8>, Fail> {
     let source = format!(in alloc;
         "class Split extends Kernel {{
   Split(KernelParameters p) {{

@@ -126,12 +126,14 @@ fn sources_are_refused(rt: HostRuntime) -> Result<(), Fail> {
 #[test]
 fn words_that_are_no_command(rt: HostRuntime) -> Result<(), Fail> {
     let alloc = rt.alloc();
-    let lines: [&[&[u8]]; 6] = [
+    let lines: [&[&[u8]]; 8] = [
         &[],
         &[b"simulate", b"a"],
         &[b"simulate", b"a", b"b", b"c"],
         &[b"compile", b"a", b"b", b"c", b"c"],
         &[b"compile", b"a", b"b", b"c"],
+        &[b"expect", b"a", b"b", b"c"],
+        &[b"expect", b"a", b"b", b"c", b"d", b"e"],
         &[b"generate", b"4294967296"],
     ];
     for line in lines {

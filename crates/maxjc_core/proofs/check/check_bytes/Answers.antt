@@ -1,12 +1,12 @@
-use Rattle.maxjc_core.proofs.Checking.{of-project}
+use Rattle.std.proofs.Common.{◌∙◌, ap}
+use Rattle.std.specs.List.{flat_map}
+use Rattle.maxjc_core.specs.Checking.{least_line}
+use Rattle.maxjc_core.proofs.Checking.{showing}
 use Rattle.maxjc_core.proofs.check.check_bytes.Goals as goal
 
-pub returns-in-Ok-clause-checked : goal.returns-in-Ok-clause-checked
-returns-in-Ok-clause-checked c = c.check_project.ensures.checked c.args.source.now c.args.table.now c.in-Ok.ensures.made
-
-pub returns-in-Ok-clause-refused : goal.returns-in-Ok-clause-refused
-returns-in-Ok-clause-refused c = c.check_project.ensures.refused c.args.source.now c.args.table.now c.in-Ok.ensures.made
-
-pub returns-in-Err-clause-refused : goal.returns-in-Err-clause-refused
-returns-in-Err-clause-refused c =
-    of-project c.args.source.now c.args.table.now c.args.report.now c.in-Err.stop c.in-Err.ensures.refused
+pub returns-in_ok-least_lines-in-Ok-clause-checked : goal.returns-in_ok-least_lines-in-Ok-clause-checked
+returns-in_ok-least_lines-in-Ok-clause-checked c = record {
+  shows = showing c.args.source.now c.args.table.now c.args.report.now c.in-Ok.shown.project
+      c.in-Ok.shown.report c.in-Ok.ensures.shows;
+  said = c.in_ok-least_lines-in-Ok.ensures ∙ ap (flat_map least_line) c.as_slice.ensures;
+}

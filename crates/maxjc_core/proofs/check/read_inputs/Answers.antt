@@ -2,7 +2,7 @@ use Rattle.std.proofs.Common.{inl, inr, ⊎_elim}
 use Rattle.std.specs.Prelude.{IsSome}
 use Rattle.mx_base.specs.Files.{Held}
 use Rattle.maxjc_core.specs.Causes.{file_limit, IsTooLarge}
-use Rattle.maxjc_core.specs.CheckCauses.{CheckStands}
+use Rattle.maxjc_core.specs.CheckCauses.{IsInputTooLarge}
 use Rattle.maxjc_core.specs.Named.{check_told}
 use Rattle.maxjc_core.proofs.Answering.{readable}
 use Rattle.maxjc_core.proofs.CheckExclusion.{missing_inputs, report_fault}
@@ -22,8 +22,8 @@ returns-in-Err-clause-refused g c =
     let names = check_told c.args.names in
     let held : Held = g.F.Files.held c.args.files.now in
     refused-so c.in-Err.stop (λ cause. IsSome held → IsTooLarge names.source names.table held cause)
-    (λ cause. IsSome held → CheckStands names held cause)
-    (λ cause is told. CheckStands.too_large cause (is told)) c.in-Err.ensures.refused
+    (λ cause. IsSome held → IsInputTooLarge names held cause)
+    (λ cause is told. IsInputTooLarge.project cause (is told)) c.in-Err.ensures.refused
 
 pub returns-in-Ok-read_file-clause-read : goal.returns-in-Ok-read_file-clause-read
 returns-in-Ok-read_file-clause-read g c = λ told.
@@ -40,10 +40,10 @@ returns-in-Err-read_file-clause-refused g c =
     let names = check_told c.args.names in
     let held : Held = g.F.Files.held c.args.files.now in
     let same = c.in-Ok.ensures.same in
-    read_stops file_limit held names.report c.in-Err-read_file.stop (CheckStands names held) c.in-Err-read_file.ensures.refused
+    read_stops file_limit held names.report c.in-Err-read_file.stop (IsInputTooLarge names held) c.in-Err-read_file.ensures.refused
     (λ file holds. c.in-Err-read_file.ensures.too_large file (rw same holds))
     (λ l. let e = c.in-Err-read_file.ensures.lacking (rw same l) in cc)
-    (λ told past. CheckStands.report_too_large (record {
+    (λ told past. IsInputTooLarge.report (record {
       project = readable names.source names.table held _ _ (c.in-Ok.ensures.read told);
       then_report = past;
     }))

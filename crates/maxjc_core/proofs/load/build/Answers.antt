@@ -6,7 +6,7 @@ use Rattle.rtl_ir.specs.Ports.{Shape}
 use Rattle.rtl_ir.specs.Rules.{AllDiffer}
 use Rattle.simulation.specs.Plans.{FitsShape}
 use Rattle.maxjc_core.specs.Stops.{IfRefused}
-use Rattle.maxjc_core.specs.LoadStops.{IsRunFault, IsUnfit, IsPlanned}
+use Rattle.maxjc_core.specs.RunFiles.{IsRunFault, IsUnfit, IsPlanned}
 use Rattle.maxjc_core.specs.RunCauses.{BreaksForm}
 use Rattle.simulation.proofs.OutputNames.{names_differ}
 use Rattle.maxjc_core.proofs.RunExclusion.{fit_apart, run_not_refused, plan_not_refused}

@@ -1,12 +1,13 @@
 use Rattle.std.proofs.Common.{◌≡◌, Some, subst}
 use Rattle.stall_source.specs.Stalls.{Answers}
-use Rattle.maxjc_core.specs.Command.{Names, RunNames, CheckNames, Compile, Simulate, Check, command_of}
+use Rattle.maxjc_core.specs.Command.{Names, RunNames, ExpectNames, CheckNames, Compile, Simulate, Expect, Check, command_of}
 use Rattle.maxjc_core.specs.CompileEnds.{EndsCompile}
 use Rattle.maxjc_core.specs.CheckEnds.{EndsCheck}
-use Rattle.maxjc_core.specs.Named.{names_told, run_told, check_told}
+use Rattle.maxjc_core.specs.ExpectEnds.{EndsExpect}
+use Rattle.maxjc_core.specs.Named.{names_told, run_told, expect_told, check_told}
 use Rattle.maxjc_core.specs.Outside.{Outside, outside}
 use Rattle.maxjc_core.specs.SimulateEnds.{EndsSimulate}
-use Rattle.maxjc_core.proofs.OneCommand.{same_names, same_run_names, same_check_names}
+use Rattle.maxjc_core.proofs.OneCommand.{same_names, same_run_names, same_expect_names, same_check_names}
 use Rattle.maxjc_core.proofs.top.maxjc.Goals as goal
 
 pub returns-in-Some-Compile-clause-compile : goal.returns-in-Some-Compile-clause-compile
@@ -58,6 +59,27 @@ returns-in-Some-Simulate-clause-simulate g c = λ names is.
       leaves = e.leaves;
     } in
     subst (λ (n : RunNames). EndsSimulate stalls n before after c.run_simulate.result) same ends
+
+pub returns-in-Some-Expect-clause-expect : goal.returns-in-Some-Expect-clause-expect
+returns-in-Some-Expect-clause-expect g c = λ names is.
+    let told : command_of c.args.words.now.items ≡ Some (Expect (expect_told c.in-Some-Expect.names)) = rw (c.deref.ensures.value, c.in-Some-Expect.field-0-is) at c.in-Some-Expect.ensures.some in
+    let same = same_expect_names c.args.words.now.items (expect_told c.in-Some-Expect.names) names told is in
+    let before : Outside = outside (g.F.Files.held c.args.files.now) (g.F.Files.read_faults c.args.files.now) (g.F.Files.write_faults c.args.files.now) (g.S.Say.said c.args.say.now) (g.S.Say.say_faults c.args.say.now) in
+    let after : Outside = outside (g.F.Files.held c.run_expect.new.files) (g.F.Files.read_faults c.run_expect.new.files) (g.F.Files.write_faults c.run_expect.new.files) (g.S.Say.said c.run_expect.new.say) (g.S.Say.say_faults c.run_expect.new.say) in
+    let e = c.run_expect.ensures in
+    let ends : EndsExpect (expect_told c.in-Some-Expect.names) before after c.run_expect.result = record {
+      done = e.done;
+      refused = e.refused;
+      stands = e.stands;
+      expected = e.expected;
+      read_fault = e.read_fault;
+      missing = e.missing;
+      missing_quiet = e.missing_quiet;
+      files_same = e.files_same;
+      others = e.others;
+      no_edges = e.no_edges;
+    } in
+    subst (λ (n : ExpectNames). EndsExpect n before after c.run_expect.result) same ends
 
 pub returns-in-Some-Check-clause-check : goal.returns-in-Some-Check-clause-check
 returns-in-Some-Check-clause-check g c = λ names is.

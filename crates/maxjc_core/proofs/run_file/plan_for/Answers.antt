@@ -1,8 +1,8 @@
 use Rattle.rtl_ir.specs.Interfaces.{shape_of}
 use Rattle.std.proofs.Common.{refl}
-use Rattle.maxjc_core.specs.LoadStops.{IsUnfit, IsUnfitFor}
+use Rattle.maxjc_core.specs.RunFiles.{IsUnfit, IsUnfitFor}
 use Rattle.maxjc_core.proofs.RunReading.{refused_so}
-use Rattle.maxjc_core.proofs.load.plan_for.Goals as goal
+use Rattle.maxjc_core.proofs.run_file.plan_for.Goals as goal
 
 pub returns-in-Err-clause-unfit : goal.returns-in-Err-clause-unfit
 returns-in-Err-clause-unfit c =

@@ -1,0 +1,464 @@
+// What `expect` writes and says of runs, and what it refuses.
+use crate::kernel_sources::{GUARD, NEXT, PEEK, QUOT, SHIFTED};
+use crate::kernel_tests::compiled;
+use crate::manager_tests::{CHAIN, split_and_add};
+use crate::tests::{DOUBLE, IMMEDIATE, run, text, words};
+use maxjc_core::Status;
+use mx_base::{MemFiles, MemSay, read_whole};
+use std::alloc::Global;
+use std::process::Abort;
+use std::test::Fail;
+
+// A file by its name, and what it holds.
+type File<'a> = (&'a [u8], &'a [u8]);
+
+// A run of a source: what `compile` says of the source, the run file and the input files, how
+// `expect` ends and what it says, and what the output files hold then.
+#[derive(Clone, Copy)]
+struct Row<'a> {
+    source: &'a [u8],
+    compiled: &'a [u8],
+    run: &'a [u8],
+    inputs: &'a [File<'a>],
+    status: Status,
+    said: &'a [u8],
+    outputs: &'a [File<'a>],
+}
+
+const DOUBLED: Row<'static> = Row {
+    source: DOUBLE,
+    compiled: b"kernel Double fifo 0\n",
+    run: b"{\"ticks\":{\"Double\":2},\"inputs\":{\"x\":\"x.txt\"},\"outputs\":{\"y\":\"y.txt\"},\"edges\":1000}",
+    inputs: &[(b"x.txt", b"80\nff\n")],
+    status: Status::Done,
+    said: b"guarded\nbalanced\n",
+    outputs: &[(b"y.txt", b"00\nfe\n")],
+};
+
+// The report that `compile` writes of the source of a row.
+fn report_of(rt: &impl Abort, alloc: Global, row: &Row<'_>) -> Result<Vec<u8>, Fail> {
+    let mut files = compiled(rt, alloc, row.source, IMMEDIATE, row.compiled)?;
+    Ok(read_whole(alloc, &mut files, &text(alloc, b"report")?, 1_000_000)?)
+}
+
+// Files in memory that hold a row, this report, output files of an earlier run and one more file,
+// and fail at these calls.
+fn held(alloc: Global, row: &Row<'_>, report: &[u8], fails: &[u64]) -> Result<MemFiles, Fail> {
+    let mut files = MemFiles::new(alloc, fails.to_vec(alloc)?)?;
+    files.put(&text(alloc, b"source")?, row.source)?;
+    files.put(&text(alloc, b"table")?, IMMEDIATE)?;
+    files.put(&text(alloc, b"report")?, report)?;
+    files.put(&text(alloc, b"run")?, row.run)?;
+    files.put(&text(alloc, b"other")?, b"as before")?;
+    for (name, words) in row.inputs {
+        files.put(&text(alloc, name)?, words)?;
+    }
+    for (name, _) in row.outputs {
+        files.put(&text(alloc, name)?, b"as before")?;
+    }
+    Ok(files)
+}
+
+// Runs `expect` on the files of a row.
+fn run_expect(alloc: Global, files: &mut MemFiles, say: &mut MemSay) -> Result<Status, Fail> {
+    let line = words(alloc, &[b"expect", b"source", b"table", b"report", b"run"])?;
+    Ok(run(alloc, &line, files, say))
+}
+
+// A file holds these bytes.
+fn expect_file(
+    rt: &impl Abort,
+    alloc: Global,
+    files: &mut MemFiles,
+    name: &[u8],
+    bytes: &[u8],
+) -> Result<(), Fail> {
+    let held = read_whole(alloc, files, &text(alloc, name)?, 1_000_000)?;
+    assert_eq!(rt; held.as_slice(), bytes, "{:?}", text(alloc, name)?);
+    Ok(())
+}
+
+// How `expect` ends with a row and this report, what is said, and what the files hold then.
+fn expect_with(rt: &impl Abort, alloc: Global, row: &Row<'_>, report: &[u8]) -> Result<(), Fail> {
+    let mut files = held(alloc, row, report, &[])?;
+    let mut say = MemSay::new(alloc, Vec::new(alloc))?;
+    let ended = run_expect(alloc, &mut files, &mut say)?;
+    assert_eq!(rt; say.bytes(), row.said);
+    assert_eq!(rt; ended, row.status);
+    for (name, bytes) in row.outputs {
+        expect_file(rt, alloc, &mut files, name, bytes)?;
+    }
+    for (name, bytes) in row.inputs {
+        expect_file(rt, alloc, &mut files, name, bytes)?;
+    }
+    expect_file(rt, alloc, &mut files, b"source", row.source)?;
+    expect_file(rt, alloc, &mut files, b"table", IMMEDIATE)?;
+    expect_file(rt, alloc, &mut files, b"report", report)?;
+    expect_file(rt, alloc, &mut files, b"run", row.run)?;
+    expect_file(rt, alloc, &mut files, b"other", b"as before")
+}
+
+// The same with the report that `compile` writes.
+fn expect_row(rt: &impl Abort, alloc: Global, row: &Row<'_>) -> Result<(), Fail> {
+    let report = report_of(rt, alloc, row)?;
+    expect_with(rt, alloc, row, &report)
+}
+
+const ROWS: [Row<'static>; 10] = [
+    DOUBLED,
+    // the last word looks past the end of the run
+    Row {
+        source: NEXT,
+        compiled: b"kernel Next fifo 0\n",
+        run: b"{\"ticks\":{\"Next\":4},\"inputs\":{\"x\":\"x.txt\"},\"outputs\":{\"y\":\"y.txt\"},\"edges\":1000000}",
+        inputs: &[(b"x.txt", b"01\n02\n03\n04\n")],
+        status: Status::Done,
+        said: b"guarded\nbalanced\n",
+        outputs: &[(b"y.txt", b"02\n03\n04\nxx\n")],
+    },
+    // there it is not chosen
+    Row {
+        source: GUARD,
+        compiled: b"kernel Guard fifo 0\n",
+        run: b"{\"ticks\":{\"Guard\":4},\"inputs\":{\"x\":\"x.txt\"},\"outputs\":{\"y\":\"y.txt\"},\"edges\":1000000}",
+        inputs: &[(b"x.txt", b"01\n02\n03\n04\n")],
+        status: Status::Done,
+        said: b"guarded\nbalanced\n",
+        outputs: &[(b"y.txt", b"02\n03\n04\n00\n")],
+    },
+    // the second kernel reads a word that the first one doesn't give
+    Row {
+        source: CHAIN,
+        compiled: b"kernel A fifo 0\nkernel B fifo 0\nlink 0 depth 2\n",
+        run: b"{\"ticks\":{\"A\":4,\"B\":5},\"inputs\":{\"x\":\"x.txt\"},\"outputs\":{\"y\":\"y.txt\"},\"edges\":100}",
+        inputs: &[(b"x.txt", b"01\n02\n03\n04\n")],
+        status: Status::Done,
+        said: b"guarded\nunbalanced link 0 dry 4\n",
+        outputs: &[(b"y.txt", b"01\n02\n03\n04\nxx\n")],
+    },
+    // the first kernel gives words that the second one doesn't read: before its tick 6 it has given
+    // 6, of which 4 were read, and 2 have room
+    Row {
+        source: CHAIN,
+        compiled: b"kernel A fifo 0\nkernel B fifo 0\nlink 0 depth 2\n",
+        run: b"{\"ticks\":{\"A\":7,\"B\":4},\"inputs\":{\"x\":\"x.txt\"},\"outputs\":{\"y\":\"y.txt\"},\"edges\":100}",
+        inputs: &[(b"x.txt", b"01\n02\n03\n04\n05\n06\n07\n")],
+        status: Status::Done,
+        said: b"guarded\nunbalanced link 0 full 6\n",
+        outputs: &[(b"y.txt", b"01\n02\n03\n04\n")],
+    },
+    // a control is undefined, and counts as 0
+    Row {
+        source: PEEK,
+        compiled: b"kernel Peek fifo 8\n",
+        run: b"{\"ticks\":{\"Peek\":4},\"inputs\":{\"x\":\"x.txt\"},\"outputs\":{\"y\":\"y.txt\"},\"edges\":1000000}",
+        inputs: &[(b"x.txt", b"01\n02\n03\n04\n")],
+        status: Status::Done,
+        said: b"unguarded kernel Peek node 4 tick 3\nbalanced\n",
+        outputs: &[(b"y.txt", b"")],
+    },
+    // nothing is the quotient by 0
+    Row {
+        source: QUOT,
+        compiled: b"kernel Quot fifo 0\n",
+        run: b"{\"ticks\":{\"Quot\":3},\"inputs\":{\"a\":\"a.txt\",\"b\":\"b.txt\"},\"outputs\":{\"q\":\"q.txt\"},\"edges\":1000000}",
+        inputs: &[(b"a.txt", b"f9\n80\n05\n"), (b"b.txt", b"02\nff\n00\n")],
+        status: Status::Done,
+        said: b"guarded\nbalanced\n",
+        outputs: &[(b"q.txt", b"fd\n80\nxx\n")],
+    },
+    // a word and a scalar
+    Row {
+        source: SHIFTED,
+        compiled: b"kernel Shifted fifo 0\n",
+        run: b"{\"ticks\":{\"Shifted\":3},\"scalars\":{\"Shifted.a\":\"f0\"},\"inputs\":{\"x\":\"x.txt\"},\"outputs\":{\"y\":\"y.txt\"},\"edges\":1000000}",
+        inputs: &[(b"x.txt", b"01\n02\n10\n")],
+        status: Status::Done,
+        said: b"guarded\nbalanced\n",
+        outputs: &[(b"y.txt", b"f1\nf2\n00\n")],
+    },
+    // a line behind those that the run reads counts for nothing
+    Row {
+        inputs: &[(b"x.txt", b"80\nff\n1g\n100\n")],
+        ..DOUBLED
+    },
+    // a word past the end of its file is undefined
+    Row {
+        inputs: &[(b"x.txt", b"80\n")],
+        outputs: &[(b"y.txt", b"00\nxx\n")],
+        ..DOUBLED
+    },
+];
+
+#[test]
+fn words_of_the_equations_are_written(rt: HostRuntime) -> Result<(), Fail> {
+    for row in &ROWS {
+        expect_row(&rt, rt.alloc(), row)?;
+    }
+    Ok(())
+}
+
+// Two kernels, each of which adds a scalar of its own.
+const TWO_SCALARS: &[u8] = b"class Plus extends Kernel {
+  Plus(KernelParameters p) {
+    super(p);
+    DFEVar x = io.input(\"x\", dfeUInt(8));
+    DFEVar a = io.scalarInput(\"a\", dfeUInt(8));
+    io.output(\"y\", x + a, dfeUInt(8));
+  }
+}
+class M extends CustomManager {
+  M(EngineParameters e) {
+    super(e);
+    KernelBlock a = addKernel(new Plus(makeKernelParameters(\"A\")));
+    KernelBlock b = addKernel(new Plus(makeKernelParameters(\"B\")));
+    a.getInput(\"x\") <== addStreamFromCPU(\"x\");
+    addStreamToCPU(\"p\") <== a.getOutput(\"y\");
+    b.getInput(\"x\") <== addStreamFromCPU(\"z\");
+    addStreamToCPU(\"q\") <== b.getOutput(\"y\");
+  }
+}
+";
+
+#[test]
+fn each_kernel_has_its_own_ticks_and_scalars(rt: HostRuntime) -> Result<(), Fail> {
+    let row = Row {
+        source: TWO_SCALARS,
+        compiled: b"kernel A fifo 0\nkernel B fifo 0\n",
+        run: b"{\"ticks\":{\"A\":1,\"B\":2},\"scalars\":{\"A.a\":\"10\",\"B.a\":\"02\"},\"inputs\":{\"x\":\"x.txt\",\"z\":\"z.txt\"},\"outputs\":{\"p\":\"p.txt\",\"q\":\"q.txt\"},\"edges\":100}",
+        inputs: &[(b"x.txt", b"01\n1g\n"), (b"z.txt", b"03\n04\n1g\n")],
+        status: Status::Done,
+        said: b"guarded\nbalanced\n",
+        outputs: &[(b"p.txt", b"11\n"), (b"q.txt", b"05\n06\n")],
+    };
+    expect_row(&rt, rt.alloc(), &row)
+}
+
+const MANY_TICKS: &[u8] =
+    b"{\"ticks\":{\"Double\":1000001},\"inputs\":{\"x\":\"x.txt\"},\"outputs\":{\"y\":\"y.txt\"},\"edges\":1000}";
+
+const TOO_MANY_TICKS: &[u8] =
+    b"{\"ticks\":{\"Double\":6000000},\"inputs\":{\"x\":\"x.txt\"},\"outputs\":{\"y\":\"y.txt\"},\"edges\":1000}";
+
+const NO_TICKS: &[u8] =
+    b"{\"ticks\":{\"Double\":0},\"inputs\":{\"x\":\"x.txt\"},\"outputs\":{\"y\":\"y.txt\"},\"edges\":1000}";
+
+// Whether each line is that of an undefined word of 8 bits.
+fn are_undefined(bytes: &[u8]) -> bool {
+    for place in 0..bytes.len() {
+        let byte = if place % 3 == 2 { b'\n' } else { b'x' };
+        if bytes[place] != byte {
+            return false;
+        }
+    }
+    bytes.len() % 3 == 0
+}
+
+#[test]
+fn a_run_of_a_million_ticks(rt: HostRuntime) -> Result<(), Fail> {
+    let alloc = rt.alloc();
+    let row = Row {
+        run: MANY_TICKS,
+        inputs: &[(b"x.txt", b"")],
+        ..DOUBLED
+    };
+    let report = report_of(&rt, alloc, &row)?;
+    let mut files = held(alloc, &row, &report, &[])?;
+    let mut say = MemSay::new(alloc, Vec::new(alloc))?;
+    let ended = run_expect(alloc, &mut files, &mut say)?;
+    assert_eq!(rt; say.bytes(), b"guarded\nbalanced\n".as_slice());
+    assert_eq!(rt; ended, Status::Done);
+    let y = read_whole(alloc, &mut files, &text(alloc, b"y.txt")?, 10_000_000)?;
+    assert_eq!(rt; y.len(), 3_000_003);
+    assert!(rt; are_undefined(&y));
+    Ok(())
+}
+
+// A refusal of a run of the sum of a word and itself, which leaves its output as it was.
+fn refused<'a>(run: &'a [u8], inputs: &'a [File<'a>], said: &'a [u8]) -> Row<'a> {
+    Row {
+        run,
+        inputs,
+        status: Status::Refused,
+        said,
+        outputs: &[(b"y.txt", b"as before")],
+        ..DOUBLED
+    }
+}
+
+#[test]
+fn runs_are_refused(rt: HostRuntime) -> Result<(), Fail> {
+    let rows = [
+        refused(b"[", DOUBLED.inputs, b"refused U1\n"),
+        refused(
+            b"{\"ticks\":{\"Double\":2},\"inputs\":{\"x\":\"x.txt\"},\"outputs\":{\"y\":\"y.txt\"}}",
+            DOUBLED.inputs,
+            b"refused U2 edges\n",
+        ),
+        refused(
+            b"{\"ticks\":{\"Twice\":2},\"inputs\":{\"x\":\"x.txt\"},\"outputs\":{\"y\":\"y.txt\"},\"edges\":2}",
+            DOUBLED.inputs,
+            b"refused U2 ticks\n",
+        ),
+        // the words are counted before a line is read
+        refused(
+            TOO_MANY_TICKS,
+            &[(b"x.txt", b"1g\n")],
+            b"refused X1 18000000\n",
+        ),
+        refused(DOUBLED.run, &[(b"x.txt", b"1g\n")], b"refused U3 x.txt 1\n"),
+        refused(
+            DOUBLED.run,
+            &[(b"x.txt", b"80\n1g\n")],
+            b"refused U3 x.txt 2\n",
+        ),
+        refused(
+            DOUBLED.run,
+            &[(b"x.txt", b"100\n")],
+            b"refused U4 x.txt 1\n",
+        ),
+        refused(
+            DOUBLED.run,
+            &[(b"x.txt", b"80\n100\n1g\n")],
+            b"refused U4 x.txt 2\n",
+        ),
+    ];
+    for row in &rows {
+        expect_row(&rt, rt.alloc(), row)?;
+    }
+    Ok(())
+}
+
+// A fault of a report comes before one of the run file, and one of the table before both.
+#[test]
+fn causes_come_in_their_order(rt: HostRuntime) -> Result<(), Fail> {
+    let alloc = rt.alloc();
+    let row = refused(b"[", DOUBLED.inputs, b"refused Q1 1\n");
+    expect_with(&rt, alloc, &row, b"no report")?;
+    let row = Row {
+        source: b"class",
+        said: b"refused S3 5\n",
+        ..row
+    };
+    expect_with(&rt, alloc, &row, b"no report")
+}
+
+// A report on the kernels that split a stream and add the parts: at its times one part is read
+// 70,000 edges after the other one.
+const DEEP: &[u8] = b"maxjc-report 1
+kernel A nodes 4 edges 2 bits 0
+time 0
+time 0
+time 0
+time 70000
+flow 8
+flow 8
+flow 0
+flow 0
+kernel B nodes 4 edges 3 bits 0
+time 0
+time 0
+time 0
+time 0
+flow 8
+flow 8
+flow 8
+flow 8
+flow 8
+flow 8
+end
+";
+
+#[test]
+fn links_are_measured_at_the_times_of_the_report(rt: HostRuntime) -> Result<(), Fail> {
+    let alloc = rt.alloc();
+    let source = split_and_add(alloc, "x", 70_000)?;
+    let row = Row {
+        source: &source,
+        compiled: b"",
+        run: b"[",
+        inputs: &[],
+        status: Status::Refused,
+        said: b"refused P6 0 70002\n",
+        outputs: &[(b"y.txt", b"as before")],
+    };
+    expect_with(&rt, alloc, &row, DEEP)?;
+
+    let mut files = held(alloc, &row, DEEP, &[])?;
+    let mut say = MemSay::new(alloc, Vec::new(alloc))?;
+    let check = words(alloc, &[b"check", b"source", b"table", b"report"])?;
+    let ended = run(alloc, &check, &mut files, &mut say);
+    assert_eq!(rt; ended, Status::Done);
+    assert_eq!(rt;
+        say.bytes(),
+        b"kernel A least 0\nkernel B least 0\n".as_slice()
+    );
+    Ok(())
+}
+
+// A file that is to be read isn't held. Of no line of an input file is one read where a kernel has
+// no ticks.
+#[test]
+fn files_that_are_not_held(rt: HostRuntime) -> Result<(), Fail> {
+    let alloc = rt.alloc();
+    let row = Row {
+        inputs: &[],
+        status: Status::ReadFault,
+        said: b"",
+        outputs: &[(b"y.txt", b"as before")],
+        ..DOUBLED
+    };
+    expect_row(&rt, alloc, &row)?;
+    let row = Row {
+        run: NO_TICKS,
+        status: Status::Done,
+        said: b"guarded\nbalanced\n",
+        outputs: &[(b"y.txt", b"")],
+        ..row
+    };
+    expect_row(&rt, alloc, &row)?;
+
+    let mut files = MemFiles::new(alloc, Vec::new(alloc))?;
+    for name in [b"source".as_slice(), b"table", b"report"] {
+        files.put(&text(alloc, name)?, b"")?;
+        let mut say = MemSay::new(alloc, Vec::new(alloc))?;
+        let ended = run_expect(alloc, &mut files, &mut say)?;
+        assert_eq!(rt; ended, Status::ReadFault);
+        assert_eq!(rt; say.bytes(), b"".as_slice());
+    }
+    Ok(())
+}
+
+// The first calls of `expect` are two reads of each of the four files. After those of the input
+// come `create` and `append` of the output.
+#[test]
+fn the_first_call_that_fails_ends_expect(rt: HostRuntime) -> Result<(), Fail> {
+    let alloc = rt.alloc();
+    let report = report_of(&rt, alloc, &DOUBLED)?;
+    let mut writes = 0u64;
+    for call in 1..20 {
+        let mut files = held(alloc, &DOUBLED, &report, &[call])?;
+        let mut say = MemSay::new(alloc, Vec::new(alloc))?;
+        let ended = run_expect(alloc, &mut files, &mut say)?;
+        match ended {
+            Status::ReadFault => {
+                assert_eq!(rt; writes, 0);
+                expect_file(&rt, alloc, &mut files, b"y.txt", b"as before")?;
+            }
+            Status::WriteFault => writes = writes.saturating_add(1),
+            _ => {
+                assert_eq!(rt; ended, Status::Done);
+                assert_eq!(rt; writes, 2);
+            }
+        }
+        assert!(rt; ended == Status::ReadFault || call > 8, "call {call}");
+        assert_eq!(rt; say.bytes().is_empty(), ended != Status::Done);
+    }
+    assert_eq!(rt; writes, 2);
+
+    let mut files = held(alloc, &DOUBLED, &report, &[])?;
+    let mut say = MemSay::new(alloc, [1u64].to_vec(alloc)?)?;
+    let ended = run_expect(alloc, &mut files, &mut say)?;
+    assert_eq!(rt; ended, Status::WriteFault);
+    expect_file(&rt, alloc, &mut files, b"y.txt", b"00\nfe\n")
+}
