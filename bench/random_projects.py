@@ -1,13 +1,16 @@
 #!/usr/bin/env python3
-"""Compares `maxjc compile`, `check` and `simulate` with the stream equations on random projects.
+"""Compares `maxjc compile`, `check`, `expect` and `simulate` with the stream equations on random projects.
 
 A project (bench/project_maker.py) has up to six kernels of all kinds of nodes, linked by splits and joins with and without
 controls, whose ticks are often different, and a random latency table. What `compile` says is to be what bench/join_rules.py
 says, and the depths of links those of docs/HARDWARE.md, worked out here from the times in the report; `check` is to say the same
-bits. Then the text is run by `maxjc simulate`: without stalls, under a pattern of stalls, and with too few words, from random
+bits. `expect` is to write the words of the stream equations, of all words and of too few, and to say where the run is first
+unguarded and first unbalanced.
+
+Then the text is run by `maxjc simulate`: without stalls, under a pattern of stalls, and with too few words, from random
 contents. Where no control and no store is undefined, the words that leave are to be the first of those of the stream equations,
-where an undefined word may be any. Where the run is balanced besides (docs/HARDWARE.md), all words leave where the files have them,
-each has left after its due count of edges in which nothing stalls, and the run is done in time.
+where an undefined word may be any. Where the run is balanced besides (docs/HARDWARE.md), all words leave where the files have
+them, each has left after its due count of edges in which nothing stalls, and the run is done in time.
 
 Where Icarus is installed, one of the guarded runs is made by it too, with the same words and the same end, but for projects with
 quotients of words that Icarus can't divide by 1.
@@ -98,17 +101,25 @@ class Project:
         streams = run.streams.kernels[number]
         return [tick for tick in range(run.ticks[number]) if control is None or streams.word(control, tick) == 1]
 
-    def is_even(self, run, link, depth):
-        """Whether a link is never dry and never full in the ideal run."""
+    def fault(self, run, link, depth):
+        """Where a link is first dry or full in the ideal run, the edge, the side and the tick, or None."""
         (a, output), (b, name) = link
-        written = [self.first_edge(a, "output", output) + tick for tick in self.enabled(run, a, "output", output)]
-        read = [self.first_edge(b, "input", name) + tick for tick in self.enabled(run, b, "input", name)]
-        dry = any(number >= len(written) or written[number] >= edge for number, edge in enumerate(read))
-        full = any(number - sum(other < edge for other in read) >= depth for number, edge in enumerate(written))
-        return not dry and not full
+        write_from, read_from = self.first_edge(a, "output", output), self.first_edge(b, "input", name)
+        written = [write_from + tick for tick in self.enabled(run, a, "output", output)]
+        read = [read_from + tick for tick in self.enabled(run, b, "input", name)]
+        dry = [(edge, "dry", edge - read_from) for number, edge in enumerate(read)
+               if number >= len(written) or written[number] >= edge]
+        full = [(edge, "full", edge - write_from) for number, edge in enumerate(written)
+                if number - sum(other < edge for other in read) >= depth]
+        return min(dry + full, default=None)
 
-    def is_balanced(self, run):
-        return all(self.is_even(run, link, depth) for link, depth in zip(self.ordered_links(), self.depths))
+    def first_fault(self, run):
+        """The first link that is dry or full in the ideal run, with its side and its tick there, or None."""
+        for number, (link, depth) in enumerate(zip(self.ordered_links(), self.depths)):
+            fault = self.fault(run, link, depth)
+            if fault:
+                return number, *fault[1:]
+        return None
 
     def done_count(self, run):
         """The edges after which a balanced run without stalls is done at the latest."""
@@ -147,8 +158,31 @@ def any_run(project):
     scalars = {part.name: {name: any_word(of.width) for name, of in part.maker.scalars.items()} for part in made.kernels}
     by_name = {part.name: count for part, count in zip(made.kernels, ticks)}
     run = Run(ticks, words, scalars, ProjectStreams(made.built, by_name, words, scalars))
-    run.balanced = project.is_balanced(run)
+    run.balanced = project.first_fault(run) is None
     return run
+
+
+def with_words(project, run, words):
+    """The same run with other words of the streams from the CPU."""
+    made = project.made
+    by_name = {part.name: count for part, count in zip(made.kernels, run.ticks)}
+    other = Run(run.ticks, words, run.scalars, ProjectStreams(made.built, by_name, words, run.scalars))
+    other.balanced = project.first_fault(other) is None
+    return other
+
+
+def lines_of(project, run):
+    """The two lines that `expect` is to say of a run."""
+    guarded, balanced = "guarded", "balanced"
+    for part, streams in zip(project.made.kernels, run.streams.kernels):
+        place = streams.unguarded()
+        if place:
+            guarded = f"unguarded kernel {part.name} node {place[0]} tick {place[1]}"
+            break
+    fault = project.first_fault(run)
+    if fault:
+        balanced = "unbalanced link {} {} {}".format(*fault)
+    return [guarded, balanced]
 
 
 # runs of the text
@@ -234,6 +268,36 @@ class Trial:
             fewer = {stream: self.given.words[stream][: random.randrange(len(self.given.words[stream]))] for stream in short}
             yield self.given.words | fewer, self.spec(pattern=random.choice([0, random.randrange(1, 2**64)])), False
 
+    def wrong_expected(self, run):
+        """What is wrong of what `expect` writes and says of a run, if anything is."""
+        self.give(run.words)
+        spec = self.spec()
+        (self.folder / "run.json").write_text(json.dumps(spec))
+        words = [PROGRAM, "expect", "source.maxj", "table.json", "report", "run.json"]
+        done = subprocess.run(words, cwd=self.folder, capture_output=True, text=True)
+        wanted = lines_of(self.project, run)
+        if done.returncode != 0 or done.stdout.split("\n")[:-1] != wanted:
+            return f"expect says {done.stdout}, status {done.returncode}, and not {wanted}, of {json.dumps(spec)} and {run.words}"
+        for stream, listed in run.streams.outputs().items():
+            number, name = self.project.made.to_cpu[stream]
+            width = self.project.made.kernels[number].maker.outputs[name].width
+            right = [undefined_of(width) if word is None else testbench.hex_of(word, width) for word in listed]
+            ours = (self.folder / spec["outputs"][stream]).read_text().splitlines()
+            if ours != right:
+                return f"expect writes {ours} to {stream}, and not {right}, of {json.dumps(spec)} and {run.words}"
+        return None
+
+    def wrong_expect(self, counted):
+        """The same of the run, and of one with too few words."""
+        counted["expected"] += 1
+        wrong = self.wrong_expected(self.given)
+        if wrong or not self.given.words:
+            return wrong
+        fewer = {stream: listed[: random.randrange(len(listed))] for stream, listed in self.given.words.items()}
+        other = with_words(self.project, self.given, fewer)
+        counted["expected"] += 1
+        return self.wrong_expected(other)
+
     def wrong_runs(self):
         divides = any(part.maker.divides_wide for part in self.project.made.kernels)
         beside = random.randrange(3) if shutil.which("iverilog") and self.given.guarded and not divides else None
@@ -265,6 +329,11 @@ class Trial:
                 return f"{line}: output {stream} gave {len(left[stream])} words, and word {place} is due"
             counted["due"] += 1
         return None
+
+
+def undefined_of(width):
+    """An undefined word in a file."""
+    return "x" * -(-width // 4)
 
 
 def wrong_lines(made, project):
@@ -299,7 +368,8 @@ def trial(folder, counted):
     run = any_run(project)
     runs = Trial(project, run, folder)
     try:
-        wrong = wrong_lines(made, project) or wrong_check(made, folder) or runs.wrong_runs() or runs.wrong_due(counted)
+        wrong = wrong_lines(made, project) or wrong_check(made, folder) or runs.wrong_expect(counted)
+        wrong = wrong or runs.wrong_runs() or runs.wrong_due(counted)
     except ValueError as fault:
         wrong = str(fault)
     count_run(made, run, runs, counted)
@@ -326,7 +396,8 @@ def main():
         codes = ", ".join(f"{code} {counted[code]}" for code in ("L1", "C1", "C2", "unguarded", "unbalanced"))
         beside = "and Icarus" if shutil.which("iverilog") else "(Icarus is not installed here)"
         print(f"{count} random projects ({codes}) of {counted['kernels']} compiled kernels with {counted['links']} links: the words of the "
-              f"stream equations {beside}, {counted['defined']} of {counted['words']} defined; {counted['due']} words looked at when they are due")
+              f"stream equations {beside}, {counted['defined']} of {counted['words']} defined; {counted['expected']} runs expected, {counted['due']} words looked at when "
+              "they are due")
     return 1 if count is None else 0
 
 
