@@ -1,10 +1,10 @@
-"""What examples/README.md shows: commands with the lines that they say, and parts of sources."""
+"""What the pages of the examples show: commands with the lines that they say, and parts of sources."""
 import pathlib
 import re
 from dataclasses import dataclass
 
 TOP = pathlib.Path(__file__).resolve().parent.parent
-PAGE = TOP / "examples/README.md"
+PAGES = sorted((TOP / "examples").glob("*/README.md"))
 BLOCK = re.compile(r"^```(\w*)\n(.*?)^```$", re.M | re.S)
 PROGRAM = "./maxjc "
 
@@ -18,9 +18,9 @@ class Command:
 
 
 def commands():
-    """The commands of the page, in order."""
+    """The commands of the pages, page by page, in order."""
     found = []
-    for kind, text in BLOCK.findall(PAGE.read_text()):
+    for kind, text in blocks():
         if kind:
             continue
         for line in text.splitlines():
@@ -29,6 +29,12 @@ def commands():
             elif found:
                 found[-1].lines.append(line)
     return found
+
+
+def blocks():
+    """The blocks of the pages, each with the word at its head; commands have none."""
+    for page in PAGES:
+        yield from BLOCK.findall(page.read_text())
 
 
 def tables():
@@ -44,6 +50,6 @@ def strange_excerpts():
         return "\n".join(line.strip() for line in text.splitlines() if line.strip())
 
     sources = [plain(path.read_text()) for path in TOP.glob("examples/*/*.maxj")]
-    for kind, text in BLOCK.findall(PAGE.read_text()):
+    for kind, text in blocks():
         if kind == "java" and not any(plain(text) in source for source in sources):
             yield text.strip().splitlines()[0]

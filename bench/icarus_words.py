@@ -1,8 +1,8 @@
 #!/usr/bin/env python3
 """Compares `maxjc simulate` with Icarus.
 
-Each example is compiled, by a table by which no operation takes a tick, by the one by which examples/README.md compiles it and by
-one with latencies, where it has a schedule by that one; then the text is run by `maxjc simulate` and by Icarus under a
+Each example is compiled, by a table by which no operation takes a tick, by the one by which its page compiles it and by one with
+latencies, where it has a schedule by that one; then the text is run by `maxjc simulate` and by Icarus under a
 testbench with the same offers, accepts and holds, without stalls and under several patterns of stalls, until it is done. The words
 that leave must be those of the stream equations, and the same where they are undefined too; the line that says how the run ended
 must be the same. Passed over where Icarus is missing.

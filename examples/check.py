@@ -1,9 +1,9 @@
 #!/usr/bin/env python3
-"""Compiles and simulates the examples, and compares what the program does with examples/README.md and the files beside it.
+"""Compiles and simulates the examples, and compares what the program does with their pages and the files beside these.
 
-Each command that the page shows is run, and is to say the lines that stand behind it there. The words that leave a simulation are
-to be those of the files NAME/PORT.expected.txt. These files and the words that come in are to be those of examples/models.py,
-and the parts of sources that the page shows are to stand in a source.
+Each command that a page NAME/README.md shows is run, and is to say the lines that stand behind it there. The words that leave a
+simulation are to be those of the files NAME/PORT.expected.txt. These files and the words that come in are to be those of
+examples/models.py, and the parts of sources that the pages show are to stand in a source.
 
     examples/check.py     ends with status 1 where something differs; MAXJC in the environment names another program
 """
@@ -36,7 +36,7 @@ def wrong_words(run_file, work):
 
 
 def checked(command, work):
-    """What is wrong of a command that the page shows, and what is told of it."""
+    """What is wrong of a command that a page shows, and what is told of it."""
     done = subprocess.run([PROGRAM, *command.words], cwd=work, capture_output=True, text=True)
     said = done.stdout.splitlines()
     wrong = [] if said == command.lines else [f"it says {said}, and not {command.lines}"]
@@ -54,11 +54,11 @@ def stale_files():
         if not path.exists() or path.read_text() != text:
             yield f"{path.relative_to(HERE.parent)} isn't what examples/models.py writes"
     for line in example_page.strange_excerpts():
-        yield f"examples/README.md: no source has the part that begins with {line}"
+        yield f"no source has the part of a page that begins with {line}"
 
 
 def unshown():
-    """The examples of which the page shows no simulation."""
+    """The examples of which no page shows a simulation."""
     shown = {pathlib.Path(command.words[2]).parent.name for command in example_page.commands() if command.words[0] == "simulate"}
     return sorted({path.parent.name for path in HERE.glob("*/*.maxj")} - shown)
 

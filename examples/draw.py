@@ -4,7 +4,7 @@
 What is drawn after a kernel are the words that are to leave, of the files NAME/PORT.expected.txt; examples/check.py says whether
 they do.
 
-    examples/draw.py     writes the pictures that examples/README.md shows
+    examples/draw.py     writes the pictures that the pages of the examples show
 """
 import pathlib
 import struct
