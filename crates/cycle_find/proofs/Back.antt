@@ -14,13 +14,17 @@ pub record IsStamped (arcs : List Arc) (path place : List ℕ) : Type 0 where
   pub at : (i : ℕ) → i < length path → get_or place (end_of arcs (get_or path i 0)) 0 ≡ i + 1
   pub only : (v : ℕ) → 0 < get_or place v 0 → (get_or place v 0 ≤ length path) × (end_of arcs (get_or path (get_or place v 0 - 1) 0) ≡ v)
 
-pub chain_more : (arcs : List Arc) (x via : List ℕ) (js : List ℕ) (a b j : ℕ) → IsChain arcs x via a js b → 0 < get_or x b 0 → get_or via b 0 ≡ j → IsChain arcs x via a (js ++ j ∷ []) (start_of arcs j)
+pub chain_more : (arcs : List Arc) (x via : List ℕ) (js : List ℕ) (a b j : ℕ)
+    → IsChain arcs x via a js b → 0 < get_or x b 0 → get_or via b 0 ≡ j
+    → IsChain arcs x via a (js ++ j ∷ []) (start_of arcs j)
 chain_more arcs x via [] a b j c up e =
     let P : ℕ → Type 0 = λ k. (0 < get_or x k 0) × (get_or via k 0 ≡ j) × (start_of arcs j ≡ start_of arcs j) in
     subst P (sym c) (up, e, refl)
 chain_more arcs x via (i ∷ js) a b j c up e = (c.0, c.1, chain_more arcs x via js (start_of arcs i) b j c.2 up e)
 
-pub chain_from : (arcs : List Arc) (x via : List ℕ) → IsRaised arcs x via → (js : List ℕ) (k a b : ℕ) → k < length js → IsChain arcs x via a js b → IsChain arcs x via (end_of arcs (get_or js k 0)) (drop k js) b
+pub chain_from : (arcs : List Arc) (x via : List ℕ) → IsRaised arcs x via
+    → (js : List ℕ) (k a b : ℕ) → k < length js → IsChain arcs x via a js b
+    → IsChain arcs x via (end_of arcs (get_or js k 0)) (drop k js) b
 chain_from arcs x via r [] k a b h c = absurd (omega arith)
 chain_from arcs x via r (j ∷ js) zero a b h c =
     let p = parent_at arcs x via r a j c.0 c.1 in
@@ -55,12 +59,17 @@ needs-reverse arcs (j ∷ js) =
     let e : needs_of arcs (reverse (j ∷ js)) ≡ needs_of arcs (reverse js ++ j ∷ []) = ap (needs_of arcs) (reverse_cons j js) in
     e ∙ omega (arith, ints, needs-more arcs (reverse js) j, needs-reverse arcs js)
 
-pub stamped_after : (arcs : List Arc) (path place : List ℕ) (node j n : ℕ) → IsStamped arcs path place → node < length place → get_or place node 0 ≡ 0 → end_of arcs j ≡ node → n ≡ length (path ++ j ∷ []) → IsStamped arcs (path ++ j ∷ []) (set place node n)
+pub stamped_after : (arcs : List Arc) (path place : List ℕ) (node j n : ℕ)
+    → IsStamped arcs path place → node < length place → get_or place node 0 ≡ 0
+    → end_of arcs j ≡ node → n ≡ length (path ++ j ∷ [])
+    → IsStamped arcs (path ++ j ∷ []) (set place node n)
 stamped_after arcs path place node j n s in_place fresh here e =
     let new : List ℕ = path ++ j ∷ [] in
     let len : length new ≡ length path + 1 = length-append path (j ∷ []) in
     let front : (i : ℕ) → i < length path → get_or new i 0 ≡ get_or path i 0 = λ (i : ℕ) (h : i < length path). get_or_append_left path (j ∷ []) 0 i h in
-    let last : get_or new (length path) 0 ≡ j = (let z : length path - length path ≡ 0 = omega arith in get_or-append_right path (j ∷ []) (length path) (length path) 0 refl (omega arith) ∙ ap (λ m. get_or (j ∷ []) m 0) z) in
+    let last : get_or new (length path) 0 ≡ j = (let z : length path - length path
+    ≡ 0 = omega arith in get_or-append_right path (j
+    ∷ []) (length path) (length path) 0 refl (omega arith) ∙ ap (λ m. get_or (j ∷ []) m 0) z) in
     record {
       at = λ i h. ⊎_elim
           (λ (lt : i < length path).
@@ -100,7 +109,9 @@ module _ (arcs : List Arc) (path place : List ℕ) (k : ℕ) (s : IsStamped arcs
       let q : get_or place (end_of arcs (get_or (reverse (drop k path)) i 0)) 0 ≡ get_or place (end_of arcs (get_or (reverse (drop k path)) m 0)) 0 = ap (λ v. get_or place v 0) e in
       omega (arith, q, stamp i hi, stamp m hm, hi, hm, length-reverse (drop k path))
 
-pub cycle_back : (arcs : List Arc) (x via path place : List ℕ) (start node : ℕ) → IsRaised arcs x via → IsStamped arcs path place → IsChain arcs x via start path node → 0 < get_or place node 0 → IsPositiveCycle arcs (reverse (drop (get_or place node 0 - 1) path))
+pub cycle_back : (arcs : List Arc) (x via path place : List ℕ) (start node : ℕ)
+    → IsRaised arcs x via → IsStamped arcs path place → IsChain arcs x via start path node
+    → 0 < get_or place node 0 → IsPositiveCycle arcs (reverse (drop (get_or place node 0 - 1) path))
 cycle_back arcs x via path place start node r s c up =
     let k : ℕ = get_or place node 0 - 1 in
     let o = s.only node up in

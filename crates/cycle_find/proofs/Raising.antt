@@ -31,7 +31,10 @@ chain_climbs arcs x via r (i ∷ js) a b c =
     let q = chain_climbs arcs x via r js (start_of arcs i) b c.2 in
     omega (arith, ints, p.reached, q)
 
-module _ (arcs : List Arc) (x via : List ℕ) (j h : ℕ) (jn : j < length arcs) (s_in : start_of arcs j < length x) (t_in : end_of arcs j < length x) (r : IsRaised arcs x via) (high : get_or x (end_of arcs j) 0 < h) (e : pos h ≡ (so_far x (start_of arcs j) +ℤ need_of arcs j)) where
+module _ (arcs : List Arc) (x via : List ℕ) (j h : ℕ) (jn : j < length arcs)
+    (s_in : start_of arcs j < length x) (t_in : end_of arcs j < length x)
+    (r : IsRaised arcs x via) (high : get_or x (end_of arcs j) 0 < h)
+    (e : pos h ≡ (so_far x (start_of arcs j) +ℤ need_of arcs j)) where
   at_to : get_or (set x (end_of arcs j) h) (end_of arcs j) 0 ≡ h
   at_to = get_or-set_same x (end_of arcs j) h 0 t_in
 
@@ -136,14 +139,19 @@ module _ (arcs : List Arc) (x via : List ℕ) (j h : ℕ) (jn : j < length arcs)
   }
 
 -- the same, of the arc that was read
-pub read_raised : (arcs : List Arc) (x via : List ℕ) (j h : ℕ) (a : Arc) → a ≡ arc_at arcs j → j < length arcs → EndsInRange (length x) arcs → IsRaised arcs x via → get_or x a.to 0 < h → pos h ≡ (pos (get_or x a.from 0) +ℤ a.need) → IsRaised arcs (set x a.to h) (set via a.to j)
+pub read_raised : (arcs : List Arc) (x via : List ℕ) (j h : ℕ) (a : Arc) → a ≡ arc_at arcs j
+    → j < length arcs → EndsInRange (length x) arcs → IsRaised arcs x via → get_or x a.to 0 < h
+    → pos h ≡ (pos (get_or x a.from 0) +ℤ a.need) → IsRaised arcs (set x a.to h) (set via a.to j)
 read_raised arcs x via j h a q jn ends r high e =
     let H : Arc → Type 0 = λ b. (get_or x b.to 0 < h) × (pos h ≡ (pos (get_or x b.from 0) +ℤ b.need)) in
     let k = subst H q (high, e) in
     let P : Arc → Type 0 = λ b. IsRaised arcs (set x b.to h) (set via b.to j) in
     subst P (sym q) (raised_after arcs x via j h jn (ends j jn).0 (ends j jn).1 r k.0 k.1)
 
-pub read_rises : (arcs : List Arc) (x via : List ℕ) (j h size : ℕ) (a : Arc) → a ≡ arc_at arcs j → j < length arcs → EndsInRange (length x) arcs → NeedsWithin size arcs → IsRaised arcs x via → get_or x a.to 0 < h → pos h ≡ (pos (get_or x a.from 0) +ℤ a.need) → Rises x (set x a.to h) (start_of arcs j) (end_of arcs j) size
+pub read_rises : (arcs : List Arc) (x via : List ℕ) (j h size : ℕ) (a : Arc) → a ≡ arc_at arcs j
+    → j < length arcs → EndsInRange (length x) arcs → NeedsWithin size arcs
+    → IsRaised arcs x via → get_or x a.to 0 < h → pos h ≡ (pos (get_or x a.from 0) +ℤ a.need)
+    → Rises x (set x a.to h) (start_of arcs j) (end_of arcs j) size
 read_rises arcs x via j h size a q jn ends within r high e =
     let H : Arc → Type 0 = λ b. (get_or x b.to 0 < h) × (pos h ≡ (pos (get_or x b.from 0) +ℤ b.need)) in
     let k = subst H q (high, e) in

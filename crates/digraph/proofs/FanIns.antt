@@ -21,10 +21,14 @@ pub record Meets (g : List (List ℕ)) (end number : ℕ) (seen nodes : List ℕ
   pub some : done < length nodes
   pub reads : (k : ℕ) → k < met → get_or seen (get_or (reads_of g node) k 0) 0 ≡ number
 
-pub meets_begin : (g : List (List ℕ)) (end number : ℕ) (seen nodes : List ℕ) (done : ℕ) → done < length nodes → Collects g end number seen nodes done → Meets g end number seen nodes done (get_or nodes done 0) 0
+pub meets_begin : (g : List (List ℕ)) (end number : ℕ) (seen nodes : List ℕ) (done : ℕ)
+    → done < length nodes → Collects g end number seen nodes done
+    → Meets g end number seen nodes done (get_or nodes done 0) 0
 meets_begin g end number seen nodes done lt c = record { collects = c; here = refl; some = lt; reads = λ k h. absurd (omega arith) }
 
-pub meets_end : (g : List (List ℕ)) (end number : ℕ) (seen nodes : List ℕ) (done node met : ℕ) → length (reads_of g node) ≤ met → Meets g end number seen nodes done node met → Collects g end number seen nodes (done + 1)
+pub meets_end : (g : List (List ℕ)) (end number : ℕ) (seen nodes : List ℕ) (done node met : ℕ)
+    → length (reads_of g node) ≤ met → Meets g end number seen nodes done node met
+    → Collects g end number seen nodes (done + 1)
 meets_end g end number seen nodes done node met past m =
     let c = m.collects in
     record {
@@ -72,7 +76,9 @@ more P nodes node j all here h = by_place (cases_lt j (length nodes))
         subst P (sym (ap (λ k. get_or (nodes ++ node ∷ []) k 0) q ∙ get_or-append_seam nodes node [] 0)) here
 
 -- one more node is met for the first time
-collects_more : (g : List (List ℕ)) (end number : ℕ) (seen nodes : List ℕ) (done node : ℕ) → Collects g end number seen nodes done → get_or seen node 0 ≢ number → node < length g → Reaches g node end → Collects g end number (set seen node number) (nodes ++ node ∷ []) done
+collects_more : (g : List (List ℕ)) (end number : ℕ) (seen nodes : List ℕ) (done node : ℕ)
+    → Collects g end number seen nodes done → get_or seen node 0 ≢ number → node < length g
+    → Reaches g node end → Collects g end number (set seen node number) (nodes ++ node ∷ []) done
 collects_more g end number seen nodes done node c ne lt way =
     record {
       size = length-set seen node number ∙ c.size;
@@ -111,7 +117,11 @@ collects_more g end number seen nodes done node c ne lt way =
         let w : i < length (reads_of g (get_or nodes j 0)) = subst (λ n. i < length (reads_of g n)) p h in
         subst (λ n. get_or (set seen node number) (get_or (reads_of g n) i 0) 0 ≡ number) (sym p) (kept (get_or (reads_of g (get_or nodes j 0)) i 0) (c.closed j i less w))
 
-pub meets_next : (g : List (List ℕ)) (end number : ℕ) (seen nodes marked listed : List ℕ) (done node met read : ℕ) → IsGraph g → met < length (reads_of g node) → get_or (reads_of g node) met 0 ≡ read → IsMet number read seen nodes marked listed → Meets g end number seen nodes done node met → Meets g end number marked listed done node (met + 1)
+pub meets_next : (g : List (List ℕ)) (end number : ℕ) (seen nodes marked listed : List ℕ)
+    (done node met read : ℕ) → IsGraph g → met < length (reads_of g node)
+    → get_or (reads_of g node) met 0 ≡ read → IsMet number read seen nodes marked listed
+    → Meets g end number seen nodes done node met
+    → Meets g end number marked listed done node (met + 1)
 meets_next g end number seen nodes marked listed done node met read graph lt is (inl (was, ms, ls)) m =
     rw (ms, ls) (record { collects = m.collects; here = m.here; some = m.some; reads = λ k h. reads k h (cases_lt k met) })
   where
@@ -137,7 +147,9 @@ meets_next g end number seen nodes marked listed done node met read graph lt is 
 
     reads : (k : ℕ) → k < met + 1 → (k < met) ⊎ (met ≤ k) → get_or (set seen read number) (get_or (reads_of g node) k 0) 0 ≡ number
     reads k h (inl less) = still number read seen nodes ne room (get_or (reads_of g node) k 0) (m.reads k less)
-    reads k h (inr ge) = let q : k ≡ met = omega arith in ap (λ n. get_or (set seen read number) (get_or (reads_of g node) n 0) 0) q ∙ ap (λ n. get_or (set seen read number) n 0) is ∙ now number read seen nodes ne room
+    reads k h (inr ge) = let q : k ≡ met = omega arith in ap
+        (λ n. get_or (set seen read number) (get_or (reads_of g node) n 0) 0) q ∙ ap
+        (λ n. get_or (set seen read number) n 0) is ∙ now number read seen nodes ne room
 
 -- what is left and what was met stay as many
 pub left_same : (number node : ℕ) (seen nodes marked listed : List ℕ) → node < length seen → IsMet number node seen nodes marked listed → all_left number marked listed ≡ all_left number seen nodes
@@ -156,7 +168,9 @@ met_size number node seen nodes marked listed (inl (was, ms, ls)) = ap length ms
 met_size number node seen nodes marked listed (inr (ne, ms, ls)) = ap length ms ∙ length-set seen node number
 
 -- the search with its first node alone
-pub collects_begin : (g : List (List ℕ)) (end number : ℕ) (seen marked listed : List ℕ) → length seen ≡ length g → end < length g → ((x : ℕ) → get_or seen x 0 < number) → IsMet number end seen [] marked listed → Collects g end number marked listed 0
+pub collects_begin : (g : List (List ℕ)) (end number : ℕ) (seen marked listed : List ℕ)
+    → length seen ≡ length g → end < length g → ((x : ℕ) → get_or seen x 0 < number)
+    → IsMet number end seen [] marked listed → Collects g end number marked listed 0
 collects_begin g end number seen marked listed size lt before (inl (was, ms, ls)) = absurd (omega (arith, was, before end))
 collects_begin g end number seen marked listed size lt before (inr (ne, ms, ls)) =
     rw (ms, ls) (record {

@@ -24,7 +24,9 @@ marked_beside words n word m lt is ne = ap (λ (x : ℕ). nat_eq x 1) (by_word (
   where
     by_word : (m / 64 ≡ n / 64) ⊎ (m / 64 ≡ n / 64 → ⊥) → bit_at (get_or (set words (n / 64) (with_bit word n)) (m / 64) 0) (m % 64) ≡ bit_at (get_or words (m / 64) 0) (m % 64)
     by_word (inl q) =
-        let here : get_or (set words (n / 64) (with_bit word n)) (m / 64) 0 ≡ with_bit word n = ap (λ (k : ℕ). get_or (set words (n / 64) (with_bit word n)) k 0) q ∙ get_or-set_same words (n / 64) (with_bit word n) 0 lt in
+        let here : get_or (set words (n / 64) (with_bit word n)) (m / 64) 0
+        ≡ with_bit word n = ap (λ (k : ℕ). get_or (set words (n / 64)
+        (with_bit word n)) k 0) q ∙ get_or-set_same words (n / 64) (with_bit word n) 0 lt in
         let apart : m % 64 ≢ n % 64 = λ e. ne (omega (arith, q, e)) in
         let other = bit_at_set_other w64 word (n % 64) (mod_below n 64 (omega arith)) (m % 64) apart in
         ap (λ (x : ℕ). bit_at x (m % 64)) here ∙ other ∙ ap (λ (x : ℕ). bit_at x (m % 64)) (is ∙ ap (λ (k : ℕ). get_or words k 0) (sym q))
@@ -37,7 +39,9 @@ AreFirst numbers count words = (n : ℕ) → (is_marked words n ≡ true) ↔ ((
 pub none_first : (numbers words : List ℕ) → ((n : ℕ) → is_marked words n ≡ false) → AreFirst numbers 0 words
 none_first numbers words none n = (λ m. absurd (false≢true (sym (none n) ∙ m)), λ w. absurd (omega (arith, w.1)))
 
-pub first_more : (numbers words new : List ℕ) (count x : ℕ) → slice_get numbers count ≡ Some x → is_marked new x ≡ true → ((n : ℕ) → n ≢ x → is_marked new n ≡ is_marked words n) → AreFirst numbers count words → AreFirst numbers (count + 1) new
+pub first_more : (numbers words new : List ℕ) (count x : ℕ) → slice_get numbers count ≡ Some x
+    → is_marked new x ≡ true → ((n : ℕ) → n ≢ x → is_marked new n ≡ is_marked words n)
+    → AreFirst numbers count words → AreFirst numbers (count + 1) new
 first_more numbers words new count x at marked others h n = (into (cases_eq n x), λ w. out w (cases_lt w.0 count))
   where
     into : (n ≡ x) ⊎ (n ≡ x → ⊥) → is_marked new n ≡ true → (i : ℕ) × (i < count + 1) × (slice_get numbers i ≡ Some n)
@@ -58,16 +62,23 @@ first_more numbers words new count x at marked others h n = (into (cases_eq n x)
         here (sym (get_or_from_slice_get numbers w.0 n 0 w.2) ∙ ap (λ (k : ℕ). get_or numbers k 0) q ∙ get_or_from_slice_get numbers count x 0 at)
 
 -- the item of a row at a place
-pub picked_at : {A : Type 0} (words : List ℕ) (items : List A) (other : A) (len place : ℕ) → place < len → slice_get (picked words items other len) place ≡ Some (if is_marked words place then get_or items place other else other)
+pub picked_at : {A : Type 0} (words : List ℕ) (items : List A) (other : A) (len place : ℕ)
+    → place < len → slice_get (picked words items other len) place ≡ Some
+    (if is_marked words place then get_or items place other else other)
 picked_at {A} words items other len place lt =
     let f : ℕ → A = λ n. if is_marked words n then get_or items n other else other in
     let size = length-map-range_with_len f 0 len in
     slice_get-get_or (picked words items other len) place other (omega (arith, size)) ∙ ap (λ (x : A). Some x) (get_or-map-range_with_len f 0 len place place other lt (omega arith))
 
-pub picked_other : {A : Type 0} (words : List ℕ) (items : List A) (other : A) (len place : ℕ) → place < len → is_marked words place ≡ false → slice_get (picked words items other len) place ≡ Some other
+pub picked_other : {A : Type 0} (words : List ℕ) (items : List A) (other : A) (len place : ℕ)
+    → place < len → is_marked words place ≡ false
+    → slice_get (picked words items other len) place ≡ Some other
 picked_other words items other len place lt clear = picked_at words items other len place lt ∙ ap (λ (b : Bool). Some (if b then get_or items place other else other)) clear
 
-pub picked_one : {A : Type 0} (words : List ℕ) (items : List A) (other : A) (len place : ℕ) → place < len → is_marked words place ≡ true → (there : Option A) → there ≡ slice_get items place → slice_get (picked words items other len) place ≡ Some (unwrap_or there other)
+pub picked_one : {A : Type 0} (words : List ℕ) (items : List A) (other : A) (len place : ℕ)
+    → place < len → is_marked words place ≡ true → (there : Option A)
+    → there ≡ slice_get items place
+    → slice_get (picked words items other len) place ≡ Some (unwrap_or there other)
 picked_one words items other len place lt marked there is =
     picked_at words items other len place lt
     ∙ ap (λ (b : Bool). Some (if b then get_or items place other else other)) marked

@@ -45,7 +45,9 @@ shorter p = grind (arith, common_steps)
 beside : (r : List ℕ) (x v y : ℕ) → 0 < get_or r y 0 → get_or r x 0 ≡ 0 → get_or (set r x v) y 0 ≡ get_or r y 0
 beside r x v y h z = get_or-set_other r x y v 0 (λ (e : y ≡ x). absurd (omega (arith, ap (λ i. get_or r i 0) e)))
 
-pub opens : (g : List (List ℕ)) (r : List ℕ) (f : List Bool) (p n o : List ℕ) (x : ℕ) → Searches g r f p n o → Waits g p n x → x < length g → get_or f x false ≡ true → get_or r x 0 ≡ 0 → Searches g r (set f x false) (p ++ x ∷ []) (n ++ 0 ∷ []) o
+pub opens : (g : List (List ℕ)) (r : List ℕ) (f : List Bool) (p n o : List ℕ) (x : ℕ)
+    → Searches g r f p n o → Waits g p n x → x < length g → get_or f x false ≡ true
+    → get_or r x 0 ≡ 0 → Searches g r (set f x false) (p ++ x ∷ []) (n ++ 0 ∷ []) o
 opens g r f p n o x s w lt fresh zero =
     record {
       ranks = s.ranks;
@@ -81,7 +83,9 @@ opens g r f p n o x s w lt fresh zero =
         let b : j < length p = omega (arith, longer p x) in
         rw (old p x j b, old n 0 j (omega (arith, s.nexts))) ((w.link j (omega (arith, longer p x))).0)
 
-    linked : (j : ℕ) → j + 1 < length (p ++ x ∷ []) → (j + 1 < length p) ⊎ (length p ≤ j + 1) → get_or (reads_of g (get_or (p ++ x ∷ []) j 0)) (get_or (n ++ 0 ∷ []) j 0) 0 ≡ get_or (p ++ x ∷ []) (j + 1) 0
+    linked : (j : ℕ) → j + 1 < length (p ++ x ∷ []) → (j + 1 < length p) ⊎ (length p ≤ j + 1)
+        → get_or (reads_of g (get_or (p ++ x ∷ []) j 0)) (get_or (n ++ 0
+        ∷ []) j 0) 0 ≡ get_or (p ++ x ∷ []) (j + 1) 0
     linked j h (inl lt) = rw (old p x j (omega arith), old n 0 j (omega (arith, s.nexts)), old p x (j + 1) lt) (s.linked j lt)
     linked j h (inr ge) =
         let b : j < length p = omega (arith, longer p x) in
@@ -94,7 +98,10 @@ opens g r f p n o x s w lt fresh zero =
         let on = s.opened y h (sym (get_or-set_other f x y false false q) ∙ e) z in
         (on.0, omega (arith, on.1, longer p x), old p x on.0 on.1 ∙ on.2)
 
-pub advances : (g : List (List ℕ)) (r : List ℕ) (f : List Bool) (p n o : List ℕ) (top at : ℕ) → Searches g r f p n o → top + 1 ≡ length p → at ≤ length (reads_of g (get_or p top 0)) → ((i : ℕ) → i < at → 0 < get_or r (get_or (reads_of g (get_or p top 0)) i 0) 0) → Searches g r f p (set n top at) o
+pub advances : (g : List (List ℕ)) (r : List ℕ) (f : List Bool) (p n o : List ℕ) (top at : ℕ)
+    → Searches g r f p n o → top + 1 ≡ length p → at ≤ length (reads_of g (get_or p top 0))
+    → ((i : ℕ) → i < at → 0 < get_or r (get_or (reads_of g (get_or p top 0)) i 0) 0)
+    → Searches g r f p (set n top at) o
 advances g r f p n o top at s e le ready =
     record {
       ranks = s.ranks;
@@ -116,7 +123,11 @@ advances g r f p n o top at s e le ready =
       opened = s.opened;
     }
 
-pub closes : (g : List (List ℕ)) (r : List ℕ) (f : List Bool) (p n o : List ℕ) (top x : ℕ) → Searches g r f p n o → top + 1 ≡ length p → get_or p top 0 ≡ x → ((i : ℕ) → i < length (reads_of g x) → 0 < get_or r (get_or (reads_of g x) i 0) 0) → Searches g (set r x (length o + 1)) f (take (length p - 1) p) (take (length n - 1) n) (o ++ x ∷ [])
+pub closes : (g : List (List ℕ)) (r : List ℕ) (f : List Bool) (p n o : List ℕ) (top x : ℕ)
+    → Searches g r f p n o → top + 1 ≡ length p → get_or p top 0 ≡ x
+    → ((i : ℕ) → i < length (reads_of g x) → 0 < get_or r (get_or (reads_of g x) i 0) 0)
+    → Searches g (set r x (length o + 1)) f (take (length p - 1) p) (take (length n - 1) n) (o
+    ++ x ∷ [])
 closes g r f p n o top x s e is all =
     record {
       ranks = grind (arith, common_steps, s.ranks);
@@ -175,7 +186,9 @@ closes g r f p n o top x s e is all =
         let a : 0 < get_or r (get_or (reads_of g b) i 0) 0 = s.behind b i (omega (arith, get_or-set_other r x b (length o + 1) 0 q)) l in
         rw (beside r x (length o + 1) (get_or (reads_of g b) i 0) a zero) a
 
-    rising : (b i : ℕ) → 0 < get_or (set r x (length o + 1)) b 0 → i < length (reads_of g b) → (b ≡ x) ⊎ (b ≡ x → ⊥) → get_or (set r x (length o + 1)) (get_or (reads_of g b) i 0) 0 < get_or (set r x (length o + 1)) b 0
+    rising : (b i : ℕ) → 0 < get_or (set r x (length o + 1)) b 0 → i < length (reads_of g b)
+        → (b ≡ x) ⊎ (b ≡ x → ⊥) → get_or (set r x (length o + 1)) (get_or (reads_of g b) i 0) 0
+        < get_or (set r x (length o + 1)) b 0
     rising b i h l (inl q) =
         let a : 0 < get_or r (get_or (reads_of g b) i 0) 0 = rw q (all i (rw (sym q) l)) in
         omega (arith, beside r x (length o + 1) (get_or (reads_of g b) i 0) a zero, s.counted (get_or (reads_of g b) i 0), ap (λ k. get_or (set r x (length o + 1)) k 0) q, here)
@@ -202,7 +215,10 @@ closes g r f p n o top x s e is all =
         (on.0, omega (arith, shorter p), front p on.0 lt ∙ on.2)
 
 -- the reads of the top node that are behind it, and those that were passed over
-pub all_ready : (g : List (List ℕ)) (r : List ℕ) (f : List Bool) (p n o : List ℕ) (top at i : ℕ) → Searches g r f p n o → top < length p → ((k : ℕ) → get_or n top 0 ≤ k → k < at → 0 < get_or r (get_or (reads_of g (get_or p top 0)) k 0) 0) → i < at → 0 < get_or r (get_or (reads_of g (get_or p top 0)) i 0) 0
+pub all_ready : (g : List (List ℕ)) (r : List ℕ) (f : List Bool) (p n o : List ℕ) (top at i : ℕ)
+    → Searches g r f p n o → top < length p → ((k : ℕ) → get_or n top 0 ≤ k → k < at
+    → 0 < get_or r (get_or (reads_of g (get_or p top 0)) k 0) 0) → i < at
+    → 0 < get_or r (get_or (reads_of g (get_or p top 0)) i 0) 0
 all_ready g r f p n o top at i s lt passed h = by_place (cases_lt i (get_or n top 0))
   where
     by_place : (i < get_or n top 0) ⊎ (get_or n top 0 ≤ i) → 0 < get_or r (get_or (reads_of g (get_or p top 0)) i 0) 0
@@ -217,7 +233,12 @@ pub record Closed (g : List (List ℕ)) (s t : State) : Type 0 where
   pub ended : length t.path.items ≡ 0 → 0 < get_or t.rank.items (get_or s.path.items 0 0) 0
   pub less : work t.fresh.items t.path.items < work s.fresh.items s.path.items
 
-pub closed : (g : List (List ℕ)) (s t : State) (top x at : ℕ) → Searches g s.rank.items s.fresh.items s.path.items s.next.items s.order.items → top + 1 ≡ length s.path.items → get_or s.path.items top 0 ≡ x → ((k : ℕ) → get_or s.next.items top 0 ≤ k → k < at → 0 < get_or s.rank.items (get_or (reads_of g x) k 0) 0) → at ≡ length (reads_of g x) → IsClosed s t x → Closed g s t
+pub closed : (g : List (List ℕ)) (s t : State) (top x at : ℕ)
+    → Searches g s.rank.items s.fresh.items s.path.items s.next.items s.order.items
+    → top + 1 ≡ length s.path.items → get_or s.path.items top 0 ≡ x
+    → ((k : ℕ) → get_or s.next.items top 0 ≤ k → k < at
+    → 0 < get_or s.rank.items (get_or (reads_of g x) k 0) 0) → at ≡ length (reads_of g x)
+    → IsClosed s t x → Closed g s t
 closed g s t top x at h e is passed whole c =
     record {
       searches = rw (c.rank, c.fresh, c.path, c.next, c.order) (closes g s.rank.items s.fresh.items s.path.items s.next.items s.order.items top x h e is all);
@@ -243,11 +264,17 @@ closed g s t top x at h e is passed whole c =
         rw (sym is) (all_ready g s.rank.items s.fresh.items s.path.items s.next.items s.order.items top at i h (omega arith) (λ k a b. rw is (passed k a b)) (omega arith))
 
 -- after a node was opened
-pub opened : (g : List (List ℕ)) (s t : State) (r : List ℕ) (f : List Bool) (p n o : List ℕ) (x : ℕ) → Searches g r f p n o → Waits g p n x → x < length g → get_or f x false ≡ true → get_or r x 0 ≡ 0 → s.rank.items ≡ r → s.fresh.items ≡ f → s.path.items ≡ p → s.next.items ≡ n → s.order.items ≡ o → IsOpened s t x → Searches g t.rank.items t.fresh.items t.path.items t.next.items t.order.items
+pub opened : (g : List (List ℕ)) (s t : State) (r : List ℕ) (f : List Bool) (p n o : List ℕ)
+    (x : ℕ) → Searches g r f p n o → Waits g p n x → x < length g → get_or f x false ≡ true
+    → get_or r x 0 ≡ 0 → s.rank.items ≡ r → s.fresh.items ≡ f → s.path.items ≡ p
+    → s.next.items ≡ n → s.order.items ≡ o → IsOpened s t x
+    → Searches g t.rank.items t.fresh.items t.path.items t.next.items t.order.items
 opened g s t r f p n o x h w lt fresh zero er ef ep en eo c =
     rw (c.rank, c.fresh, c.path, c.next, c.order, er, ef, ep, en, eo) (opens g r f p n o x h w lt fresh zero)
 
-pub work_less : (s t : State) (f : List Bool) (p : List ℕ) (x : ℕ) → x < length f → get_or f x false ≡ true → s.fresh.items ≡ f → s.path.items ≡ p → IsOpened s t x → work t.fresh.items t.path.items < work f p
+pub work_less : (s t : State) (f : List Bool) (p : List ℕ) (x : ℕ) → x < length f
+    → get_or f x false ≡ true → s.fresh.items ≡ f → s.path.items ≡ p → IsOpened s t x
+    → work t.fresh.items t.path.items < work f p
 work_less s t f p x lt fresh ef ep c =
     rw (c.fresh, c.path, ef, ep) (omega (arith, sum_by-set weight f x false false lt, ap weight fresh, longer p x))
 
@@ -262,7 +289,9 @@ stuck g r f p n o x at h w some lt is =
       last = (get_or n (length p - 1) 0, l.0, l.1 ∙ sym is);
     }
 
-pub waits_set : (g : List (List ℕ)) (p n : List ℕ) (top at x : ℕ) → top + 1 ≡ length p → length n ≡ length p → at < length (reads_of g (get_or p top 0)) → get_or (reads_of g (get_or p top 0)) at 0 ≡ x → Waits g p (set n top at) x
+pub waits_set : (g : List (List ℕ)) (p n : List ℕ) (top at x : ℕ) → top + 1 ≡ length p
+    → length n ≡ length p → at < length (reads_of g (get_or p top 0))
+    → get_or (reads_of g (get_or p top 0)) at 0 ≡ x → Waits g p (set n top at) x
 waits_set g p n top at x e len lt is = record { link = link }
   where
     link : (j : ℕ) → j + 1 ≡ length p → (get_or (set n top at) j 0 < length (reads_of g (get_or p j 0))) × (get_or (reads_of g (get_or p j 0)) (get_or (set n top at) j 0) 0 ≡ x)
@@ -278,10 +307,19 @@ pub record Waiting (g : List (List ℕ)) (r : List ℕ) (f : List Bool) (p n o :
   pub zero : get_or r x 0 ≡ 0
   pub some : 0 < length p
 
-pub waiting : (g : List (List ℕ)) (r : List ℕ) (f : List Bool) (p n o : List ℕ) (top node at : ℕ) (reads : List ℕ) → IsGraph g → Searches g r f p n o → top + 1 ≡ length p → node ≡ get_or p top node → reads ≡ reads_of g node → at ≤ length reads → at ≢ length reads → ((k : ℕ) → get_or n top 0 ≤ k → k < at → 0 < get_or r (get_or reads k 0) 0) → (at < length reads → get_or r (get_or reads at 0) 0 ≡ 0) → Waiting g r f p (set n top at) o (get_or reads at 0)
+pub waiting : (g : List (List ℕ)) (r : List ℕ) (f : List Bool) (p n o : List ℕ)
+    (top node at : ℕ) (reads : List ℕ) → IsGraph g → Searches g r f p n o → top + 1 ≡ length p
+    → node ≡ get_or p top node → reads ≡ reads_of g node → at ≤ length reads → at ≢ length reads
+    → ((k : ℕ) → get_or n top 0 ≤ k → k < at → 0 < get_or r (get_or reads k 0) 0)
+    → (at < length reads → get_or r (get_or reads at 0) 0 ≡ 0)
+    → Waiting g r f p (set n top at) o (get_or reads at 0)
 waiting g r f p n o top node at reads graph s e is row le ne passed zero =
     record {
-      searches = advances g r f p n o top at s e (rw here (omega (arith, ap (λ (l : List ℕ). length l) row))) (λ i h. all_ready g r f p n o top at i s (omega arith) (λ k a b. rw (here, sym row) (passed k a b)) h);
+      searches = advances g r f p n o top at s e (rw here (omega (
+        arith,
+        ap (λ (l : List ℕ). length l) row,
+      ))) (λ i h. all_ready g r f p n o top at i s
+          (omega arith) (λ k a b. rw (here, sym row) (passed k a b)) h);
       waits = waits_set g p n top at (get_or reads at 0) e s.nexts (rw here (omega (arith, ap (λ (l : List ℕ). length l) row))) (rw (here, row) refl);
       node = rw row (graph node at (omega (arith, ap (λ (l : List ℕ). length l) row)));
       zero = zero (omega arith);

@@ -1,5 +1,7 @@
 -- A search for ranks, in depth first: what holds of its ranks, marks and path.
-use Rattle.std.specs.Prelude.{◌≡◌, ◌≢◌, ℕ, ◌+◌, ◌-◌, ◌<◌, ◌≤◌, List, [], ◌∷◌, ◌++◌, take, slice_set, length, Bool, false, if◌then◌else◌, sum_by, slice_index, slice_index_or}
+use Rattle.std.specs.Prelude.{◌≡◌, ◌≢◌, ℕ, ◌+◌, ◌-◌, ◌<◌, ◌≤◌, List, [], ◌∷◌, ◌++◌, take, slice_set}
+use Rattle.std.specs.Prelude.{length, Bool, false, if◌then◌else◌, sum_by, slice_index}
+use Rattle.std.specs.Prelude.{slice_index_or}
 use Rattle.digraph.specs.declared.search.Search.{Search as State}
 use Rattle.digraph.specs.Graph.{reads_of, Reads}
 
@@ -7,7 +9,8 @@ use Rattle.digraph.specs.Graph.{reads_of, Reads}
 abbrev pub IsOn : List ℕ → ℕ → Type 0
 IsOn path x = (j : ℕ) × (j < length path) × (slice_index path j ≡ x)
 
--- ranks from 1 of the nodes that are done; whether a node was never met; the open nodes, each of which waits for the next one, and how many of its reads are done
+-- ranks from 1 of the nodes that are done; whether a node was never met; the open nodes, each of
+-- which waits for the next one, and how many of its reads are done
 pub record Searches (g : List (List ℕ)) (rank : List ℕ) (fresh : List Bool) (path next order : List ℕ) : Type 0 where
   pub ranks : length rank ≡ length g
   pub marks : length fresh ≡ length g

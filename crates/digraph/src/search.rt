@@ -30,7 +30,9 @@ pub fn visit(graph: &[Row<u32>], search: &mut Search, node: u32) -> Result<Optio
     requires node { node < length graph.now }
     requires unranked { slice_index search.old.rank.items node ≡ 0 }
     ensures done { IfOk result (λ r. IfNone r ((search.new.path.items ≡ []) × (0 < slice_index search.new.rank.items node))) }
-    ensures searches { IfOk result (λ r. Searches graph.now search.new.rank.items search.new.fresh.items search.new.path.items search.new.next.items search.new.order.items) }
+    ensures searches { IfOk result
+        (λ r. Searches graph.now search.new.rank.items search.new.fresh.items
+        search.new.path.items search.new.next.items search.new.order.items) }
     ensures kept { IfOk result (λ r. (x : ℕ) → 0 < slice_index search.old.rank.items x → 0 < slice_index search.new.rank.items x) }
     ensures walk { IfOk result (λ r. IfSome r (λ at. IsStuck graph.now search.new.path.items at)) }
 {

@@ -105,7 +105,9 @@ size_of_rounded mode z d k some h =
     (size_of_next z d k (rounds_up mode (is_odd q) r d) some h (λ none. ap (λ n. rounds_up mode (is_odd q) n d) none ∙ up_at_zero mode (is_odd q) d some))
 
 pub size_of_scaled : (mode : RoundMode) (negative : Bool) (n m d k : ℕ) → 0 < d → k * d ≤ n * m → k ≤ unsigned_abs (rounded mode (signed_of negative n *ℤ pos m) d)
-size_of_scaled mode negative n m d k some h = size_of_rounded mode (signed_of negative n *ℤ pos m) d k some (subst (λ x. k * d ≤ x) (sym (ap unsigned_abs (signed_times negative n m) ∙ size_of_signed negative (n * m))) h)
+size_of_scaled mode negative n m d k some h = size_of_rounded mode
+    (signed_of negative n *ℤ pos m) d k some (subst (λ x. k * d ≤ x)
+    (sym (ap unsigned_abs (signed_times negative n m) ∙ size_of_signed negative (n * m))) h)
 
 pub ruleset tens = (tens_fit, tens_some)
 

@@ -23,7 +23,9 @@ width_at ws ts i w e h is =
     ap (λ (x : Word). x.width) is ∙ sym (get_or-map (λ (x : Word). x.width) ws i w 0 h) ∙ ap (λ ns. get_or ns i 0) e ∙ get_or-map width_of ts i OneBit 0 within
 
 -- the first operand
-pub first_is : (ws : List Word) (ts : List StreamType) (a : Word) → widths_of ws ≡ map width_of ts → 1 ≤ length ts → a ≡ get_or ws 0 a → (operand (bits_of ws) 0 ≡ a.bits) × (a.width ≡ width_of (first ts))
+pub first_is : (ws : List Word) (ts : List StreamType) (a : Word)
+    → widths_of ws ≡ map width_of ts → 1 ≤ length ts → a ≡ get_or ws 0 a
+    → (operand (bits_of ws) 0 ≡ a.bits) × (a.width ≡ width_of (first ts))
 first_is ws ts a e h is =
     let within : 0 < length ws = subst (λ n. 0 < n) (sym (count_is ws ts e)) h in
     (get_or-map (λ (x : Word). x.bits) ws 0 a 0 within ∙ sym (ap (λ (x : Word). x.bits) is), width_at ws ts 0 a e within is)
@@ -35,7 +37,9 @@ alike_at ws ts i w e same h is =
     width_at ws ts i w e h is ∙ ap width_of (same i OneBit within)
 
 -- the second operand
-pub second_is : (ws : List Word) (ts : List StreamType) (b : Word) → widths_of ws ≡ map width_of ts → AllSame ts → 2 ≤ length ts → b ≡ get_or ws 1 b → (operand (bits_of ws) 1 ≡ b.bits) × (b.width ≡ width_of (first ts))
+pub second_is : (ws : List Word) (ts : List StreamType) (b : Word)
+    → widths_of ws ≡ map width_of ts → AllSame ts → 2 ≤ length ts → b ≡ get_or ws 1 b
+    → (operand (bits_of ws) 1 ≡ b.bits) × (b.width ≡ width_of (first ts))
 second_is ws ts b e same h is =
     let within : 1 < length ws = subst (λ n. 1 < n) (sym (count_is ws ts e)) h in
     (get_or-map (λ (x : Word). x.bits) ws 1 b 0 within ∙ sym (ap (λ (x : Word). x.bits) is), alike_at ws ts 1 b e same within is)
@@ -51,7 +55,9 @@ option_at [] ts s e same = tt
 option_at (w ∷ ws) [] s e same = cc
 option_at (w ∷ ws) (t ∷ ts) s e same = let tail : widths_of ws ≡ map width_of ts = cc in chosen_width ws ts s tail same
 
-pub option_width : (ws : List Word) (ts : List StreamType) (out : StreamType) (s : ℕ) → widths_of ws ≡ map width_of ts → AllSame (drop 1 ts) → out ≡ second ts → IfSome (slice_get (between 1 (length ws) ws) s) (λ w. w.width ≡ width_of out)
+pub option_width : (ws : List Word) (ts : List StreamType) (out : StreamType) (s : ℕ)
+    → widths_of ws ≡ map width_of ts → AllSame (drop 1 ts) → out ≡ second ts
+    → IfSome (slice_get (between 1 (length ws) ws) s) (λ w. w.width ≡ width_of out)
 option_width ws ts out s e same o =
     let P : List Word → StreamType → Type 0 = λ xs t. IfSome (slice_get xs s) (λ w. w.width ≡ width_of t) in
     subst (λ t. P (between 1 (length ws) ws) t) (sym o) (subst (λ xs. P xs (second ts)) (sym (between_to_end ws 1 (length ws) (le_refl (length ws)))) (option_at ws ts s e same))

@@ -1,5 +1,7 @@
 -- Numbers that differ by a multiple of two to the width become one word.
-use Rattle.std.proofs.Common.{subst, ◌≡◌, ℕ, ◌+◌, ◌-◌, ◌*◌, ◌%◌, ◌^◌, ◌<◌, arith, ap, sym, refl, ◌∙◌, ℤ, pos, negsuc, ◌+ℤ◌, ◌-ℤ◌, ◌*ℤ◌, neg_ℤ, unsigned_abs, Bool, true, false, ◌&&◌, nat_le, if◌then◌else◌}
+use Rattle.std.proofs.Common.{subst, ◌≡◌, ℕ, ◌+◌, ◌-◌, ◌*◌, ◌%◌, ◌^◌, ◌<◌, arith, ap, sym, refl}
+use Rattle.std.proofs.Common.{◌∙◌, ℤ, pos, negsuc, ◌+ℤ◌, ◌-ℤ◌, ◌*ℤ◌, neg_ℤ, unsigned_abs, Bool}
+use Rattle.std.proofs.Common.{true, false, ◌&&◌, nat_le, if◌then◌else◌}
 use Rattle.std.proofs.lemmas.Nat.{pow_pos}
 use Rattle.std.proofs.Math.Nat.{mod-eq_of_lt}
 use Rattle.std.specs.Int.{int_div_euclid, int_rem_euclid}
@@ -62,14 +64,36 @@ reduced-sum t a b =
     let w = width_of t in
     let j = value_beyond t a in
     let k = value_beyond t b in
-    reduced-beyond w (value_of t a +ℤ value_of t b) (pos (a + b)) (j.0 +ℤ k.0) (omega (arith, same_in, same_out, sum_is_lem, product_is, j.1, k.1, mul_sum j.0 k.0 (pos (2 ^ w)))) ∙ reduced-pos w (a + b)
+    reduced-beyond w (value_of t a +ℤ value_of t b) (pos (a + b)) (j.0 +ℤ k.0) (omega (
+      arith,
+      same_in,
+      same_out,
+      sum_is_lem,
+      product_is,
+      j.1,
+      k.1,
+      mul_sum j.0 k.0 (pos (2 ^ w)),
+    )) ∙ reduced-pos w (a + b)
 
 pub reduced-difference : (t : StreamType) (a b : ℕ) → b < 2 ^ width_of t → reduced (width_of t) (value_of t a -ℤ value_of t b) ≡ (a + (2 ^ width_of t - b)) % 2 ^ width_of t
 reduced-difference t a b h =
     let w = width_of t in
     let j = value_beyond t a in
     let k = value_beyond t b in
-    reduced-beyond w (value_of t a -ℤ value_of t b) (pos (a + (2 ^ w - b))) (j.0 +ℤ neg_ℤ (k.0 +ℤ pos 1)) (omega (arith, same_in, same_out, sum_is_lem, neg_is, product_is, j.1, k.1, mul_sum j.0 (neg_ℤ (k.0 +ℤ pos 1)) (pos (2 ^ w)), neg_mul (k.0 +ℤ pos 1) (pos (2 ^ w)), mul_sum k.0 (pos 1) (pos (2 ^ w)))) ∙ reduced-pos w (a + (2 ^ w - b))
+    reduced-beyond w (value_of t a -ℤ value_of t b) (pos (a + (2 ^ w - b)))
+    (j.0 +ℤ neg_ℤ (k.0 +ℤ pos 1)) (omega (
+      arith,
+      same_in,
+      same_out,
+      sum_is_lem,
+      neg_is,
+      product_is,
+      j.1,
+      k.1,
+      mul_sum j.0 (neg_ℤ (k.0 +ℤ pos 1)) (pos (2 ^ w)),
+      neg_mul (k.0 +ℤ pos 1) (pos (2 ^ w)),
+      mul_sum k.0 (pos 1) (pos (2 ^ w)),
+    )) ∙ reduced-pos w (a + (2 ^ w - b))
 
 pub reduced-product : (t : StreamType) (a b : ℕ) → reduced (width_of t) (value_of t a *ℤ value_of t b) ≡ (a * b) % 2 ^ width_of t
 reduced-product t a b =
@@ -95,7 +119,19 @@ pub negation_bits : (t : StreamType) (b w r : ℕ) → w ≡ width_of t → b < 
 negation_bits t b w r e h f =
     let k = value_beyond t b in
     f ∙ ap (λ x. (0 + (2 ^ x - b)) % 2 ^ x) e ∙ sym (reduced-pos (width_of t) (0 + (2 ^ width_of t - b)))
-    ∙ sym (reduced-beyond (width_of t) (pos 0 -ℤ value_of t b) (pos (0 + (2 ^ width_of t - b))) (neg_ℤ (k.0 +ℤ pos 1)) (let fits : b < 2 ^ width_of t = subst (λ x. b < 2 ^ x) e h in omega (arith, same_in, same_out, sum_is_lem, neg_is, product_is, k.1, neg_mul (k.0 +ℤ pos 1) (pos (2 ^ width_of t)), mul_sum k.0 (pos 1) (pos (2 ^ width_of t)))))
+    ∙ sym (reduced-beyond (width_of t) (pos 0 -ℤ value_of t b) (pos (0 + (2 ^ width_of t - b)))
+    (neg_ℤ (k.0 +ℤ pos 1)) (let fits : b < 2 ^ width_of t = subst
+    (λ x. b < 2 ^ x) e h in omega (
+      arith,
+      same_in,
+      same_out,
+      sum_is_lem,
+      neg_is,
+      product_is,
+      k.1,
+      neg_mul (k.0 +ℤ pos 1) (pos (2 ^ width_of t)),
+      mul_sum k.0 (pos 1) (pos (2 ^ width_of t)),
+    )))
 
 pub product_bits : (t : StreamType) (a b w r : ℕ) → w ≡ width_of t → r ≡ (a * b) % 2 ^ w → r ≡ reduced (width_of t) (value_of t a *ℤ value_of t b)
 product_bits t a b w r e f = f ∙ ap (λ k. (a * b) % 2 ^ k) e ∙ sym (reduced-product t a b)

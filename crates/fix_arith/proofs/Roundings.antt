@@ -1,5 +1,8 @@
 -- Rounding by the floor and what it leaves.
-use Rattle.std.proofs.Common.{lit<, ◌≡◌, ℕ, zero, suc, ◌+◌, ◌-◌, ◌*◌, ◌%◌, ◌^◌, ◌<◌, ◌≤◌, ◌⊎◌, inl, inr, ⊎_elim, arith, ap, sym, refl, ◌∙◌, Bool, true, false, not, ◌&&◌, ◌||◌, ◌==◌, nat_lt, nat_le, if◌then◌else◌, ℤ, pos, negsuc, ◌+ℤ◌, ◌-ℤ◌, ◌*ℤ◌, unsigned_abs}
+use Rattle.std.proofs.Common.{lit<, ◌≡◌, ℕ, zero, suc, ◌+◌, ◌-◌, ◌*◌, ◌%◌, ◌^◌, ◌<◌, ◌≤◌, ◌⊎◌, inl}
+use Rattle.std.proofs.Common.{inr, ⊎_elim, arith, ap, sym, refl, ◌∙◌, Bool, true, false, not, ◌&&◌}
+use Rattle.std.proofs.Common.{◌||◌, ◌==◌, nat_lt, nat_le, if◌then◌else◌, ℤ, pos, negsuc, ◌+ℤ◌, ◌-ℤ◌}
+use Rattle.std.proofs.Common.{◌*ℤ◌, unsigned_abs}
 use Rattle.std.specs.Int.{int_rem_euclid, int_div_euclid}
 use Rattle.std.specs.Ordering.{nat_cmp}
 use Rattle.std.proofs.Math.Nat.{mul-lt-mul_of_pos_right, mul-le-mul_right}
@@ -56,7 +59,9 @@ halves : (r d : ℕ) → d ≤ 2 * r → ((nat_lt d (2 * r) ≡ true) × (2 * r 
 halves r d h = ⊎_elim (λ l. inl (grind (arith, nat_tests), grind (arith, nat_tests))) (λ l. inr (grind (arith, nat_tests), grind (arith, nat_tests), grind (arith, nat_tests))) (cases_lt d (2 * r))
 
 -- the rest of the doubled number tells whether it is halfway
-even_parts : (z near : ℤ) (d rest : ℕ) (half : Bool) → (nearest_of z d ≡ near) × (int_rem_euclid (pos 2 *ℤ z +ℤ pos d) (pos (2 * d)) ≡ pos rest) → rest == 0 ≡ half → even_of (nearest_of z d) (is_halfway z d) ≡ even_of near half
+even_parts : (z near : ℤ) (d rest : ℕ) (half : Bool) → (nearest_of z d ≡ near)
+    × (int_rem_euclid (pos 2 *ℤ z +ℤ pos d) (pos (2 * d)) ≡ pos rest) → rest == 0 ≡ half
+    → even_of (nearest_of z d) (is_halfway z d) ≡ even_of near half
 even_parts z near d rest half both test = ap (λ n. even_of n (is_halfway z d)) both.0 ∙ ap (even_of near) (ap (λ y. unsigned_abs y == 0) both.1 ∙ test)
 
 even_low : (z q : ℤ) (d r : ℕ) → 2 * r < d → Splits z q d r → even_of (nearest_of z d) (is_halfway z d) ≡ next_if (nat_lt d (2 * r) || (2 * r == d && is_odd q)) q
@@ -67,11 +72,16 @@ even_low z q d r low e =
     let same : 2 * r == d ≡ false = grind (arith, nat_tests) in
     even_parts z q d (2 * r + d) false (below_half z q d r low e) rest ∙ sym (rw (over, same) refl)
 
-even_above : (z q : ℤ) (d r : ℕ) → r < d → d ≤ 2 * r → Splits z q d r → nat_lt d (2 * r) ≡ true → 2 * r - d == 0 ≡ false → even_of (nearest_of z d) (is_halfway z d) ≡ next_if (nat_lt d (2 * r) || (2 * r == d && is_odd q)) q
+even_above : (z q : ℤ) (d r : ℕ) → r < d → d ≤ 2 * r → Splits z q d r → nat_lt d (2 * r) ≡ true
+    → 2 * r - d == 0 ≡ false → even_of (nearest_of z d) (is_halfway z d) ≡ next_if
+    (nat_lt d (2 * r) || (2 * r == d && is_odd q)) q
 unfolding even_of
 even_above z q d r h high e over rest = even_parts z (q +ℤ pos 1) d (2 * r - d) false (from_half z q d r h high e) rest ∙ sym (rw over refl)
 
-even_half : (z q : ℤ) (d r : ℕ) → r < d → d ≤ 2 * r → Splits z q d r → nat_lt d (2 * r) ≡ false → 2 * r == d ≡ true → 2 * r - d == 0 ≡ true → even_of (nearest_of z d) (is_halfway z d) ≡ next_if (nat_lt d (2 * r) || (2 * r == d && is_odd q)) q
+even_half : (z q : ℤ) (d r : ℕ) → r < d → d ≤ 2 * r → Splits z q d r → nat_lt d (2 * r) ≡ false
+    → 2 * r == d ≡ true → 2 * r - d == 0 ≡ true
+    → even_of (nearest_of z d) (is_halfway z d) ≡ next_if (nat_lt d (2 * r) || (2 * r == d
+    && is_odd q)) q
 even_half z q d r h high e over same rest = even_parts z (q +ℤ pos 1) d (2 * r - d) true (from_half z q d r h high e) rest ∙ at_half q ∙ sym (rw (over, same) refl)
 
 even_by : (z q : ℤ) (d r : ℕ) → r < d → Splits z q d r → even_of (nearest_of z d) (is_halfway z d) ≡ next_if (nat_lt d (2 * r) || (2 * r == d && is_odd q)) q
@@ -124,7 +134,11 @@ scaled_eq : (m n c : ℕ) → 0 < c → m * c == n * c ≡ (m == n)
 scaled_eq m n c h =
     ⊎_elim
     (λ low. let more = mul-lt-mul_of_pos_right low h in grind (arith, nat_tests))
-    (λ high. ⊎_elim (λ above. let more = mul-lt-mul_of_pos_right above h in grind (arith, nat_tests)) (λ same. let e : m ≡ n = omega arith in let ec : m * c ≡ n * c = ap (λ k. k * c) e in grind (arith, nat_tests)) (cases_lt n m))
+    (λ high. ⊎_elim (λ above. let more = mul-lt-mul_of_pos_right above h in grind (
+      arith,
+      nat_tests,
+    )) (λ same. let e : m ≡ n = omega arith in let ec : m * c ≡ n * c = ap
+    (λ k. k * c) e in grind (arith, nat_tests)) (cases_lt n m))
     (cases_lt m n)
 
 up_scaled : (mode : RoundMode) (odd : Bool) (r d c : ℕ) → 0 < c → rounds_up mode odd (r * c) (d * c) ≡ rounds_up mode odd r d
@@ -167,6 +181,8 @@ rounded-scaled mode z d c some more =
     let r = unsigned_abs (int_rem_euclid z (pos d)) in
     let split = splits z d some in
     let below = rest_below z d some in
-    rounded_by mode (z *ℤ pos c) q (d * c) (r * c) (mul-lt-mul_of_pos_right below more) (ap (λ k. k *ℤ pos c) split ∙ mul_sum (q *ℤ pos d) (pos r) (pos c) ∙ ap (λ k. k +ℤ pos (r * c)) (mul_assoc q (pos d) (pos c)))
+    rounded_by mode (z *ℤ pos c) q (d * c) (r * c) (mul-lt-mul_of_pos_right below more)
+    (ap (λ k. k *ℤ pos c) split ∙ mul_sum (q *ℤ pos d) (pos r) (pos c) ∙ ap
+    (λ k. k +ℤ pos (r * c)) (mul_assoc q (pos d) (pos c)))
     ∙ ap (λ b. next_if b q) (up_scaled mode (is_odd q) r d c more)
     ∙ sym (rounded_by mode z q d r below split)

@@ -13,7 +13,20 @@ pub mul_assoc : (a b c : ℤ) → (a *ℤ b) *ℤ c ≡ a *ℤ (b *ℤ c)
 mul_assoc a b c =
     let left = product_is a b in
     let right = product_is b c in
-    omega (arith, same_in, product_is (a *ℤ b) c, product_is a (b *ℤ c), ap (λ k. k * up c) left.0, ap (λ k. k * down c) left.0, ap (λ k. k * up c) left.1, ap (λ k. k * down c) left.1, ap (λ k. up a * k) right.0, ap (λ k. down a * k) right.0, ap (λ k. up a * k) right.1, ap (λ k. down a * k) right.1)
+    omega (
+      arith,
+      same_in,
+      product_is (a *ℤ b) c,
+      product_is a (b *ℤ c),
+      ap (λ k. k * up c) left.0,
+      ap (λ k. k * down c) left.0,
+      ap (λ k. k * up c) left.1,
+      ap (λ k. k * down c) left.1,
+      ap (λ k. up a * k) right.0,
+      ap (λ k. down a * k) right.0,
+      ap (λ k. up a * k) right.1,
+      ap (λ k. down a * k) right.1,
+    )
 
 pub neg_mul : (a b : ℤ) → neg_ℤ a *ℤ b ≡ neg_ℤ (a *ℤ b)
 neg_mul a b =

@@ -1,5 +1,7 @@
 -- Words and the numbers that they stand for.
-use Rattle.std.proofs.Common.{ℤ, subst, pow_pos, Bool, unsigned_abs, ◌≡◌, ◌<◌, ◌≤◌, ◌+◌, ◌-◌, ◌*◌, ◌/◌, ◌%◌, ◌^◌, ℕ, arith, ap, sym, refl, ◌∙◌, pos, negsuc, ◌-ℤ◌, true, false, ◌&&◌, ◌==◌, nat_le, nat_lt, if◌then◌else◌, ⊎_elim}
+use Rattle.std.proofs.Common.{ℤ, subst, pow_pos, Bool, unsigned_abs, ◌≡◌, ◌<◌, ◌≤◌, ◌+◌, ◌-◌, ◌*◌}
+use Rattle.std.proofs.Common.{◌/◌, ◌%◌, ◌^◌, ℕ, arith, ap, sym, refl, ◌∙◌, pos, negsuc, ◌-ℤ◌, true}
+use Rattle.std.proofs.Common.{false, ◌&&◌, ◌==◌, nat_le, nat_lt, if◌then◌else◌, ⊎_elim}
 use Rattle.std.proofs.lemmas.Bool.{cases_lt}
 use Rattle.std.proofs.lemmas.Bool.Decides.{nat_tests}
 use Rattle.std.proofs.lemmas.Nat.{pow-add, div-mul-add}
@@ -24,7 +26,11 @@ pub shifting : (n k : ℕ) → n < 2 ^ 128 → (if nat_lt k 128 then n / 2 ^ k e
 shifting n k h =
     ⊎_elim
     (λ low. let test : nat_lt k 128 ≡ true = grind (arith, nat_tests) in ap (λ b. if b then n / 2 ^ k else 0) test)
-    (λ high. let test : nat_lt k 128 ≡ false = grind (arith, nat_tests) in let most : 2 ^ 128 ≤ 2 ^ k = pow_mono high in let none : n / 2 ^ k ≡ 0 = div-eq_of_lt (omega arith) in ap (λ b. if b then n / 2 ^ k else 0) test ∙ sym none)
+    (λ high. let test : nat_lt k 128 ≡ false = grind (
+      arith,
+      nat_tests,
+    ) in let most : 2 ^ 128 ≤ 2 ^ k = pow_mono high in let none : n / 2 ^ k
+    ≡ 0 = div-eq_of_lt (omega arith) in ap (λ b. if b then n / 2 ^ k else 0) test ∙ sym none)
     (cases_lt k 128)
 
 twice_half : (w : ℕ) → 1 ≤ w → 2 ^ w ≡ 2 ^ (w - 1) * 2
@@ -36,7 +42,10 @@ top_bit w bits h fits =
     let twice = twice_half w h in
     ⊎_elim
     (λ low. let none : bits / 2 ^ (w - 1) ≡ 0 = div-eq_of_lt low in grind (arith, nat_tests))
-    (λ high. let more : bits ≡ 1 * 2 ^ (w - 1) + (bits - 2 ^ (w - 1)) = omega arith in let one : bits / 2 ^ (w - 1) ≡ 1 = ap (λ k. k / 2 ^ (w - 1)) more ∙ div-mul-add 1 (2 ^ (w - 1)) (bits - 2 ^ (w - 1)) (omega arith) in grind (arith, nat_tests))
+    (λ high. let more : bits ≡ 1 * 2 ^ (w - 1) + (bits - 2 ^
+    (w - 1)) = omega arith in let one : bits / 2 ^ (w - 1) ≡ 1 = ap
+    (λ k. k / 2 ^ (w - 1)) more ∙ div-mul-add 1 (2 ^ (w - 1)) (bits - 2 ^ (w - 1))
+    (omega arith) in grind (arith, nat_tests))
     (cases_lt bits (2 ^ (w - 1)))
 
 pub below_zero : (t : StreamType) (bits : ℕ) → bits < 2 ^ width_of t → is_signed t && nat_le (2 ^ (width_of t - 1)) bits ≡ true → negsuc (2 ^ width_of t - 1 - bits) ≡ value_of t bits
@@ -59,7 +68,11 @@ size_of_value t bits some fits =
     elim (is_signed t) as (λ (s : Bool). unsigned_abs (if s && nat_le (2 ^ (width_of t - 1)) bits then pos bits -ℤ pos (2 ^ width_of t) else pos bits) < 2 ^ width_of t) [
       | true ↦ ⊎_elim
           (λ low. let test : nat_le (2 ^ (width_of t - 1)) bits ≡ false = grind (arith, nat_tests) in rw test fits)
-          (λ high. let test : nat_le (2 ^ (width_of t - 1)) bits ≡ true = grind (arith, nat_tests) in rw test (size_below_zero bits (2 ^ (width_of t - 1)) (2 ^ width_of t) (pow_pos (width_of t - 1)) high fits))
+          (λ high. let test : nat_le (2 ^ (width_of t - 1)) bits ≡ true = grind (
+            arith,
+            nat_tests,
+          ) in rw test (size_below_zero bits (2 ^ (width_of t - 1))
+          (2 ^ width_of t) (pow_pos (width_of t - 1)) high fits))
           (cases_lt bits (2 ^ (width_of t - 1)))
       | false ↦ fits
     ]

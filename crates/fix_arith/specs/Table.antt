@@ -1,5 +1,7 @@
 -- The operations on words: exact on their numbers, then rounded, then reduced.
-use Rattle.std.specs.Prelude.{◌≡◌, ℕ, ◌-◌, ◌^◌, Bool, ◌==◌, if◌then◌else◌, IsTrue, Option, Some, None, List, length, map, drop, slice_get, slice_index_or, bit_and, bit_or, bit_xor, ℤ, pos, ◌+ℤ◌, ◌-ℤ◌, ◌*ℤ◌, int_div}
+use Rattle.std.specs.Prelude.{◌≡◌, ℕ, ◌-◌, ◌^◌, Bool, ◌==◌, if◌then◌else◌, IsTrue, Option, Some}
+use Rattle.std.specs.Prelude.{None, List, length, map, drop, slice_get, slice_index_or, bit_and}
+use Rattle.std.specs.Prelude.{bit_or, bit_xor, ℤ, pos, ◌+ℤ◌, ◌-ℤ◌, ◌*ℤ◌, int_div}
 use Rattle.std.specs.Ordering.{int_cmp, is_eq, is_ne, is_lt, is_le, is_gt, is_ge}
 use Rattle.mx_bits.specs.declared.op.Op.{Op}
 use Rattle.mx_bits.specs.declared.op.Op.TheVariants.{Add, Sub, Mul, Div, Neg, And, Or, Xor, Not, Shl, Shr, Eq, Ne, Lt, Le, Gt, Ge, Mux, Cast, Round}

@@ -50,7 +50,9 @@ fn is_writable(number: &Number, out: StreamType) -> bool
 // A number times two to `bits`, rounded. None where it has more than 128 bits.
 fn scaled(number: &Number, mode: RoundMode, bits: u8) -> Option<Integer>
     ensures some { IfSome result (λ n. exact n ≡ rounded mode (signed_of number.now.negative number.now.digits *ℤ pos (2 ^ bits)) (10 ^ number.now.tens)) }
-    ensures none { IfNone result (2 ^ 128 ≤ unsigned_abs (rounded mode (signed_of number.now.negative number.now.digits *ℤ pos (2 ^ bits)) (10 ^ number.now.tens))) }
+    ensures none { IfNone result (2 ^ 128 ≤ unsigned_abs
+        (rounded mode (signed_of number.now.negative number.now.digits *ℤ pos (2 ^ bits))
+        (10 ^ number.now.tens))) }
 {
     let divisor = power_of_ten(number.tens);
     let size = long_division(number.digits, bits, divisor)?;

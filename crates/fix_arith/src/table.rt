@@ -97,7 +97,8 @@ fn quotient(a: Word, b: Word, t: StreamType) -> Option<Word>
     requires word_type { HasWidth t }
     requires first { a.width ≡ width_of t }
     requires second { b.width ≡ width_of t }
-    ensures bits { option_map (λ w. w.bits) result ≡ (if b.bits == 0 then None else Some (reduced (width_of t) (int_div (value_of t a.bits) (value_of t b.bits)))) }
+    ensures bits { option_map (λ w. w.bits) result ≡ (if b.bits == 0 then None else Some
+        (reduced (width_of t) (int_div (value_of t a.bits) (value_of t b.bits)))) }
     ensures width { IfSome result (λ w. w.width ≡ width_of t) }
 {
     if b.bits() == 0 {

@@ -1,7 +1,9 @@
 // The type of an operation's result.
 ghost use Rattle.std.specs.Prelude.{◌≡◌, ◌+◌, ◌≤◌, ◌<◌, ◌^◌, ◌⊎◌, ◌↔◌, IsTrue, IfOk, IfErr, All, length, ◌<ℤ◌, pos};
 ghost use Rattle.fix_arith.specs.Types.{width_of, HasWidth};
-ghost use Rattle.fix_arith.specs.Typing.{HasOperands, takes, can_cast, IsFor, is_selector, is_fix, is_shift, alike, AllSame, type_of, first, IsFirstFault, HasType};
+ghost use Rattle.fix_arith.specs.Typing.{HasOperands, takes, can_cast, IsFor, is_selector, is_fix};
+ghost use Rattle.fix_arith.specs.Typing.{is_shift, alike, AllSame, type_of, first, IsFirstFault};
+ghost use Rattle.fix_arith.specs.Typing.{HasType};
 
 use crate::{StreamType, TypeError};
 use mx_bits::Op;

@@ -22,7 +22,9 @@ some_is (Some x) e = refl
 
 module _ {T : Type 0} (Skips : List ℕ → List ℕ → Type 0) (token_of : List ℕ → Option T) (Apart : T → List ℕ → Type 0) where
   -- of two words that are next in one text, one is the other
-  pub same_next : {word rest other back : List ℕ} {t u : T} → IsNext Skips token_of Apart word rest t → IsNext Skips token_of Apart other back u → word ++ rest ≡ other ++ back → (word ≡ other) × (rest ≡ back)
+  pub same_next : {word rest other back : List ℕ} {t u : T}
+      → IsNext Skips token_of Apart word rest t → IsNext Skips token_of Apart other back u
+      → word ++ rest ≡ other ++ back → (word ≡ other) × (rest ≡ back)
   same_next {word = word} {rest = rest} {other = other} {back = back} n m e =
       elim (two_fronts word rest other back e) [
         | inl w ↦

@@ -7,14 +7,18 @@ use Rattle.std.specs.Prelude.{ℕ, ◌+◌, ◌<◌, ◌≤◌, List, [], ◌∷
 pub data Derives {P T : Type 0} (Is : P → T → Type 0) (Choice : P → List P → Type 0) : List P → List T → Type 0 where
   none : Derives Is Choice [] []
   token : {p : P} {t : T} {ps : List P} {ts : List T} → Is p t → Derives Is Choice ps ts → Derives Is Choice (p ∷ ps) (t ∷ ts)
-  choice : {p : P} {qs ps : List P} {front back : List T} → Choice p qs → Derives Is Choice qs front → Derives Is Choice ps back → Derives Is Choice (p ∷ ps) (front ++ back)
+  choice : {p : P} {qs ps : List P} {front back : List T} → Choice p qs
+      → Derives Is Choice qs front → Derives Is Choice ps back
+      → Derives Is Choice (p ∷ ps) (front ++ back)
 
 -- the tokens begin the part: they are none, or the token that the part is, or, for one choice of the part, whole lists of
 -- the choice's first parts and then what begins the next part
 pub data Begins {P T : Type 0} (Is : P → T → Type 0) (Choice : P → List P → Type 0) : P → List T → Type 0 where
   none : {p : P} → Begins Is Choice p []
   token : {p : P} {t : T} → Is p t → Begins Is Choice p (t ∷ [])
-  choice : {p q : P} {first : List P} (rest : List P) {front back : List T} → Choice p (first ++ q ∷ rest) → Derives Is Choice first front → Begins Is Choice q back → Begins Is Choice p (front ++ back)
+  choice : {p q : P} {first : List P} (rest : List P) {front back : List T}
+      → Choice p (first ++ q ∷ rest) → Derives Is Choice first front → Begins Is Choice q back
+      → Begins Is Choice p (front ++ back)
 
 -- The token at this place is the first with which the tokens begin none of the parts that may stand first. Where the place
 -- is the end of the tokens, they are no whole list of one.

@@ -4,17 +4,22 @@
 use Rattle.std.specs.Prelude.{◌≡◌, ◌⊎◌, ◌==◌, ◌||◌, ℕ, Bool, true, List, [], ◌∷◌, ◌++◌, Option, Some, IsSome, Contains}
 
 -- a word is the longest that is a token here, nothing is passed over here, and the rest may follow
-pub record IsNext {T : Type 0} (Skips : List ℕ → List ℕ → Type 0) (token_of : List ℕ → Option T) (Apart : T → List ℕ → Type 0) (word rest : List ℕ) (t : T) : Type 0 where
+pub record IsNext {T : Type 0} (Skips : List ℕ → List ℕ → Type 0) (token_of : List ℕ
+    → Option T) (Apart : T → List ℕ → Type 0) (word rest : List ℕ) (t : T) : Type 0 where
   pub is : token_of word ≡ Some t
   pub longest : (more back : List ℕ) → rest ≡ more ++ back → IsSome (token_of (word ++ more)) → more ≡ []
   pub begins : (gap back : List ℕ) → word ++ rest ≡ gap ++ back → Skips gap back → ⊥
   pub apart : Apart t rest
 
 -- the first of these bytes are the tokens ts, and the rest is left
-pub data Reads {T : Type 0} (Skips : List ℕ → List ℕ → Type 0) (token_of : List ℕ → Option T) (Apart : T → List ℕ → Type 0) : List ℕ → List T → List ℕ → Type 0 where
+pub data Reads {T : Type 0} (Skips : List ℕ → List ℕ → Type 0) (token_of : List ℕ
+    → Option T) (Apart : T → List ℕ → Type 0) : List ℕ → List T → List ℕ → Type 0 where
   end : {bytes : List ℕ} → Reads Skips token_of Apart bytes [] bytes
-  skip : {rest left : List ℕ} {ts : List T} (gap : List ℕ) → Skips gap rest → Reads Skips token_of Apart rest ts left → Reads Skips token_of Apart (gap ++ rest) ts left
-  token : {rest left : List ℕ} {t : T} {ts : List T} (word : List ℕ) → IsNext Skips token_of Apart word rest t → Reads Skips token_of Apart rest ts left → Reads Skips token_of Apart (word ++ rest) (t ∷ ts) left
+  skip : {rest left : List ℕ} {ts : List T} (gap : List ℕ) → Skips gap rest
+      → Reads Skips token_of Apart rest ts left → Reads Skips token_of Apart (gap ++ rest) ts left
+  token : {rest left : List ℕ} {t : T} {ts : List T} (word : List ℕ)
+      → IsNext Skips token_of Apart word rest t → Reads Skips token_of Apart rest ts left
+      → Reads Skips token_of Apart (word ++ rest) (t ∷ ts) left
 
 -- all of the bytes are the tokens ts
 abbrev pub IsText : {T : Type 0} → (List ℕ → List ℕ → Type 0) → (List ℕ → Option T) → (T → List ℕ → Type 0) → List ℕ → List T → Type 0

@@ -32,7 +32,11 @@ use Rattle.kernel_ports.proofs.Spelled.{
   inputs_spelled,
   outputs_spelled,
 }
-use Rattle.kernel_ports.proofs.Apart.{AreApart, is_there, there_on, apart_on, both_other, no_scalar, no_input, no_output, scalars_no_inputs, scalars_no_outputs, inputs_no_outputs, scalars_no_end, inputs_no_end, outputs_no_end, is_of, AreDifferent, scalars_apart, inputs_apart, outputs_apart}
+use Rattle.kernel_ports.proofs.Apart.{AreApart, is_there, there_on, apart_on, both_other, no_scalar}
+use Rattle.kernel_ports.proofs.Apart.{no_input, no_output, scalars_no_inputs, scalars_no_outputs}
+use Rattle.kernel_ports.proofs.Apart.{inputs_no_outputs, scalars_no_end, inputs_no_end}
+use Rattle.kernel_ports.proofs.Apart.{outputs_no_end, is_of, AreDifferent, scalars_apart}
+use Rattle.kernel_ports.proofs.Apart.{inputs_apart, outputs_apart}
 
 -- ---- the numbers of the nodes of a kind rise
 

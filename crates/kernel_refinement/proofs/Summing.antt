@@ -227,8 +227,12 @@ shows w one nothing o z k c v ticks f e3 small due ends =
     let m20 : v 20 ≡ bit (leb 1 p) = n.n20 ∙ not_bit (ltb p 1) ∙ ap bit (not_below p 1) in
     let m21 : v 21 ≡ bit dy = n.n21 ∙ ap (λ x. bit_and x (v 18)) m20 ∙ ap (bit_and (bit (leb 1 p))) m18 ∙ and_bits (leb 1 p) live in
     let m22 : v 22 ≡ bit (not held) = n.n22 ∙ ap (λ x. 2 ^ 1 - 1 - x) (as_bit (v 2) s2) ∙ not_bit held in
-    let m24 : v 24 ≡ bit okx = n.n24 ∙ ap (λ x. bit_or (2 ^ 1 - 1 - x) (v 5)) m16 ∙ ap (λ x. bit_or x (v 5)) (not_bit dx) ∙ ap (bit_or (bit (not dx))) (as_bit (v 5) s5) ∙ or_bits (not dx) (eqb (v 5) 1) in
-    let m26 : v 26 ≡ bit oky = n.n26 ∙ ap (λ x. bit_or (2 ^ 1 - 1 - x) (v 9)) m21 ∙ ap (λ x. bit_or x (v 9)) (not_bit dy) ∙ ap (bit_or (bit (not dy))) (as_bit (v 9) s9) ∙ or_bits (not dy) (eqb (v 9) 1) in
+    let m24 : v 24 ≡ bit okx = n.n24 ∙ ap (λ x. bit_or (2 ^ 1 - 1 - x) (v 5)) m16 ∙ ap
+    (λ x. bit_or x (v 5)) (not_bit dx) ∙ ap (bit_or (bit (not dx)))
+    (as_bit (v 5) s5) ∙ or_bits (not dx) (eqb (v 5) 1) in
+    let m26 : v 26 ≡ bit oky = n.n26 ∙ ap (λ x. bit_or (2 ^ 1 - 1 - x) (v 9)) m21 ∙ ap
+    (λ x. bit_or x (v 9)) (not_bit dy) ∙ ap (bit_or (bit (not dy)))
+    (as_bit (v 9) s9) ∙ or_bits (not dy) (eqb (v 9) 1) in
     let m29 : v 29 ≡ bit go =
     n.n29
     ∙ ap (λ x. bit_and (v 22) (bit_and (v 18) (bit_and x (v 26)))) m24 ∙ ap (λ x. bit_and (v 22) (bit_and (v 18) (bit_and (bit okx) x))) m26
@@ -254,21 +258,121 @@ cleared w one nothing o z c v d s r =
     let on : eqb (v 32) 1 ≡ true = ap (λ x. eqb x 1) (n.n32 ∙ ap (λ x. bit_or x (v 29)) r ∙ ap (bit_or 1) (as_bit (v 29) s29)) ∙ or_true (eqb (v 29) 1) in
     s.moves.0 ∙ ap (λ b. cond b (v 31) (c.regs 11)) on ∙ n.n31 ∙ ap (λ x. cond (eqb x 1) 0 ((v 11 + 1) % 2 ^ 48)) r
 
-steps : (w : ℕ) (one nothing : Word) → one.bits ≡ 1 → nothing.bits ≡ 0 → (c : Contents) (v : Family) (d : Contents) → Step (sum_module w one nothing) c v d → v 1 ≡ 0 → d.regs 11 ≡ cond (eqb (v 29) 1) ((v 11 + 1) % 2 ^ 48) (c.regs 11)
+steps : (w : ℕ) (one nothing : Word) → one.bits ≡ 1 → nothing.bits ≡ 0
+    → (c : Contents) (v : Family) (d : Contents) → Step (sum_module w one nothing) c v d
+    → v 1 ≡ 0 → d.regs 11 ≡ cond (eqb (v 29) 1) ((v 11 + 1) % 2 ^ 48) (c.regs 11)
 steps w one nothing o z c v d s r =
     let n = nets w one nothing c v o z s.holds in
     let s29 : v 29 < 2 ^ 1 = s.holds.words 29 (omega arith) in
     let on : eqb (v 32) 1 ≡ eqb (v 29) 1 = ap (λ x. eqb x 1) (n.n32 ∙ ap (λ x. bit_or x (v 29)) r ∙ ap (bit_or 0) (as_bit (v 29) s29) ∙ or_bits false (eqb (v 29) 1)) ∙ test_bit (eqb (v 29) 1) in
     s.moves.0 ∙ ap (λ b. cond b (v 31) (c.regs 11)) on ∙ ap (λ x. cond (eqb (v 29) 1) x (c.regs 11)) (n.n31 ∙ ap (λ x. cond (eqb x 1) 0 ((v 11 + 1) % 2 ^ 48)) r)
 
-still : (w : ℕ) (one nothing : Word) → one.bits ≡ 1 → nothing.bits ≡ 0 → (c : Contents) (v : Family) → Holds (sum_module w one nothing) c v → v 29 ≡ 0 → v 1 ≡ 0 → AllOff v (sum_module w one nothing).updates
+still : (w : ℕ) (one nothing : Word) → one.bits ≡ 1 → nothing.bits ≡ 0
+    → (c : Contents) (v : Family) → Holds (sum_module w one nothing) c v → v 29 ≡ 0 → v 1 ≡ 0
+    → AllOff v (sum_module w one nothing).updates
 still w one nothing o z c v h run reset =
     let n = nets w one nothing c v o z h in
     let e : v 32 ≡ bit_or 0 0 = n.n32 ∙ ap (λ x. bit_or x (v 29)) reset ∙ ap (bit_or 0) run in
     (ap (λ x. eqb x 1) e, (ap (λ x. eqb x 1) run, tt))
 
 sound : (w : ℕ) (one nothing : Word) → IsSound (sum_module w one nothing)
-sound w one nothing = record { range = (omega arith, (omega arith, omega arith), (omega arith, tt, (omega arith, tt, (omega arith, (omega arith, omega arith), (omega arith, (omega arith, omega arith), (omega arith, (omega arith, omega arith), (omega arith, (omega arith, omega arith), (omega arith, omega arith, (omega arith, (omega arith, omega arith), (omega arith, omega arith, (omega arith, omega arith, (omega arith, omega arith, (omega arith, (omega arith, omega arith), (omega arith, omega arith, (omega arith, (omega arith, omega arith), (omega arith, (omega arith, omega arith), (omega arith, (omega arith, omega arith), (omega arith, (omega arith, omega arith), (omega arith, (omega arith, omega arith), (omega arith, (omega arith, omega arith), (omega arith, omega arith, (omega arith, (omega arith, omega arith), (omega arith, (omega arith, omega arith, omega arith), (omega arith, (omega arith, omega arith), tt)))))))))))))))))))))))); updates = (omega arith, (omega arith, tt)); apart = (refl, (refl, tt)) }
+sound w one nothing = record {
+  range = (
+    omega arith,
+    (omega arith, omega arith),
+    (
+      omega arith,
+      tt,
+      (
+        omega arith,
+        tt,
+        (
+          omega arith,
+          (omega arith, omega arith),
+          (
+            omega arith,
+            (omega arith, omega arith),
+            (
+              omega arith,
+              (omega arith, omega arith),
+              (
+                omega arith,
+                (omega arith, omega arith),
+                (
+                  omega arith,
+                  omega arith,
+                  (
+                    omega arith,
+                    (omega arith, omega arith),
+                    (
+                      omega arith,
+                      omega arith,
+                      (
+                        omega arith,
+                        omega arith,
+                        (
+                          omega arith,
+                          omega arith,
+                          (
+                            omega arith,
+                            (omega arith, omega arith),
+                            (
+                              omega arith,
+                              omega arith,
+                              (
+                                omega arith,
+                                (omega arith, omega arith),
+                                (
+                                  omega arith,
+                                  (omega arith, omega arith),
+                                  (
+                                    omega arith,
+                                    (omega arith, omega arith),
+                                    (
+                                      omega arith,
+                                      (omega arith, omega arith),
+                                      (
+                                        omega arith,
+                                        (omega arith, omega arith),
+                                        (
+                                          omega arith,
+                                          (omega arith, omega arith),
+                                          (
+                                            omega arith,
+                                            omega arith,
+                                            (
+                                              omega arith,
+                                              (omega arith, omega arith),
+                                              (
+                                                omega arith,
+                                                (omega arith, omega arith, omega arith),
+                                                (omega arith, (omega arith, omega arith), tt),
+                                              ),
+                                            ),
+                                          ),
+                                        ),
+                                      ),
+                                    ),
+                                  ),
+                                ),
+                              ),
+                            ),
+                          ),
+                        ),
+                      ),
+                    ),
+                  ),
+                ),
+              ),
+            ),
+          ),
+        ),
+      ),
+    ),
+  );
+  updates = (omega arith, (omega arith, tt));
+  apart = (refl, (refl, tt));
+}
 
 -- the sum one advance ago
 behind : (w : ℕ) (one nothing : Word) → IsDelay (sum_module w one nothing) 29 1 13 12 1

@@ -1,5 +1,8 @@
 -- Turns of filling leave the same to be made.
-use Rattle.std.proofs.Common.{◌≡◌, ℕ, zero, suc, ◌+◌, ◌-◌, ◌<◌, ◌≤◌, List, [], ◌∷◌, ◌++◌, refl, ap, sym, ◌∙◌, subst, arith, Ok, Err, Some, None, length, length-append, length-drop, append_assoc, append-nil, drop, take, drop-cons, slice_index}
+use Rattle.std.proofs.Common.{◌≡◌, ℕ, zero, suc, ◌+◌, ◌-◌, ◌<◌, ◌≤◌, List, [], ◌∷◌, ◌++◌, refl, ap}
+use Rattle.std.proofs.Common.{sym, ◌∙◌, subst, arith, Ok, Err, Some, None, length, length-append}
+use Rattle.std.proofs.Common.{length-drop, append_assoc, append-nil, drop, take, drop-cons}
+use Rattle.std.proofs.Common.{slice_index}
 use Rattle.std.specs.Prelude.{Option, Result}
 use Rattle.std.proofs.Math.Seq.{take-append_seam, take-length}
 use Rattle.std.proofs.lemmas.List.{length-take}

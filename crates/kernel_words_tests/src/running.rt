@@ -11,8 +11,10 @@ use std::alloc::Global;
 use stream_graph::{Kernel, Kind, NodeId};
 
 // No operation takes a tick.
-const AT_ONCE: &str =
-    "{\"add\":[[1,0]],\"sub\":[[1,0]],\"mul\":[[1,0]],\"div\":[[1,0]],\"neg\":[[1,0]],\"and\":[[1,0]],\"or\":[[1,0]],\"xor\":[[1,0]],\"not\":[[1,0]],\"eq\":[[1,0]],\"ne\":[[1,0]],\"lt\":[[1,0]],\"le\":[[1,0]],\"gt\":[[1,0]],\"ge\":[[1,0]],\"mux\":[[1,0]],\"round\":[[1,0]]}";
+const AT_ONCE: &str = "{\"add\":[[1,0]],\"sub\":[[1,0]],\"mul\":[[1,0]],\"div\":[[1,0]],\"neg\":\
+        [[1,0]],\"and\":[[1,0]],\"or\":[[1,0]],\"xor\":[[1,0]],\"not\":[[1,0]],\"eq\":\
+        [[1,0]],\"ne\":[[1,0]],\"lt\":[[1,0]],\"le\":[[1,0]],\"gt\":[[1,0]],\"ge\":\
+        [[1,0]],\"mux\":[[1,0]],\"round\":[[1,0]]}";
 
 /// The words of the first output of a kernel, and whether its run is guarded; or why there are none.
 #[derive(Debug, Drop)]

@@ -1,5 +1,7 @@
 -- The last row that isn't above a width is the greatest.
-use Rattle.std.proofs.Common.{◌≡◌, ℕ, ◌<◌, ◌≤◌, zero, suc, List, [], ◌∷◌, length, map, reverse, get_or, Option, Some, None, option_map, Bool, true, false, ◌&&◌, cond, nat_lt, nat_le, refl, sym, ap, subst, ◌∙◌, arith}
+use Rattle.std.proofs.Common.{◌≡◌, ℕ, ◌<◌, ◌≤◌, zero, suc, List, [], ◌∷◌, length, map, reverse}
+use Rattle.std.proofs.Common.{get_or, Option, Some, None, option_map, Bool, true, false, ◌&&◌, cond}
+use Rattle.std.proofs.Common.{nat_lt, nat_le, refl, sym, ap, subst, ◌∙◌, arith}
 use Rattle.std.specs.List.{All, Contains, find, list_all}
 use Rattle.std.specs.Option.{option_or}
 use Rattle.std.proofs.lemmas.List.Elements.{All-cons}

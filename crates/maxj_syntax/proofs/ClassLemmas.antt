@@ -112,12 +112,41 @@ by_kinds c t ks e h = each_kind (Is c t) (kind_of t) ks e h refl
 is_name_token : (t : Token) → among (kind_of t) names ≡ true → IsNameToken t
 is_name_token t e = by_kinds C.Name t names e (
   plain_name t,
-  (by_word C.Name t W.Kernel (refl, refl), (by_word C.Name t W.CustomManager (refl, refl), (by_word C.Name t W.Memory (refl, refl), (by_word C.Name t W.DFEVar (refl, refl), (by_word C.Name t W.KernelParameters (refl, refl), (by_word C.Name t W.EngineParameters (refl, refl), tt)))))),
+  (
+    by_word C.Name t W.Kernel (refl, refl),
+    (
+      by_word C.Name t W.CustomManager (refl, refl),
+      (
+        by_word C.Name t W.Memory (refl, refl),
+        (
+          by_word C.Name t W.DFEVar (refl, refl),
+          (
+            by_word C.Name t W.KernelParameters (refl, refl),
+            (by_word C.Name t W.EngineParameters (refl, refl), tt),
+          ),
+        ),
+      ),
+    ),
+  ),
 )
 
 is_operator : (l : Level) (t : Token) → class_has (C.Operator l) (kind_of t) ≡ true → IsSignOf (signs_of l) t
-is_operator Level.Prefixes t e = let c = C.Operator Level.Prefixes in by_kinds c t (kinds_in c) e (by_sign c t S.Minus (refl, refl), (by_sign c t S.Tilde (refl, refl), (by_sign c t S.Not (refl, refl), tt)))
-is_operator Level.Products t e = let c = C.Operator Level.Products in by_kinds c t (kinds_in c) e (by_sign c t S.Star (refl, refl), (by_sign c t S.Slash (refl, refl), (by_sign c t S.Percent (refl, refl), tt)))
+is_operator Level.Prefixes t e = let c = C.Operator Level.Prefixes in by_kinds c t
+    (kinds_in c) e (
+      by_sign c t S.Minus (refl, refl),
+      (
+        by_sign c t S.Tilde (refl, refl),
+        (by_sign c t S.Not (refl, refl), tt),
+      ),
+    )
+is_operator Level.Products t e = let c = C.Operator Level.Products in by_kinds c t
+    (kinds_in c) e (
+      by_sign c t S.Star (refl, refl),
+      (
+        by_sign c t S.Slash (refl, refl),
+        (by_sign c t S.Percent (refl, refl), tt),
+      ),
+    )
 is_operator Level.Sums t e = let c = C.Operator Level.Sums in by_kinds c t (kinds_in c) e (by_sign c t S.Plus (refl, refl), (by_sign c t S.Minus (refl, refl), tt))
 is_operator Level.Shifts t e = let c = C.Operator Level.Shifts in by_kinds c t (kinds_in c) e (by_sign c t S.ShiftLeft (refl, refl), (by_sign c t S.ShiftRight (refl, refl), tt))
 is_operator Level.Orders t e = let c = C.Operator Level.Orders in
@@ -184,7 +213,16 @@ accepts C.Name t e = is_name_token t e
 accepts (C.NameBut w) t e = let h = has_without (kind_of t) (K.Word w) names e in (is_name_token t h.0, word_differs t w (is_name_token t h.0) h.1)
 accepts C.TypeWord t e = let c = C.TypeWord in by_kinds c t (kinds_in c) e (by_word c t W.Int (refl, refl), (by_word c t W.Boolean (refl, refl), tt))
 accepts C.Modifier t e = let c = C.Modifier in
-    by_kinds c t (kinds_in c) e (by_word c t W.Public (refl, refl), (by_word c t W.Private (refl, refl), (by_word c t W.Protected (refl, refl), (by_word c t W.Static (refl, refl), (by_word c t W.Final (refl, refl), tt)))))
+    by_kinds c t (kinds_in c) e (
+      by_word c t W.Public (refl, refl),
+      (
+        by_word c t W.Private (refl, refl),
+        (
+          by_word c t W.Protected (refl, refl),
+          (by_word c t W.Static (refl, refl), (by_word c t W.Final (refl, refl), tt)),
+        ),
+      ),
+    )
 accepts C.ValueWord t e = let c = C.ValueWord in by_kinds c t (kinds_in c) e (by_word c t W.This (refl, refl), (by_word c t W.True (refl, refl), (by_word c t W.False (refl, refl), tt)))
 accepts C.Literal t e = is_literal t e
 accepts C.Assigning t e = let c = C.Assigning in

@@ -7,7 +7,9 @@ use Rattle.text_scan.specs.Places as places
 use Rattle.maxj_tokens.proofs.Lexemes.{written_is}
 use Rattle.maxj_syntax.specs.Building.{EndsIn}
 
-more : (t : PlacedToken) (ts : List PlacedToken) → EndsIn t → ((n : ℕ) (d : PlacedToken) → n < length ts → EndsIn (get_or ts n d)) → (n : ℕ) (d : PlacedToken) → n < length (t ∷ ts) → EndsIn (get_or (t ∷ ts) n d)
+more : (t : PlacedToken) (ts : List PlacedToken) → EndsIn t
+    → ((n : ℕ) (d : PlacedToken) → n < length ts → EndsIn (get_or ts n d))
+    → (n : ℕ) (d : PlacedToken) → n < length (t ∷ ts) → EndsIn (get_or (t ∷ ts) n d)
 more t ts e a zero d h = e
 more t ts e a (suc n) d h = a n d (omega (arith, h))
 

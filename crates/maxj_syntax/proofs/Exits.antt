@@ -1,5 +1,7 @@
 -- The exits of the parser.
-use Rattle.std.proofs.Common.{◌≡◌, ℕ, zero, suc, ◌+◌, ◌<◌, ◌≤◌, ◌-◌, List, [], ◌∷◌, Bool, true, false, Option, Some, refl, sym, ap, subst, ◌∙◌, length, arith, reverse, drop, get_or, drop-cons, add-one, ◌==◌, slice_get}
+use Rattle.std.proofs.Common.{◌≡◌, ℕ, zero, suc, ◌+◌, ◌<◌, ◌≤◌, ◌-◌, List, [], ◌∷◌, Bool, true}
+use Rattle.std.proofs.Common.{false, Option, Some, refl, sym, ap, subst, ◌∙◌, length, arith}
+use Rattle.std.proofs.Common.{reverse, drop, get_or, drop-cons, add-one, ◌==◌, slice_get}
 use Rattle.std.proofs.lemmas.List.{length-drop}
 use Rattle.std.proofs.Math.Seq.{drop-length}
 use Rattle.std.proofs.lemmas.Option.{get_or_from_slice_get, slice_get_within}
@@ -39,12 +41,16 @@ use Rattle.maxj_syntax.proofs.Predict.{leads_stay}
 use Rattle.maxj_syntax.proofs.Machine.{step_rule, stuck_rule, rule_less, stuck_mark, stuck_name, stuck_end, step_mark, step_name}
 use Rattle.maxj_syntax.proofs.Judge.{bad_place, whole_file}
 
-pub bottom_open : (tokens : List PlacedToken) (nodes : List Cell) (classes : List Class) (os : List Unfinished) → AreBottom (length tokens) os → classes ≡ [] → AreOpen nodes classes tokens (reverse os) bottom (Ground [])
+pub bottom_open : (tokens : List PlacedToken) (nodes : List Cell) (classes : List Class)
+    (os : List Unfinished) → AreBottom (length tokens) os → classes ≡ []
+    → AreOpen nodes classes tokens (reverse os) bottom (Ground [])
 bottom_open tokens nodes classes [] a e = absurd a
 bottom_open tokens nodes classes (o ∷ []) a e = ((sym (ap (λ n. drop n tokens) a.0 ∙ drop-length tokens), a.1, ap (word_in tokens) a.2, a.3, a.4), subst (λ l. ClassesAre nodes l []) (sym e) tt)
 bottom_open tokens nodes classes (o ∷ p ∷ os) a e = absurd a
 
-pub start_reached : (tokens : List PlacedToken) (stack : List SymbolOf) (builder : Builder) → todo stack ≡ Sub Rule.File ∷ [] → IsBottom (length tokens) builder → Reached tokens tokens (todo stack) builder
+pub start_reached : (tokens : List PlacedToken) (stack : List SymbolOf) (builder : Builder)
+    → todo stack ≡ Sub Rule.File ∷ [] → IsBottom (length tokens) builder
+    → Reached tokens tokens (todo stack) builder
 start_reached tokens stack builder e f = subst (λ l. Reached tokens tokens l builder) (sym e) (
   leads_stay Is Choice (Sub Rule.File ∷ []) tokens,
   (λ t p. refl, tt),
@@ -65,7 +71,10 @@ same_head : {t u : PlacedToken} {ts us : List PlacedToken} → t ∷ ts ≡ u �
 same_head e = cc
 
 -- another token than the one that the stack begins with
-pub bad_taken : (tokens : List PlacedToken) (at : ℕ) (d : PlacedToken) (s : Settled) (after : List Symbol) (builder : Builder) → at < length tokens → IsRefused s (get_or tokens at d).token → Settles s tokens (drop at tokens) after builder → IsFirstMisplaced tokens at
+pub bad_taken : (tokens : List PlacedToken) (at : ℕ) (d : PlacedToken) (s : Settled)
+    (after : List Symbol) (builder : Builder) → at < length tokens
+    → IsRefused s (get_or tokens at d).token → Settles s tokens (drop at tokens) after builder
+    → IsFirstMisplaced tokens at
 bad_taken tokens at d (T.Token k e) after builder h never r =
     subst (λ n. IsFirstMisplaced tokens n) (at_place tokens at (omega (arith, h))) (bad_place tokens (drop at tokens) _ builder r
     (stuck_mark (drop at tokens) k e after (λ t zs f i. never (subst (λ x. Accepts k x.token) (sym (same_head (sym (next_token tokens at d h) ∙ f))) i))))
@@ -73,11 +82,17 @@ bad_taken tokens at d (T.Name w e) after builder h never r =
     subst (λ n. IsFirstMisplaced tokens n) (at_place tokens at (omega (arith, h))) (bad_place tokens (drop at tokens) _ builder r
     (stuck_name (drop at tokens) w.now e after (λ t zs f i. never (subst (λ x. (x.token ≡ Token.Word w.now) × (is_name w.now ≡ true)) (sym (same_head (sym (next_token tokens at d h) ∙ f))) i))))
 bad_taken tokens at d T.Empty after builder h never r =
-    subst (λ n. IsFirstMisplaced tokens n) (at_place tokens at (omega (arith, h))) (bad_place tokens (drop at tokens) [] builder r (rw (next_token tokens at d h) (stuck_end (get_or tokens at d) (drop (at + 1) tokens))))
+    subst (λ n. IsFirstMisplaced tokens n) (at_place tokens at (omega (
+      arith,
+      h,
+    ))) (bad_place tokens (drop at tokens) [] builder r
+    (rw (next_token tokens at d h) (stuck_end (get_or tokens at d) (drop (at + 1) tokens))))
 bad_taken tokens at d T.Stuck after builder h never r = subst (λ n. IsFirstMisplaced tokens n) (at_place tokens at (omega (arith, h))) r
 
 -- the end of the tokens
-pub bad_end : (tokens ys : List PlacedToken) (s : Settled) (after : List Symbol) (builder : Builder) → ys ≡ [] → (s ≡ T.Empty → ⊥) → Settles s tokens ys after builder → IsFirstMisplaced tokens (length tokens)
+pub bad_end : (tokens ys : List PlacedToken) (s : Settled) (after : List Symbol)
+    (builder : Builder) → ys ≡ [] → (s ≡ T.Empty → ⊥) → Settles s tokens ys after builder
+    → IsFirstMisplaced tokens (length tokens)
 bad_end tokens ys T.Empty after builder z never r = absurd (never refl)
 bad_end tokens ys (T.Token k e) after builder z never r =
     let n : length tokens - length ys ≡ length tokens = rw z (omega arith) in
@@ -94,20 +109,35 @@ bad_end tokens ys (T.Name w e) after builder z never r =
 bad_end tokens ys T.Stuck after builder z never r = let n : length tokens - length ys ≡ length tokens = rw z (omega arith) in subst (λ n. IsFirstMisplaced tokens n) n r
 
 -- the token that the stack begins with
-pub read_on : (tokens : List PlacedToken) (at : ℕ) (d : PlacedToken) (s : Settled) (f : Effect) (after : List Symbol) (old new : Builder) → at < length tokens → IsTaken s (get_or tokens at d).token f → Takes tokens f (get_or tokens at d).token (drop at tokens) (drop (at + 1) tokens) old new
+pub read_on : (tokens : List PlacedToken) (at : ℕ) (d : PlacedToken) (s : Settled) (f : Effect)
+    (after : List Symbol) (old new : Builder) → at < length tokens
+    → IsTaken s (get_or tokens at d).token f
+    → Takes tokens f (get_or tokens at d).token (drop at tokens) (drop (at + 1) tokens) old new
     → Settles s tokens (drop at tokens) after old → Reached tokens (drop (at + 1) tokens) after new
 read_on tokens at d (T.Token k e) f after old new h i t r =
     let g = next_token tokens at d h in
-    let u : Takes tokens e (get_or tokens at d).token (drop at tokens) (drop (at + 1) tokens) old new = subst (λ x. Takes tokens x (get_or tokens at d).token (drop at tokens) (drop (at + 1) tokens) old new) (sym i.1) t in
-    step_mark tokens (get_or tokens at d) (drop (at + 1) tokens) k e after old new i.0 (subst (λ l. Takes tokens e (get_or tokens at d).token l (drop (at + 1) tokens) old new) g u) (subst (λ l. Reached tokens l (Mark k e ∷ after) old) g r)
+    let u : Takes tokens e (get_or tokens at d).token (drop at tokens)
+    (drop (at + 1) tokens) old new = subst (λ x. Takes tokens x (get_or tokens at d).token
+    (drop at tokens) (drop (at + 1) tokens) old new) (sym i.1) t in
+    step_mark tokens (get_or tokens at d) (drop (at + 1) tokens) k e after old new i.0
+    (subst (λ l. Takes tokens e (get_or tokens at d).token l
+    (drop (at + 1) tokens) old new) g u) (subst (λ l. Reached tokens l (Mark k e
+    ∷ after) old) g r)
 read_on tokens at d (T.Name w e) f after old new h i t r =
     let g = next_token tokens at d h in
-    let u : Takes tokens e (get_or tokens at d).token (drop at tokens) (drop (at + 1) tokens) old new = subst (λ x. Takes tokens x (get_or tokens at d).token (drop at tokens) (drop (at + 1) tokens) old new) (sym i.1) t in
-    step_name tokens (get_or tokens at d) (drop (at + 1) tokens) w.now e after old new i.0 (subst (λ l. Takes tokens e (get_or tokens at d).token l (drop (at + 1) tokens) old new) g u) (subst (λ l. Reached tokens l (Name w.now e ∷ after) old) g r)
+    let u : Takes tokens e (get_or tokens at d).token (drop at tokens)
+    (drop (at + 1) tokens) old new = subst (λ x. Takes tokens x (get_or tokens at d).token
+    (drop at tokens) (drop (at + 1) tokens) old new) (sym i.1) t in
+    step_name tokens (get_or tokens at d) (drop (at + 1) tokens) w.now e after old new i.0
+    (subst (λ l. Takes tokens e (get_or tokens at d).token l
+    (drop (at + 1) tokens) old new) g u) (subst (λ l. Reached tokens l (Name w.now e
+    ∷ after) old) g r)
 read_on tokens at d T.Empty f after old new h i t r = absurd i
 read_on tokens at d T.Stuck f after old new h i t r = absurd i
 
-grounded : (nodes : List Cell) (classes : List Class) (tokens : List PlacedToken) (os : List Unfinished) (b : Entry) (cs : List ClassTree) → AreOpen nodes classes tokens os b (Ground cs) → ClassesAre nodes classes cs
+grounded : (nodes : List Cell) (classes : List Class) (tokens : List PlacedToken)
+    (os : List Unfinished) (b : Entry) (cs : List ClassTree)
+    → AreOpen nodes classes tokens os b (Ground cs) → ClassesAre nodes classes cs
 grounded nodes classes tokens [] b cs a = absurd a
 grounded nodes classes tokens (o ∷ []) b cs a = a.1
 grounded nodes classes tokens (o ∷ p ∷ os) b cs a = absurd a.1
@@ -166,19 +196,26 @@ refused_token s k e t j b f g h i = subst (λ x. IsRefused x t) (sym f) (λ a. c
 pub start_file : (ts : List PlacedToken) (stack : List SymbolOf) (builder : Builder) (n : ℕ) → todo stack ≡ Sub Rule.File ∷ [] → n ≡ length ts → IsBottom n builder → Reached ts ts (todo stack) builder
 start_file ts stack builder n e f g = start_reached ts stack builder e (subst (λ m. IsBottom m builder) f g)
 
-pub misplaced_token : (ts : List PlacedToken) (size at : ℕ) (t : PlacedToken) (s : Settled) (after : List Symbol) (builder : Builder) → slice_get ts at ≡ Some t → IsRefused s t.token → Settles s ts (drop at ts) after builder → IsMisplaced ts size t.place
+pub misplaced_token : (ts : List PlacedToken) (size at : ℕ) (t : PlacedToken) (s : Settled)
+    (after : List Symbol) (builder : Builder) → slice_get ts at ≡ Some t → IsRefused s t.token
+    → Settles s ts (drop at ts) after builder → IsMisplaced ts size t.place
 misplaced_token ts size at t s after builder e never r = record {
   number = at;
   bad = bad_taken ts at t s after builder (slice_get_within ts at t e) (subst (λ u. IsRefused s u.token) (sym (get_or_from_slice_get ts at t t e)) never) r;
   at = token_place ts size at t e;
 }
 
-pub misplaced_end : (ts : List PlacedToken) (size n : ℕ) (s : Settled) (after : List Symbol) (builder : Builder) → n ≡ length ts → (s ≡ T.Empty → ⊥) → Settles s ts (drop n ts) after builder → IsMisplaced ts size size
+pub misplaced_end : (ts : List PlacedToken) (size n : ℕ) (s : Settled) (after : List Symbol)
+    (builder : Builder) → n ≡ length ts → (s ≡ T.Empty → ⊥)
+    → Settles s ts (drop n ts) after builder → IsMisplaced ts size size
 misplaced_end ts size n s after builder h never r =
     let z : drop n ts ≡ [] = ap (λ m. drop m ts) h ∙ drop-length ts in
     record { number = length ts; bad = bad_end ts (drop n ts) s after builder z never r; at = end_place ts size (length ts) refl }
 
-pub read_token : (ts : List PlacedToken) (at : ℕ) (t : PlacedToken) (s : Settled) (f : Effect) (after : List Symbol) (old new : Builder) → slice_get ts at ≡ Some t → IsTaken s t.token f → Takes ts f t.token (drop at ts) (drop (at + 1) ts) old new → Settles s ts (drop at ts) after old → Reached ts (drop (at + 1) ts) after new
+pub read_token : (ts : List PlacedToken) (at : ℕ) (t : PlacedToken) (s : Settled) (f : Effect)
+    (after : List Symbol) (old new : Builder) → slice_get ts at ≡ Some t → IsTaken s t.token f
+    → Takes ts f t.token (drop at ts) (drop (at + 1) ts) old new
+    → Settles s ts (drop at ts) after old → Reached ts (drop (at + 1) ts) after new
 read_token ts at t s f after old new e i u r =
     let same = sym (get_or_from_slice_get ts at t t e) in
     read_on ts at t s f after old new (slice_get_within ts at t e) (subst (λ x. IsTaken s x.token f) same i) (subst (λ x. Takes ts f x.token (drop at ts) (drop (at + 1) ts) old new) same u) r
@@ -189,16 +226,24 @@ finished_file ts n builder h r =
     finished ts (drop n ts) builder z r
 
 -- a rule on top of the stack
-pub expanded_on : (tokens ys : List PlacedToken) (next : Option PlacedToken) (p : Symbol) (old rest new : List Symbol) (builder : Builder) (b : Bool) → head_of ys ≡ next → IsRule p → (IsRule p → IsExpanded p next rest new b) → b ≡ true → old ≡ p ∷ rest → Reached tokens ys old builder
+pub expanded_on : (tokens ys : List PlacedToken) (next : Option PlacedToken) (p : Symbol)
+    (old rest new : List Symbol) (builder : Builder) (b : Bool) → head_of ys ≡ next → IsRule p
+    → (IsRule p → IsExpanded p next rest new b) → b ≡ true → old ≡ p ∷ rest
+    → Reached tokens ys old builder
     → Reached tokens ys new builder
 expanded_on tokens ys next p old rest new builder b e i x t f r =
     let y : IsExpanded p (head_of ys) rest new true = subst (λ n. IsExpanded p n rest new true) (sym e) (subst (λ c. IsExpanded p next rest new c) t (x i)) in
     step_rule tokens ys p rest new builder i y (subst (λ l. Reached tokens ys l builder) f r)
 
-pub expanded_less : (next : Option PlacedToken) (p : Symbol) (old rest new : List Symbol) (b : Bool) → IsRule p → (IsRule p → IsExpanded p next rest new b) → b ≡ true → old ≡ p ∷ rest → chain new < chain old
+pub expanded_less : (next : Option PlacedToken) (p : Symbol) (old rest new : List Symbol)
+    (b : Bool) → IsRule p → (IsRule p → IsExpanded p next rest new b) → b ≡ true → old ≡ p
+    ∷ rest → chain new < chain old
 expanded_less next p old rest new b i x t f = rule_less p next rest old new i (subst (λ c. IsExpanded p next rest new c) t (x i)) f
 
-pub stuck_on : (tokens ys : List PlacedToken) (next : Option PlacedToken) (p : Symbol) (old rest new : List Symbol) (builder : Builder) (b : Bool) → head_of ys ≡ next → IsRule p → (IsRule p → IsExpanded p next rest new b) → b ≡ false → old ≡ p ∷ rest → Reached tokens ys old builder
+pub stuck_on : (tokens ys : List PlacedToken) (next : Option PlacedToken) (p : Symbol)
+    (old rest new : List Symbol) (builder : Builder) (b : Bool) → head_of ys ≡ next → IsRule p
+    → (IsRule p → IsExpanded p next rest new b) → b ≡ false → old ≡ p ∷ rest
+    → Reached tokens ys old builder
     → IsFirstMisplaced tokens (length tokens - length ys)
 stuck_on tokens ys next p old rest new builder b e i x t f r =
     let y : IsExpanded p next rest new false = subst (λ c. IsExpanded p next rest new c) t (x i) in

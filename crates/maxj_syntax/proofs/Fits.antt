@@ -20,7 +20,13 @@ use Rattle.maxj_syntax.specs.Symbols.{Inside, Symbol, Mark, Name, Sub, Call, Act
 use Rattle.maxj_syntax.specs.Symbols as Y
 use Rattle.maxj_syntax.specs.Table.{choices, guards}
 use Rattle.maxj_syntax.specs.Lookahead.{first, nullable, peek, weight}
-use Rattle.maxj_syntax.specs.Choosing.{has, within, apart, implies, set_of, Among, Is, Choice, begins, empties, goes_on, all_begin, may, peeks, admits, pick, kind_at, name_next, choose, is_otherwise, is_last, covers, ordered, follows, choice_fits, choices_fit, nameless, lighter, named_choices, named_guards, named_first, named_nullable, named_peek, named_weight, binds, bound, begins_member, member_choices, member_guards}
+use Rattle.maxj_syntax.specs.Choosing.{has, within, apart, implies, set_of, Among, Is, Choice}
+use Rattle.maxj_syntax.specs.Choosing.{begins, empties, goes_on, all_begin, may, peeks, admits}
+use Rattle.maxj_syntax.specs.Choosing.{pick, kind_at, name_next, choose, is_otherwise, is_last}
+use Rattle.maxj_syntax.specs.Choosing.{covers, ordered, follows, choice_fits, choices_fit, nameless}
+use Rattle.maxj_syntax.specs.Choosing.{lighter, named_choices, named_guards, named_first}
+use Rattle.maxj_syntax.specs.Choosing.{named_nullable, named_peek, named_weight, binds, bound}
+use Rattle.maxj_syntax.specs.Choosing.{begins_member, member_choices, member_guards}
 use Rattle.text_scan.proofs.ByteTests.{or_true, clash, not_true, bytes_same, bytes_refl}
 use Rattle.maxj_syntax.proofs.Sets.{within_has, apart_has, or_has_left, or_has_right, classes_have, have_classes}
 use Rattle.maxj_syntax.proofs.ClassLemmas.{accepted, accepts}
@@ -99,7 +105,9 @@ no_choices : (before on : ℕ) (cs : List (List Symbol)) (qs : List Symbol) → 
 no_choices before on [] qs e a = a
 no_choices before on (c ∷ cs) qs e a = absurd (cc)
 
-later : (before on k : ℕ) (gs : List (List TokenClass)) (cs : List (List Symbol)) (qs : List Symbol) → ordered before on gs cs ≡ true → Among qs cs → has (all_begin qs) k ≡ true → has before k ≡ true → ⊥
+later : (before on k : ℕ) (gs : List (List TokenClass)) (cs : List (List Symbol))
+    (qs : List Symbol) → ordered before on gs cs ≡ true → Among qs cs
+    → has (all_begin qs) k ≡ true → has before k ≡ true → ⊥
 later before on k [] cs qs e a h b = no_choices before on cs qs e a
 later before on k (g ∷ gs) [] qs e a h b = a
 later before on k (g ∷ gs) (c ∷ cs) qs e a h b = let p = parts before on g c gs cs e in elim a [
@@ -107,7 +115,9 @@ later before on k (g ∷ gs) (c ∷ cs) qs e a h b = let p = parts before on g c
   | inr i ↦ later (bit_or before (set_of g)) on k gs cs qs p.rest i h (or_has_left before (set_of g) k b)
 ]
 
-later_empty : (before on k : ℕ) (gs : List (List TokenClass)) (cs : List (List Symbol)) (qs : List Symbol) → ordered before on gs cs ≡ true → Among qs cs → all_empty empties qs ≡ true → has before k ≡ true → has on k ≡ true
+later_empty : (before on k : ℕ) (gs : List (List TokenClass)) (cs : List (List Symbol))
+    (qs : List Symbol) → ordered before on gs cs ≡ true → Among qs cs
+    → all_empty empties qs ≡ true → has before k ≡ true → has on k ≡ true
 later_empty before on k [] cs qs e a h b = absurd (no_choices before on cs qs e a)
 later_empty before on k (g ∷ gs) [] qs e a h b = absurd a
 later_empty before on k (g ∷ gs) (c ∷ cs) qs e a h b = let p = parts before on g c gs cs e in elim a [
@@ -134,7 +144,9 @@ picked_later : (g : List TokenClass) (gs : List (List TokenClass)) (c : List Sym
 picked_later g gs c cs k e = rw e refl
 
 -- a choice that a kind begins is the one that is taken
-pick_it : (before on : ℕ) (k : Kind) (gs : List (List TokenClass)) (cs : List (List Symbol)) (qs : List Symbol) → ordered before on gs cs ≡ true → Among qs cs → has (all_begin qs) (number k) ≡ true → pick gs cs (Some k) ≡ Some qs
+pick_it : (before on : ℕ) (k : Kind) (gs : List (List TokenClass)) (cs : List (List Symbol))
+    (qs : List Symbol) → ordered before on gs cs ≡ true → Among qs cs
+    → has (all_begin qs) (number k) ≡ true → pick gs cs (Some k) ≡ Some qs
 pick_it before on k [] cs qs e a h = absurd (no_choices before on cs qs e a)
 pick_it before on k (g ∷ gs) [] qs e a h = absurd a
 pick_it before on k (g ∷ gs) (c ∷ cs) qs e a h = let p = parts before on g c gs cs e in elim a [
@@ -149,7 +161,9 @@ pick_it before on k (g ∷ gs) (c ∷ cs) qs e a h = let p = parts before on g c
         picked_later g gs c cs (Some k) no ∙ r
 
 -- the empty one is taken where the parser doesn't go on
-empty_pick : (before on : ℕ) (k : Kind) (gs : List (List TokenClass)) (cs : List (List Symbol)) (qs : List Symbol) → ordered before on gs cs ≡ true → Among qs cs → all_empty empties qs ≡ true → has on (number k) ≡ false → pick gs cs (Some k) ≡ Some qs
+empty_pick : (before on : ℕ) (k : Kind) (gs : List (List TokenClass)) (cs : List (List Symbol))
+    (qs : List Symbol) → ordered before on gs cs ≡ true → Among qs cs
+    → all_empty empties qs ≡ true → has on (number k) ≡ false → pick gs cs (Some k) ≡ Some qs
 empty_pick before on k [] cs qs e a h n = absurd (no_choices before on cs qs e a)
 empty_pick before on k (g ∷ gs) [] qs e a h n = absurd a
 empty_pick before on k (g ∷ gs) (c ∷ cs) qs e a h n = let p = parts before on g c gs cs e in elim a [
@@ -164,11 +178,16 @@ empty_pick before on k (g ∷ gs) (c ∷ cs) qs e a h n = let p = parts before o
     step : (b : Bool) → is_otherwise g ≡ b → Parts before on g c gs cs → Among qs cs → pick gs cs (Some k) ≡ Some qs → pick (g ∷ gs) (c ∷ cs) (Some k) ≡ Some qs
     step true o p i r = absurd (last_none cs qs (implied (is_otherwise g) _ p.last o) i)
     step false o p i r =
-        let no : admits g (Some k) ≡ false = not_true _ (λ m. clash (later_empty (bit_or before (set_of g)) on (number k) gs cs qs p.rest i h (or_has_right before (set_of g) (number k) (admitted g k o m))) n) in
+        let no : admits g (Some k) ≡ false = not_true _
+        (λ m. clash (later_empty (bit_or before (set_of g)) on
+        (number k) gs cs qs p.rest i h (or_has_right before (set_of g) (number k)
+        (admitted g k o m))) n) in
         picked_later g gs c cs (Some k) no ∙ r
 
 -- and at the end
-end_pick : (before on : ℕ) (gs : List (List TokenClass)) (cs : List (List Symbol)) (qs : List Symbol) → ordered before on gs cs ≡ true → Among qs cs → all_empty empties qs ≡ true → pick gs cs None ≡ Some qs
+end_pick : (before on : ℕ) (gs : List (List TokenClass)) (cs : List (List Symbol))
+    (qs : List Symbol) → ordered before on gs cs ≡ true → Among qs cs
+    → all_empty empties qs ≡ true → pick gs cs None ≡ Some qs
 end_pick before on [] cs qs e a h = absurd (no_choices before on cs qs e a)
 end_pick before on (g ∷ gs) [] qs e a h = absurd a
 end_pick before on (g ∷ gs) (c ∷ cs) qs e a h = let p = parts before on g c gs cs e in elim a [
@@ -257,7 +276,9 @@ named_fits Y.ClassName = (refl, refl, refl, refl)
 named_fits (Y.Parent w) = (refl, refl, refl, refl)
 named_fits (Y.Members i) = part i.unmade
   where
-    part : (b : Bool) → (choices_fit (set_of begins_member) true (set_of begins_member) (member_choices b i) ≡ true) × (ordered 0 (set_of begins_member) (member_guards b) (member_choices b i) ≡ true) × (lighter 5 (member_choices b i) ≡ true) × (true ≡ true)
+    part : (b : Bool) → (choices_fit (set_of begins_member) true (set_of begins_member)
+        (member_choices b i) ≡ true) × (ordered 0 (set_of begins_member) (member_guards b)
+        (member_choices b i) ≡ true) × (lighter 5 (member_choices b i) ≡ true) × (true ≡ true)
     part true = (refl, refl, refl, refl)
     part false = (refl, refl, refl, refl)
 named_fits (Y.Head i) = (refl, refl, refl, refl)
@@ -411,7 +432,9 @@ choice_may_at : (p : Symbol) (qs : List Symbol) (t : PlacedToken) → Choice p q
 choice_may_at (Mark c e) qs t a h = absurd a
 choice_may_at (Name w e) qs t a h = absurd a
 choice_may_at (Sub r) qs t a h = within_has (all_begin qs) (set_of (first r)) (number (kind_of t.token)) (and_left (within (all_begin qs) (set_of (first r))) _ (choice_fit r qs a)) (all_may qs t h)
-choice_may_at (Call n) qs t a h = within_has (all_begin qs) (set_of (named_first n)) (number (kind_of t.token)) (and_left (within (all_begin qs) (set_of (named_first n))) _ (named_fit n qs a)) (all_may qs t h)
+choice_may_at (Call n) qs t a h = within_has (all_begin qs) (set_of (named_first n))
+    (number (kind_of t.token)) (and_left (within (all_begin qs) (set_of (named_first n))) _
+    (named_fit n qs a)) (all_may qs t h)
 choice_may_at (Act x) qs t a h = let f : may_all may empties [] t ≡ true = subst (λ l. may_all may empties l t ≡ true) (sym a) h in absurd (cc)
 
 choice_empty_at : (p : Symbol) (qs : List Symbol) → Choice p qs → all_empty empties qs ≡ true → empties p ≡ true
@@ -425,7 +448,9 @@ follow_at : (p : Symbol) (qs : List Symbol) → Choice p qs → AllFollow may em
 follow_at (Mark c e) qs a = absurd a
 follow_at (Name w e) qs a = absurd a
 follow_at (Sub r) qs a = follows_from (set_of (peek r)) (Sub r) refl qs (and_right (implies (all_empty empties qs) _) _ (and_right (within (all_begin qs) (set_of (first r))) _ (choice_fit r qs a)))
-follow_at (Call n) qs a = follows_from (set_of (named_peek n)) (Call n) refl qs (and_right (implies (all_empty empties qs) _) _ (and_right (within (all_begin qs) (set_of (named_first n))) _ (named_fit n qs a)))
+follow_at (Call n) qs a = follows_from (set_of (named_peek n)) (Call n) refl qs
+    (and_right (implies (all_empty empties qs) _) _ (and_right
+    (within (all_begin qs) (set_of (named_first n))) _ (named_fit n qs a)))
 follow_at (Act x) qs a = subst (λ l. AllFollow may empties peeks (Act x) l) a tt
 
 sound_named : (n : Y.Named) (t : Option PlacedToken) (qs : List Symbol) → choose (Call n) t ≡ Some qs → Choice (Call n) qs

@@ -53,7 +53,9 @@ runs_goes : {ps : List Symbol} {xs : List PlacedToken} → Runs Is Choice ps xs 
 runs_goes Runs.end b s = (b, s, Goes.none)
 runs_goes (Runs.eat {p = p} {t = t} {ps = ps} {ts = ts} i r) b s = eaten p i r b s (λ b s. runs_goes r b s)
   where
-    eaten : (p : Symbol) → Is p t → Runs Is Choice ps ts → (b : Entry) (s : Below) → ((b : Entry) (s : Below) → (c : Entry) × (q : Below) × Goes ps b s ts c q []) → (c : Entry) × (q : Below) × Goes (p ∷ ps) b s (t ∷ ts) c q []
+    eaten : (p : Symbol) → Is p t → Runs Is Choice ps ts → (b : Entry) (s : Below)
+        → ((b : Entry) (s : Below) → (c : Entry) × (q : Below) × Goes ps b s ts c q [])
+        → (c : Entry) × (q : Below) × Goes (p ∷ ps) b s (t ∷ ts) c q []
     eaten (Mark k e) i r b s h = let g = h _ _ in (g.0, g.1, Goes.mark i g.2)
     eaten (Name w e) i r b s h = let g = h _ _ in (g.0, g.1, Goes.name i g.2)
     eaten (Sub k) i r b s h = absurd i
@@ -61,7 +63,9 @@ runs_goes (Runs.eat {p = p} {t = t} {ps = ps} {ts = ts} i r) b s = eaten p i r b
     eaten (Act k) i r b s h = absurd i
 runs_goes (Runs.pick {p = p} qs {ps = ps} {ts = ts} c r) b s = picked p qs c b s (λ b s. runs_goes r b s)
   where
-    picked : (p : Symbol) (qs : List Symbol) → Choice p qs → (b : Entry) (s : Below) → ((b : Entry) (s : Below) → (c : Entry) × (q : Below) × Goes (qs ++ ps) b s ts c q []) → (c : Entry) × (q : Below) × Goes (p ∷ ps) b s ts c q []
+    picked : (p : Symbol) (qs : List Symbol) → Choice p qs → (b : Entry) (s : Below)
+        → ((b : Entry) (s : Below) → (c : Entry) × (q : Below) × Goes (qs ++ ps) b s ts c q [])
+        → (c : Entry) × (q : Below) × Goes (p ∷ ps) b s ts c q []
     picked (Mark k e) qs c b s h = absurd c
     picked (Name w e) qs c b s h = absurd c
     picked (Call n) qs c b s h = let g = h b s in (g.0, g.1, expand_named (to_named n qs c) g.2)
@@ -82,7 +86,9 @@ to_runs : (xs : List PlacedToken) (classes : List ClassTree) → IsFile xs class
 to_runs xs classes d = goes_runs [] (to_goes xs classes d) Runs.end
 
 -- the first bad token
-pub bad_place : (tokens ys : List PlacedToken) (symbols : List Symbol) (builder : Builder) → Reached tokens ys symbols builder → Refused Is Choice symbols ys ys → IsFirstMisplaced tokens (length tokens - length ys)
+pub bad_place : (tokens ys : List PlacedToken) (symbols : List Symbol) (builder : Builder)
+    → Reached tokens ys symbols builder → Refused Is Choice symbols ys ys
+    → IsFirstMisplaced tokens (length tokens - length ys)
 bad_place tokens ys symbols builder h f =
     let r = refused_after Is Choice h.0 f in
     let n : length tokens - length ys ≡ length r.read = omega (arith, ap length r.split, length-append r.read ys) in
@@ -111,7 +117,10 @@ bad_place tokens ys symbols builder h f =
         r.bad t rest e (starts_front Is Choice (r.read ++ t ∷ []) rest (subst (λ l. Starts Is Choice (Sub Rule.File ∷ []) l) g (starts_from_runs Is Choice s)))
 
 -- all is read
-pub whole_file : (tokens : List PlacedToken) (builder : Builder) (h : Reached tokens [] [] builder) → (classes : List ClassTree) × (h.2 ≡ bottom) × (h.3 ≡ Ground classes) × IsFile tokens classes × ((others : List ClassTree) → IsFile tokens others → others ≡ classes)
+pub whole_file : (tokens : List PlacedToken) (builder : Builder)
+    (h : Reached tokens [] [] builder) → (classes : List ClassTree) × (h.2 ≡ bottom)
+    × (h.3 ≡ Ground classes) × IsFile tokens classes × ((others : List ClassTree)
+    → IsFile tokens others → others ≡ classes)
 whole_file tokens builder h =
     let v = sound (h.5 h.2 h.3 Goes.none) in
     let d = derived v.3 in (

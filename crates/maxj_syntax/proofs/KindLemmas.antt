@@ -16,7 +16,22 @@ use Rattle.maxj_syntax.specs.Productions.{is_name, reserved_words}
 use Rattle.text_scan.proofs.ByteTests.{bytes_same as bytes_eq_is, clash}
 
 abbrev kinds : List Kind
-kinds = K.Sign S.Open ∷ K.Sign S.Close ∷ K.Sign S.OpenBrace ∷ K.Sign S.CloseBrace ∷ K.Sign S.OpenBracket ∷ K.Sign S.CloseBracket ∷ K.Sign S.Semicolon ∷ K.Sign S.Comma ∷ K.Sign S.Dot ∷ K.Sign S.Assign ∷ K.Sign S.Plus ∷ K.Sign S.Minus ∷ K.Sign S.Star ∷ K.Sign S.Slash ∷ K.Sign S.Percent ∷ K.Sign S.And ∷ K.Sign S.Or ∷ K.Sign S.Xor ∷ K.Sign S.Tilde ∷ K.Sign S.Not ∷ K.Sign S.Question ∷ K.Sign S.Colon ∷ K.Sign S.Less ∷ K.Sign S.Greater ∷ K.Sign S.LessEqual ∷ K.Sign S.GreaterEqual ∷ K.Sign S.Equal ∷ K.Sign S.NotEqual ∷ K.Sign S.Same ∷ K.Sign S.NotSame ∷ K.Sign S.ShiftLeft ∷ K.Sign S.ShiftRight ∷ K.Sign S.AndAnd ∷ K.Sign S.OrOr ∷ K.Sign S.PlusPlus ∷ K.Sign S.MinusMinus ∷ K.Sign S.PlusAssign ∷ K.Sign S.MinusAssign ∷ K.Sign S.StarAssign ∷ K.Sign S.Connect ∷ K.Word W.Package ∷ K.Word W.Import ∷ K.Word W.Static ∷ K.Word W.Public ∷ K.Word W.Private ∷ K.Word W.Protected ∷ K.Word W.Final ∷ K.Word W.Class ∷ K.Word W.Extends ∷ K.Word W.Void ∷ K.Word W.Return ∷ K.Word W.If ∷ K.Word W.Else ∷ K.Word W.While ∷ K.Word W.For ∷ K.Word W.New ∷ K.Word W.This ∷ K.Word W.True ∷ K.Word W.False ∷ K.Word W.Int ∷ K.Word W.Boolean ∷ K.Word W.Super ∷ K.Word W.Kernel ∷ K.Word W.CustomManager ∷ K.Word W.Memory ∷ K.Word W.DFEVar ∷ K.Word W.KernelParameters ∷ K.Word W.EngineParameters ∷ K.Name ∷ K.Whole ∷ K.Decimal ∷ K.Str ∷ K.Other ∷ []
+kinds = K.Sign S.Open ∷ K.Sign S.Close ∷ K.Sign S.OpenBrace ∷ K.Sign S.CloseBrace
+    ∷ K.Sign S.OpenBracket ∷ K.Sign S.CloseBracket ∷ K.Sign S.Semicolon ∷ K.Sign S.Comma
+    ∷ K.Sign S.Dot ∷ K.Sign S.Assign ∷ K.Sign S.Plus ∷ K.Sign S.Minus ∷ K.Sign S.Star
+    ∷ K.Sign S.Slash ∷ K.Sign S.Percent ∷ K.Sign S.And ∷ K.Sign S.Or ∷ K.Sign S.Xor
+    ∷ K.Sign S.Tilde ∷ K.Sign S.Not ∷ K.Sign S.Question ∷ K.Sign S.Colon ∷ K.Sign S.Less
+    ∷ K.Sign S.Greater ∷ K.Sign S.LessEqual ∷ K.Sign S.GreaterEqual ∷ K.Sign S.Equal
+    ∷ K.Sign S.NotEqual ∷ K.Sign S.Same ∷ K.Sign S.NotSame ∷ K.Sign S.ShiftLeft
+    ∷ K.Sign S.ShiftRight ∷ K.Sign S.AndAnd ∷ K.Sign S.OrOr ∷ K.Sign S.PlusPlus
+    ∷ K.Sign S.MinusMinus ∷ K.Sign S.PlusAssign ∷ K.Sign S.MinusAssign ∷ K.Sign S.StarAssign
+    ∷ K.Sign S.Connect ∷ K.Word W.Package ∷ K.Word W.Import ∷ K.Word W.Static ∷ K.Word W.Public
+    ∷ K.Word W.Private ∷ K.Word W.Protected ∷ K.Word W.Final ∷ K.Word W.Class ∷ K.Word W.Extends
+    ∷ K.Word W.Void ∷ K.Word W.Return ∷ K.Word W.If ∷ K.Word W.Else ∷ K.Word W.While
+    ∷ K.Word W.For ∷ K.Word W.New ∷ K.Word W.This ∷ K.Word W.True ∷ K.Word W.False
+    ∷ K.Word W.Int ∷ K.Word W.Boolean ∷ K.Word W.Super ∷ K.Word W.Kernel
+    ∷ K.Word W.CustomManager ∷ K.Word W.Memory ∷ K.Word W.DFEVar ∷ K.Word W.KernelParameters
+    ∷ K.Word W.EngineParameters ∷ K.Name ∷ K.Whole ∷ K.Decimal ∷ K.Str ∷ K.Other ∷ []
 
 kind_at : (k : Kind) → slice_get kinds (number k) ≡ Some k
 kind_at (K.Sign S.Open) = refl
@@ -131,7 +146,68 @@ unknown_unreserved : (w : List ℕ) → known_word w ≡ None → is_among w res
 unknown_unreserved w e = step (is_among w reserved_words) refl
   where
     known : (v : List ℕ) → known_word v ≡ None → is_among v reserved_words ≡ true → ⊥
-    known v n f = each_bytes (λ u. known_word u ≡ None → ⊥) v reserved_words f ((λ x. absurd (cc)), ((λ x. absurd (cc)), ((λ x. absurd (cc)), ((λ x. absurd (cc)), ((λ x. absurd (cc)), ((λ x. absurd (cc)), ((λ x. absurd (cc)), ((λ x. absurd (cc)), ((λ x. absurd (cc)), ((λ x. absurd (cc)), ((λ x. absurd (cc)), ((λ x. absurd (cc)), ((λ x. absurd (cc)), ((λ x. absurd (cc)), ((λ x. absurd (cc)), ((λ x. absurd (cc)), ((λ x. absurd (cc)), ((λ x. absurd (cc)), ((λ x. absurd (cc)), ((λ x. absurd (cc)), ((λ x. absurd (cc)), ((λ x. absurd (cc)), tt)))))))))))))))))))))) n
+    known v n f = each_bytes (λ u. known_word u ≡ None
+        → ⊥) v reserved_words f (
+          (λ x. absurd (cc)),
+          (
+            (λ x. absurd (cc)),
+            (
+              (λ x. absurd (cc)),
+              (
+                (λ x. absurd (cc)),
+                (
+                  (λ x. absurd (cc)),
+                  (
+                    (λ x. absurd (cc)),
+                    (
+                      (λ x. absurd (cc)),
+                      (
+                        (λ x. absurd (cc)),
+                        (
+                          (λ x. absurd (cc)),
+                          (
+                            (λ x. absurd (cc)),
+                            (
+                              (λ x. absurd (cc)),
+                              (
+                                (λ x. absurd (cc)),
+                                (
+                                  (λ x. absurd (cc)),
+                                  (
+                                    (λ x. absurd (cc)),
+                                    (
+                                      (λ x. absurd (cc)),
+                                      (
+                                        (λ x. absurd (cc)),
+                                        (
+                                          (λ x. absurd (cc)),
+                                          (
+                                            (λ x. absurd (cc)),
+                                            (
+                                              (λ x. absurd (cc)),
+                                              (
+                                                (λ x. absurd (cc)),
+                                                ((λ x. absurd (cc)), ((λ x. absurd (cc)), tt)),
+                                              ),
+                                            ),
+                                          ),
+                                        ),
+                                      ),
+                                    ),
+                                  ),
+                                ),
+                              ),
+                            ),
+                          ),
+                        ),
+                      ),
+                    ),
+                  ),
+                ),
+              ),
+            ),
+          ),
+        ) n
 
     step : (b : Bool) → is_among w reserved_words ≡ b → is_among w reserved_words ≡ false
     step true f = absurd (known w e f)
@@ -206,7 +282,10 @@ first_of_length : (bytes : List ℕ) (ws : List Word) → first_word bytes (of_l
 first_of_length bytes [] = refl
 first_of_length bytes (w ∷ ws) = step (nat_eq (length bytes) (length (word_bytes w))) (bytes_eq bytes (word_bytes w)) refl refl (first_of_length bytes ws)
   where
-    step : (a b : Bool) → nat_eq (length bytes) (length (word_bytes w)) ≡ a → bytes_eq bytes (word_bytes w) ≡ b → first_word bytes (of_length (length bytes) ws) ≡ first_word bytes ws → first_word bytes (of_length (length bytes) (w ∷ ws)) ≡ first_word bytes (w ∷ ws)
+    step : (a b : Bool) → nat_eq (length bytes) (length (word_bytes w)) ≡ a
+        → bytes_eq bytes (word_bytes w) ≡ b
+        → first_word bytes (of_length (length bytes) ws) ≡ first_word bytes ws
+        → first_word bytes (of_length (length bytes) (w ∷ ws)) ≡ first_word bytes (w ∷ ws)
     step true true e f h = rw (e, f) refl
     step true false e f h = rw (e, f) h
     step false false e f h = rw (e, f) h

@@ -48,12 +48,17 @@ same_choice : (p : Symbol) (qs ws ps : List Symbol) (ys : List PlacedToken) → 
 same_choice p qs ws ps [] c ends e z = some_same _ (unique_end Is Choice may empties peeks choose predicts {p = p} ps c z) e
 same_choice p qs ws ps (t ∷ ts) c ends e z = some_same _ (unique Is Choice may empties peeks choose predicts {p = p} ps ends c (starts_from_runs Is Choice z)) e
 
-only_rule : {r : Rule} {qs ps : List Symbol} {b c : Entry} {s q : Below} (ys : List PlacedToken) → Ends may empties peeks (Sub r) ps → choose (Sub r) (head_of ys) ≡ Some qs → Goes (Sub r ∷ ps) b s ys c q [] → Goes (qs ++ ps) b s ys c q []
+only_rule : {r : Rule} {qs ps : List Symbol} {b c : Entry} {s q : Below} (ys : List PlacedToken)
+    → Ends may empties peeks (Sub r) ps → choose (Sub r) (head_of ys) ≡ Some qs
+    → Goes (Sub r ∷ ps) b s ys c q [] → Goes (qs ++ ps) b s ys c q []
 only_rule {r = r} {qs = qs} {ps = ps} {b = b} {c = c} {s = s} {q = q} ys ends e (Goes.rule {qs = ws} v d g) =
     let f : ws ≡ qs = same_choice (Sub r) qs ws ps ys (from_move v) ends e (subst (λ l. Runs Is Choice l ys) (append_none (ws ++ ps)) (goes_runs [] (append d g) Runs.end)) in
     subst (λ l. Goes (l ++ ps) b s ys c q []) f (append d g)
 
-only_named : {n : Y.Named} {qs ps : List Symbol} {b c : Entry} {s q : Below} (ys : List PlacedToken) → Ends may empties peeks (Call n) ps → choose (Call n) (head_of ys) ≡ Some qs → Goes (Call n ∷ ps) b s ys c q [] → Goes (qs ++ ps) b s ys c q []
+only_named : {n : Y.Named} {qs ps : List Symbol} {b c : Entry} {s q : Below}
+    (ys : List PlacedToken) → Ends may empties peeks (Call n) ps
+    → choose (Call n) (head_of ys) ≡ Some qs → Goes (Call n ∷ ps) b s ys c q []
+    → Goes (qs ++ ps) b s ys c q []
 only_named {n = n} {qs = qs} {ps = ps} {b = b} {c = c} {s = s} {q = q} ys ends e (Goes.call {qs = ws} v d g) =
     let f : ws ≡ qs = same_choice (Call n) qs ws ps ys (from_named v) ends e (subst (λ l. Runs Is Choice l ys) (append_none (ws ++ ps)) (goes_runs [] (append d g) Runs.end)) in
     subst (λ l. Goes (l ++ ps) b s ys c q []) f (append d g)
@@ -63,7 +68,9 @@ ends_behind p [] ps f e h = h
 ends_behind p (q ∷ rest) ps f e h = (ends_before Is Choice may empties peeks choose predicts p q rest ps f.0 e, ends_behind p rest ps f.1 e h)
 
 -- a rule is replaced by the choice that the next token takes
-step_sub : (tokens ys : List PlacedToken) (r : Rule) (qs ps : List Symbol) (builder : Builder) → choose (Sub r) (head_of ys) ≡ Some qs → Reached tokens ys (Sub r ∷ ps) builder → Reached tokens ys (qs ++ ps) builder
+step_sub : (tokens ys : List PlacedToken) (r : Rule) (qs ps : List Symbol) (builder : Builder)
+    → choose (Sub r) (head_of ys) ≡ Some qs → Reached tokens ys (Sub r ∷ ps) builder
+    → Reached tokens ys (qs ++ ps) builder
 step_sub tokens ys r qs ps builder e h =
     let k = predicts.sound (Sub r) (head_of ys) qs e in (
       leads_on Is Choice h.0 (leads_pick Is Choice may empties peeks choose predicts (Sub r) qs ps ys h.1.0 e),
@@ -75,7 +82,9 @@ step_sub tokens ys r qs ps builder e h =
       λ c q g. only_rule ys h.1.0 e (h.6 c q g),
     )
 
-step_call : (tokens ys : List PlacedToken) (n : Y.Named) (qs ps : List Symbol) (builder : Builder) → choose (Call n) (head_of ys) ≡ Some qs → Reached tokens ys (Call n ∷ ps) builder → Reached tokens ys (qs ++ ps) builder
+step_call : (tokens ys : List PlacedToken) (n : Y.Named) (qs ps : List Symbol)
+    (builder : Builder) → choose (Call n) (head_of ys) ≡ Some qs
+    → Reached tokens ys (Call n ∷ ps) builder → Reached tokens ys (qs ++ ps) builder
 step_call tokens ys n qs ps builder e h =
     let k = predicts.sound (Call n) (head_of ys) qs e in (
       leads_on Is Choice h.0 (leads_pick Is Choice may empties peeks choose predicts (Call n) qs ps ys h.1.0 e),
@@ -90,10 +99,14 @@ step_call tokens ys n qs ps builder e h =
 un_act : {a : Action} {ps : List Symbol} {b c : Entry} {s q : Below} {xs ys : List PlacedToken} → Goes (Act a ∷ ps) b s xs c q ys → Goes ps (act_top a xs b s) (act_below a b s) xs c q ys
 un_act (Goes.act g) = g
 
-un_mark : {k : TokenClass} {e : Effect} {ps : List Symbol} {b c : Entry} {s q : Below} {t : PlacedToken} {xs ys : List PlacedToken} → Goes (Mark k e ∷ ps) b s (t ∷ xs) c q ys → Goes ps (read_top e t.token (t ∷ xs) xs b) (read_below e b s) xs c q ys
+un_mark : {k : TokenClass} {e : Effect} {ps : List Symbol} {b c : Entry} {s q : Below}
+    {t : PlacedToken} {xs ys : List PlacedToken} → Goes (Mark k e ∷ ps) b s (t ∷ xs) c q ys
+    → Goes ps (read_top e t.token (t ∷ xs) xs b) (read_below e b s) xs c q ys
 un_mark (Goes.mark i g) = g
 
-un_name : {w : List ℕ} {e : Effect} {ps : List Symbol} {b c : Entry} {s q : Below} {t : PlacedToken} {xs ys : List PlacedToken} → Goes (Name w e ∷ ps) b s (t ∷ xs) c q ys → Goes ps (read_top e t.token (t ∷ xs) xs b) (read_below e b s) xs c q ys
+un_name : {w : List ℕ} {e : Effect} {ps : List Symbol} {b c : Entry} {s q : Below}
+    {t : PlacedToken} {xs ys : List PlacedToken} → Goes (Name w e ∷ ps) b s (t ∷ xs) c q ys
+    → Goes ps (read_top e t.token (t ∷ xs) xs b) (read_below e b s) xs c q ys
 un_name (Goes.name i g) = g
 
 pub step_act : (tokens ys : List PlacedToken) (a : Action) (ps : List Symbol) (old new : Builder) → Acts tokens a ys old new → Reached tokens ys (Act a ∷ ps) old → Reached tokens ys ps new
@@ -107,7 +120,10 @@ step_act tokens ys a ps old new d h = (
   λ c q g. un_act (h.6 c q g),
 )
 
-pub step_mark : (tokens : List PlacedToken) (t : PlacedToken) (ys : List PlacedToken) (k : TokenClass) (e : Effect) (ps : List Symbol) (old new : Builder) → Accepts k t.token → Takes tokens e t.token (t ∷ ys) ys old new → Reached tokens (t ∷ ys) (Mark k e ∷ ps) old → Reached tokens ys ps new
+pub step_mark : (tokens : List PlacedToken) (t : PlacedToken) (ys : List PlacedToken)
+    (k : TokenClass) (e : Effect) (ps : List Symbol) (old new : Builder) → Accepts k t.token
+    → Takes tokens e t.token (t ∷ ys) ys old new → Reached tokens (t ∷ ys) (Mark k e ∷ ps) old
+    → Reached tokens ys ps new
 step_mark tokens t ys k e ps old new i d h = (
   leads_on Is Choice h.0 (leads_eat Is Choice (Mark k e) ps t ys (λ qs a. a) i),
   h.1.1,
@@ -118,7 +134,10 @@ step_mark tokens t ys k e ps old new i d h = (
   λ c q g. un_mark (h.6 c q g),
 )
 
-pub step_name : (tokens : List PlacedToken) (t : PlacedToken) (ys : List PlacedToken) (w : List ℕ) (e : Effect) (ps : List Symbol) (old new : Builder) → (t.token ≡ Token.Word w) × (is_name w ≡ true) → Takes tokens e t.token (t ∷ ys) ys old new → Reached tokens (t ∷ ys) (Name w e ∷ ps) old → Reached tokens ys ps new
+pub step_name : (tokens : List PlacedToken) (t : PlacedToken) (ys : List PlacedToken)
+    (w : List ℕ) (e : Effect) (ps : List Symbol) (old new : Builder) → (t.token ≡ Token.Word w)
+    × (is_name w ≡ true) → Takes tokens e t.token (t ∷ ys) ys old new
+    → Reached tokens (t ∷ ys) (Name w e ∷ ps) old → Reached tokens ys ps new
 step_name tokens t ys w e ps old new i d h = (
   leads_on Is Choice h.0 (leads_eat Is Choice (Name w e) ps t ys (λ qs a. a) i),
   h.1.1,
@@ -136,23 +155,31 @@ stuck_sub ys r ps ends e = refused_pick Is Choice may empties peeks choose predi
 stuck_call : (ys : List PlacedToken) (n : Y.Named) (ps : List Symbol) → Ends may empties peeks (Call n) ps → choose (Call n) (head_of ys) ≡ None → Refused Is Choice (Call n ∷ ps) ys ys
 stuck_call ys n ps ends e = refused_pick Is Choice may empties peeks choose predicts (Call n) ps ys ends e (λ t i. i)
 
-pub stuck_mark : (ys : List PlacedToken) (k : TokenClass) (e : Effect) (ps : List Symbol) → ((t : PlacedToken) (zs : List PlacedToken) → ys ≡ t ∷ zs → Accepts k t.token → ⊥) → Refused Is Choice (Mark k e ∷ ps) ys ys
+pub stuck_mark : (ys : List PlacedToken) (k : TokenClass) (e : Effect) (ps : List Symbol)
+    → ((t : PlacedToken) (zs : List PlacedToken) → ys ≡ t ∷ zs → Accepts k t.token → ⊥)
+    → Refused Is Choice (Mark k e ∷ ps) ys ys
 stuck_mark ys k e ps other = refused_eat Is Choice (Mark k e) ps ys (λ qs a. a) other
 
-pub stuck_name : (ys : List PlacedToken) (w : List ℕ) (e : Effect) (ps : List Symbol) → ((t : PlacedToken) (zs : List PlacedToken) → ys ≡ t ∷ zs → (t.token ≡ Token.Word w) × (is_name w ≡ true) → ⊥) → Refused Is Choice (Name w e ∷ ps) ys ys
+pub stuck_name : (ys : List PlacedToken) (w : List ℕ) (e : Effect) (ps : List Symbol)
+    → ((t : PlacedToken) (zs : List PlacedToken) → ys ≡ t ∷ zs → (t.token ≡ Token.Word w)
+    × (is_name w ≡ true) → ⊥) → Refused Is Choice (Name w e ∷ ps) ys ys
 stuck_name ys w e ps other = refused_eat Is Choice (Name w e) ps ys (λ qs a. a) other
 
 pub stuck_end : (t : PlacedToken) (ys : List PlacedToken) → Refused Is Choice [] (t ∷ ys) (t ∷ ys)
 stuck_end t ys = refused_rest Is Choice t ys
 
-pub step_rule : (tokens ys : List PlacedToken) (p : Symbol) (ps new : List Symbol) (builder : Builder) → IsRule p → IsExpanded p (head_of ys) ps new true → Reached tokens ys (p ∷ ps) builder → Reached tokens ys new builder
+pub step_rule : (tokens ys : List PlacedToken) (p : Symbol) (ps new : List Symbol)
+    (builder : Builder) → IsRule p → IsExpanded p (head_of ys) ps new true
+    → Reached tokens ys (p ∷ ps) builder → Reached tokens ys new builder
 step_rule tokens ys (Sub r) ps new builder i x h = subst (λ l. Reached tokens ys l builder) (sym x.2) (step_sub tokens ys r x.0 ps builder x.1 h)
 step_rule tokens ys (Call n) ps new builder i x h = subst (λ l. Reached tokens ys l builder) (sym x.2) (step_call tokens ys n x.0 ps builder x.1 h)
 step_rule tokens ys (Mark k e) ps new builder i x h = absurd i
 step_rule tokens ys (Name w e) ps new builder i x h = absurd i
 step_rule tokens ys (Act a) ps new builder i x h = absurd i
 
-pub stuck_rule : (tokens ys : List PlacedToken) (builder : Builder) (p : Symbol) (ps : List Symbol) → IsRule p → choose p (head_of ys) ≡ None → Reached tokens ys (p ∷ ps) builder → Refused Is Choice (p ∷ ps) ys ys
+pub stuck_rule : (tokens ys : List PlacedToken) (builder : Builder) (p : Symbol)
+    (ps : List Symbol) → IsRule p → choose p (head_of ys) ≡ None
+    → Reached tokens ys (p ∷ ps) builder → Refused Is Choice (p ∷ ps) ys ys
 stuck_rule tokens ys builder (Sub r) ps i e h = stuck_sub ys r ps h.1.0 e
 stuck_rule tokens ys builder (Call n) ps i e h = stuck_call ys n ps h.1.0 e
 stuck_rule tokens ys builder (Mark k e2) ps i e h = absurd i
@@ -192,7 +219,10 @@ chain_append : (qs ps : List Symbol) → chain (qs ++ ps) ≤ chain qs + (if all
 chain_append [] ps = omega arith
 chain_append (q ∷ qs) ps = step (empties q) (all_empty empties qs) (chain_append qs ps)
   where
-    step : (b d : Bool) → chain (qs ++ ps) ≤ chain qs + (if d then chain ps else 0) → (if b then weigh q + chain (qs ++ ps) else weigh q) ≤ (if b then weigh q + chain qs else weigh q) + (if b && d then chain ps else 0)
+    step : (b d : Bool) → chain (qs ++ ps) ≤ chain qs + (if d then chain ps else 0)
+        → (if b then weigh q + chain (qs
+        ++ ps) else weigh q) ≤ (if b then weigh q + chain qs else weigh q) + (if b
+        && d then chain ps else 0)
     step true true h = omega arith
     step true false h = omega arith
     step false d h = omega arith

@@ -150,7 +150,9 @@ IsLess t x y = (a : Tree) × (m : List PlacedToken) × (t ≡ Node N.Binary (cod
 -- the tree is begun by `Memory < DFEVar >`
 abbrev pub IsGreater : Tree → List PlacedToken → List PlacedToken → Type 0
 IsGreater t x y =
-    (l : Tree) × (m : List PlacedToken) × (t ≡ Node N.Binary (codes ">") no_span (one l)) × Reads (Part.Joined Level.Orders l) x m × Reads (Part.Sign_ (codes ">")) m y × Reads (Part.Base (memory_type x y)) x y
+    (l : Tree) × (m : List PlacedToken) × (t ≡ Node N.Binary (codes ">") no_span (one l))
+    × Reads (Part.Joined Level.Orders l) x m × Reads (Part.Sign_ (codes ">")) m y
+    × Reads (Part.Base (memory_type x y)) x y
 
 abbrev pub HeadPart : NodeKind → Tree → Part
 HeadPart N.Method t = Part.Result t
@@ -272,7 +274,9 @@ Mean (Rule.Declared Site.Alone) b s xs v ys = IsFinalLocal (tree_of b) (start_of
 Mean (Rule.Declared Site.Loop) b s xs v ys = IsLocal (tree_of b) (start_of b) xs → (i : ℕ) → Reads (Part.First v i) (start_of b) ys
 Mean Rule.ReturnRest b s xs v ys = tree_of b ≡ fresh N.Return [] → Reads (Part.Word_ (codes "return")) (start_of b) xs → Reads (Part.Returning v) (start_of b) ys
 Mean Rule.ElseTail b s xs v ys = (ts us : Trees) × (v ≡ adds (adds (tree_of b) ts) us) × Seg (Part.ElseIfs ts ∷ Part.MaybeElse us ∷ []) xs ys
-Mean Rule.ElseRest b s xs v ys = (x : List PlacedToken) → Reads (Part.Word_ (codes "else")) x xs → (ts us : Trees) × (v ≡ adds (adds (tree_of b) ts) us) × Seg (Part.ElseIfs ts ∷ Part.MaybeElse us ∷ []) x ys
+Mean Rule.ElseRest b s xs v ys = (x : List PlacedToken) → Reads (Part.Word_ (codes "else")) x xs
+    → (ts us : Trees) × (v ≡ adds (adds (tree_of b) ts) us)
+    × Seg (Part.ElseIfs ts ∷ Part.MaybeElse us ∷ []) x ys
 Mean Rule.Body b s xs v ys = Reads (Part.Body v) xs ys
 Mean Rule.First b s xs v ys = (i : ℕ) → from_of ys ≡ i → Reads (Part.First v i) xs ys
 Mean Rule.Test b s xs v ys = (i : ℕ) → from_of ys ≡ i → Reads (Part.Test v i) xs ys
@@ -286,7 +290,9 @@ NamedMean (Y.Members i) b s xs v ys = (ts : Trees) × (v ≡ adds (tree_of b) ts
 NamedMean (Y.Head i) b (Ground cs) xs v ys = Unit {0}
 NamedMean (Y.Head i) b (On c s) xs v ys = IsBegun (tree_of b) (start_of b) xs → (ts : Trees) × (v ≡ adds (tree_of c) ts) × Reads (Part.Members i.manager i.class i.unmade ts) (start_of b) ys
 NamedMean (Y.After i o m) b (On c (On d s)) xs v ys =
-    IsBegun (tree_of c) (start_of c) (start_of b) → (w : List ℕ) → tree_of b ≡ Node N.Plain w (between (start_of b) xs) Nil → Reads (Part.Id w) (start_of b) xs → o ≡ is_own i w → m ≡ bytes_eq w (codes "Memory")
+    IsBegun (tree_of c) (start_of c) (start_of b) → (w : List ℕ)
+    → tree_of b ≡ Node N.Plain w (between (start_of b) xs) Nil
+    → Reads (Part.Id w) (start_of b) xs → o ≡ is_own i w → m ≡ bytes_eq w (codes "Memory")
     → (ts : Trees) × (v ≡ adds (tree_of d) ts) × Reads (Part.Members i.manager i.class i.unmade ts) (start_of c) ys
 NamedMean (Y.After i o m) b (On c (Ground cs)) xs v ys = Unit {0}
 NamedMean (Y.After i o m) b (Ground cs) xs v ys = Unit {0}

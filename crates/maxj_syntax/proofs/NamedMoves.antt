@@ -37,7 +37,9 @@ from_named (NamedMove.after_memory {i = i} {o = o}) = inl (memory_in i o)
 from_named (NamedMove.after_ctor {i = i} {m = m}) = inl (ctor_in i m)
 from_named (NamedMove.first_param {w = w} e) = inr (w, e, refl, refl)
 
-members : (m : Bool) (w : List ℕ) (u : Bool) (qs : List Symbol) → Among qs (member_choices u (record { manager = m; class = w; unmade = u })) → NamedMove (Y.Members (record { manager = m; class = w; unmade = u })) qs
+members : (m : Bool) (w : List ℕ) (u : Bool) (qs : List Symbol)
+    → Among qs (member_choices u (record { manager = m; class = w; unmade = u }))
+    → NamedMove (Y.Members (record { manager = m; class = w; unmade = u })) qs
 members m w true qs a = elim a [ inl e ↦ subst (λ l. NamedMove (Y.Members (record { manager = m; class = w; unmade = true })) l) e NamedMove.member | inr b ↦ absurd b ]
 members m w false qs a = elim a [
   | inl e ↦ subst (λ l. NamedMove (Y.Members (record { manager = m; class = w; unmade = false })) l) e NamedMove.member

@@ -24,7 +24,9 @@ taken p qs ps [] c e z = unique_end Is Choice may empties peeks choose predicts 
 taken p qs ps (t ∷ ts) c e z = unique Is Choice may empties peeks choose predicts {p = p} ps e c (starts_from_runs Is Choice z)
 
 -- a rule's choice, where the tokens are read to their end
-one_choice : (p : Symbol) (qs ws ps : List Symbol) (ys : List PlacedToken) → Choice p qs → Choice p ws → Ends may empties peeks p ps → Runs Is Choice (qs ++ ps) ys → Runs Is Choice (ws ++ ps) ys → ws ≡ qs
+one_choice : (p : Symbol) (qs ws ps : List Symbol) (ys : List PlacedToken) → Choice p qs
+    → Choice p ws → Ends may empties peeks p ps → Runs Is Choice (qs ++ ps) ys
+    → Runs Is Choice (ws ++ ps) ys → ws ≡ qs
 one_choice p qs ws ps ys c d e y z = some_same _ (taken p ws ps ys d e z) (taken p qs ps ys c e y)
 
 ends_all : (p : Symbol) (qs ps : List Symbol) → AllFollow may empties peeks p qs → Ends may empties peeks p ps → AllEnds ps → AllEnds (qs ++ ps)
@@ -39,7 +41,9 @@ other : {ps qs : List Symbol} {b c : Entry} {s q : Below} {xs ys : List PlacedTo
 other {b = b} {c = c} {s = s} {q = q} {xs = xs} {ys = ys} f g = subst (λ l. Goes l b s xs c q ys) f g
 
 -- what is read to the end is read in one way
-same_goes : {ps : List Symbol} {b c d : Entry} {s q r : Below} {xs ys zs : List PlacedToken} (rest : List Symbol) → AllEnds (ps ++ rest) → Goes ps b s xs c q ys → Goes ps b s xs d r zs → Runs Is Choice rest ys → Runs Is Choice rest zs
+same_goes : {ps : List Symbol} {b c d : Entry} {s q r : Below} {xs ys zs : List PlacedToken}
+    (rest : List Symbol) → AllEnds (ps ++ rest) → Goes ps b s xs c q ys → Goes ps b s xs d r zs
+    → Runs Is Choice rest ys → Runs Is Choice rest zs
     → (c ≡ d) × (q ≡ r) × (ys ≡ zs)
 same_goes rest h Goes.none Goes.none x y = (refl, refl, refl)
 same_goes rest h (Goes.mark i g) (Goes.mark j k) x y = same_goes rest h.1 g k x y

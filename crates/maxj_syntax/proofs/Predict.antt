@@ -93,7 +93,9 @@ module _ {P T : Type 0} (Is : P → T → Type 0) (Choice : P → List P → Typ
       nothing : {u : T} {us : List T} → Starts Is Choice [] (u ∷ us) → ⊥
       nothing s = elim s [ ]
 
-module _ {P T : Type 0} (Is : P → T → Type 0) (Choice : P → List P → Type 0) (may : P → T → Bool) (empties : P → Bool) (peeks : P → T → Bool) (choose : P → Option T → Option (List P)) (g : Predicts Is Choice may empties peeks choose) where
+module _ {P T : Type 0} (Is : P → T → Type 0) (Choice : P → List P → Type 0) (may : P → T
+    → Bool) (empties : P → Bool) (peeks : P → T → Bool) (choose : P → Option T
+    → Option (List P)) (g : Predicts Is Choice may empties peeks choose) where
   pub may_append : (qs ps : List P) (t : T) → may_all may empties (qs ++ ps) t ≡ true → (may_all may empties qs t ≡ true) ⊎ ((all_empty empties qs ≡ true) × (may_all may empties ps t ≡ true))
   may_append [] ps t e = inr (refl, e)
   may_append (q ∷ qs) ps t e = elim (or_true (may q t) _ e) [

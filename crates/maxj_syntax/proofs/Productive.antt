@@ -60,9 +60,15 @@ made_members m w = pick_list (Call (Y.Members (record { manager = m; class = w; 
 
 -- a constructor behind its name
 ctor_list : (m : Bool) (w : List ℕ) (k : Bool) → Listed (Call (Y.After (record { manager = m; class = w; unmade = true }) true k) ∷ [])
-ctor_list m w k = pick_list (Call (Y.After (record { manager = m; class = w; unmade = true }) true k)) _ (inl (here k)) (act_list _ _ (act_list _ _ (mark_list _ _ _ (before _ _ (opening_list m) (act_list _ _ (made_members m w))))))
+ctor_list m w k = pick_list (Call (Y.After (record
+    { manager = m; class = w; unmade = true }) true k)) _ (inl (here k))
+    (act_list _ _ (act_list _ _ (mark_list _ _ _ (before _ _ (opening_list m)
+    (act_list _ _ (made_members m w))))))
   where
-    here : (k : Bool) → Among (Act Named ∷ Act (Turn N.Ctor) ∷ Mark (C.Sign S.Open) Skip ∷ Sub (R.Opening m) ∷ Act Into ∷ Call (Y.Members (record { manager = m; class = w; unmade = false })) ∷ []) (after_choices (record { manager = m; class = w; unmade = true }) true k)
+    here : (k : Bool) → Among (Act Named ∷ Act (Turn N.Ctor) ∷ Mark (C.Sign S.Open) Skip
+        ∷ Sub (R.Opening m) ∷ Act Into ∷ Call (Y.Members
+        (record { manager = m; class = w; unmade = false }))
+        ∷ []) (after_choices (record { manager = m; class = w; unmade = true }) true k)
     here true = inl refl
     here false = inl refl
 
@@ -80,7 +86,10 @@ members_list m w true n = pick_list (Call (Y.Members (record { manager = m; clas
 members_list m w false n = made_members m w
 
 after_list : (i : Inside) (o k : Bool) → is_name i.class ≡ true → Listed (Call (Y.After i o k) ∷ [])
-after_list i o k n = pick_list (Call (Y.After i o k)) _ (inl (last o k)) (before _ _ (ranked R.Dims refl) (act_list _ _ (mark_list _ _ _ (before _ _ (ranked R.Declares refl) (act_list _ _ (members_list i.manager i.class i.unmade n))))))
+after_list i o k n = pick_list (Call (Y.After i o k)) _ (inl (last o k))
+    (before _ _ (ranked R.Dims refl) (act_list _ _ (mark_list _ _ _
+    (before _ _ (ranked R.Declares refl) (act_list _ _
+    (members_list i.manager i.class i.unmade n))))))
   where
     last : (o k : Bool) → Among (Sub R.Dims ∷ Act Into ∷ Mark C.Name Text ∷ Sub R.Declares ∷ Act Into ∷ Call (Y.Members i) ∷ []) (after_choices i o k)
     last true true = inr (inr (inl refl))
@@ -89,7 +98,9 @@ after_list i o k n = pick_list (Call (Y.After i o k)) _ (inl (last o k)) (before
     last false false = inl refl
 
 parent_list : (w : List ℕ) → is_name w ≡ true → Listed (Call (Y.Parent w) ∷ [])
-parent_list w n = pick_list (Call (Y.Parent w)) _ (inl (inl refl)) (mark_list _ _ _ (mark_list _ _ _ (before _ _ (members_list false w true n) (mark_list _ _ _ (act_list _ _ (act_list _ _ ([], Runs.end)))))))
+parent_list w n = pick_list (Call (Y.Parent w)) _ (inl (inl refl))
+    (mark_list _ _ _ (mark_list _ _ _ (before _ _ (members_list false w true n)
+    (mark_list _ _ _ (act_list _ _ (act_list _ _ ([], Runs.end)))))))
 
 class_name_list : Listed (Call Y.ClassName ∷ [])
 class_name_list = pick_list (Call Y.ClassName) (bound Y.ClassName (codes "a")) (inr (codes "a", refl, refl, refl)) (name_list _ _ _ refl (mark_list _ _ _ (parent_list (codes "a") refl)))

@@ -37,7 +37,9 @@ counted nodes (c ∷ cs) (t ∷ ts) a =
 abbrev pub AreWrong : ℕ → ℕ → Type 0
 AreWrong kernels managers = (kernels ≡ 0) ⊎ ((1 < managers) ⊎ ((1 < kernels) × (managers ≡ 0)))
 
-pub wrong_counts : (nodes : List Cell) (cs : List Class) (ts : List ClassTree) (managers : ℕ) → ClassesAre nodes cs ts → managers ≡ managers_of cs → AreWrong (length cs - managers) managers → IsNoProject ts
+pub wrong_counts : (nodes : List Cell) (cs : List Class) (ts : List ClassTree) (managers : ℕ)
+    → ClassesAre nodes cs ts → managers ≡ managers_of cs
+    → AreWrong (length cs - managers) managers → IsNoProject ts
 wrong_counts nodes cs ts managers a e w =
     let r = counted nodes cs ts a in
     let m = r.managers in
@@ -51,7 +53,10 @@ wrong_counts nodes cs ts managers a e w =
     ]
 
 -- where the counts are those of a project, only the names decide
-pub names_decide : (nodes : List Cell) (cs : List Class) (ts : List ClassTree) (managers : ℕ) → ClassesAre nodes cs ts → managers ≡ managers_of cs → (AreWrong (length cs - managers) managers → ⊥) → (twins : Bool) → twins ≡ has_twins ts → IsTrue twins ↔ IsNoProject ts
+pub names_decide : (nodes : List Cell) (cs : List Class) (ts : List ClassTree) (managers : ℕ)
+    → ClassesAre nodes cs ts → managers ≡ managers_of cs
+    → (AreWrong (length cs - managers) managers → ⊥) → (twins : Bool) → twins ≡ has_twins ts
+    → IsTrue twins ↔ IsNoProject ts
 names_decide nodes cs ts managers a e right twins f = (λ h. inr (inr (inl (sym f ∙ h))), names)
   where
     names : IsNoProject ts → IsTrue twins

@@ -41,7 +41,9 @@ append (Goes.act g) e = Goes.act (append g e)
 append (Goes.rule v d g) e = Goes.rule v d (append g e)
 append (Goes.call v d g) e = Goes.call v d (append g e)
 
-pub cut : (ps : List Symbol) {qs : List Symbol} {b c : Entry} {s q : Below} {xs ys : List PlacedToken} → Goes (ps ++ qs) b s xs c q ys → (m : Entry) × (r : Below) × (ms : List PlacedToken) × Goes ps b s xs m r ms × Goes qs m r ms c q ys
+pub cut : (ps : List Symbol) {qs : List Symbol} {b c : Entry} {s q : Below}
+    {xs ys : List PlacedToken} → Goes (ps ++ qs) b s xs c q ys → (m : Entry) × (r : Below)
+    × (ms : List PlacedToken) × Goes ps b s xs m r ms × Goes qs m r ms c q ys
 cut [] g = (_, _, _, Goes.none, g)
 cut (Mark k e ∷ ps) (Goes.mark i g) = let r = cut ps g in (r.0, r.1, r.2, Goes.mark i r.3, r.4)
 cut (Name w e ∷ ps) (Goes.name i g) = let r = cut ps g in (r.0, r.1, r.2, Goes.name i r.3, r.4)
@@ -55,12 +57,16 @@ expand {qs = qs} v g = let r = cut qs g in Goes.rule v r.3 r.4
 pub expand_named : {n : Y.Named} {qs ps : List Symbol} {b c : Entry} {s q : Below} {xs ys : List PlacedToken} → NamedMove n qs → Goes (qs ++ ps) b s xs c q ys → Goes (Call n ∷ ps) b s xs c q ys
 expand_named {qs = qs} v g = let r = cut qs g in Goes.call v r.3 r.4
 
-pub eat : {k : TokenClass} {e : Effect} {ps : List Symbol} {t : PlacedToken} {b c : Entry} {s q : Below} {xs ms ys : List PlacedToken} → xs ≡ t ∷ ms → Accepts k t.token → Goes ps (read_top e t.token xs ms b) (read_below e b s) ms c q ys
+pub eat : {k : TokenClass} {e : Effect} {ps : List Symbol} {t : PlacedToken} {b c : Entry}
+    {s q : Below} {xs ms ys : List PlacedToken} → xs ≡ t ∷ ms → Accepts k t.token
+    → Goes ps (read_top e t.token xs ms b) (read_below e b s) ms c q ys
     → Goes (Mark k e ∷ ps) b s xs c q ys
 eat {k = k} {e = e} {ps = ps} {t = t} {b = b} {c = c} {s = s} {q = q} {ms = ms} {ys = ys} f i g =
     subst (λ l. Goes (Mark k e ∷ ps) b s l c q ys) (sym f) (Goes.mark i (subst (λ l. Goes ps (read_top e t.token l ms b) (read_below e b s) ms c q ys) f g))
 
-pub eat_name : {w : List ℕ} {e : Effect} {ps : List Symbol} {t : PlacedToken} {b c : Entry} {s q : Below} {xs ms ys : List PlacedToken} → xs ≡ t ∷ ms → (t.token ≡ Token.Word w) × (is_name w ≡ true) → Goes ps (read_top e t.token xs ms b) (read_below e b s) ms c q ys
+pub eat_name : {w : List ℕ} {e : Effect} {ps : List Symbol} {t : PlacedToken} {b c : Entry}
+    {s q : Below} {xs ms ys : List PlacedToken} → xs ≡ t ∷ ms → (t.token ≡ Token.Word w)
+    × (is_name w ≡ true) → Goes ps (read_top e t.token xs ms b) (read_below e b s) ms c q ys
     → Goes (Name w e ∷ ps) b s xs c q ys
 eat_name {w = w} {e = e} {ps = ps} {t = t} {b = b} {c = c} {s = s} {q = q} {ms = ms} {ys = ys} f i g =
     subst (λ l. Goes (Name w e ∷ ps) b s l c q ys) (sym f) (Goes.name i (subst (λ l. Goes ps (read_top e t.token l ms b) (read_below e b s) ms c q ys) f g))
@@ -86,7 +92,10 @@ soften (Goes.name i g) = Goes.name i (soften g)
 soften (Goes.call v d g) = Goes.call v d (soften g)
 soften (Goes.rule {ps = ps} v d g) = soft_rule ps v d (soften d) (soften g)
   where
-    soft_rule : {p : Rule} {qs : List Symbol} (ps : List Symbol) {b m c : Entry} {s r q : Below} {xs ms ys : List PlacedToken} → Move p qs → Goes qs b s xs m r ms → Goes (soft qs) b s xs m r ms → Goes (soft ps) m r ms c q ys → Goes (soft (Sub p ∷ ps)) b s xs c q ys
+    soft_rule : {p : Rule} {qs : List Symbol} (ps : List Symbol) {b m c : Entry} {s r q : Below}
+        {xs ms ys : List PlacedToken} → Move p qs → Goes qs b s xs m r ms
+        → Goes (soft qs) b s xs m r ms → Goes (soft ps) m r ms c q ys
+        → Goes (soft (Sub p ∷ ps)) b s xs c q ys
     soft_rule ps Move.free_index d e g = Goes.rule Move.place_index e g
     soft_rule ps Move.free_dot d e g = Goes.rule Move.place_bare (Goes.rule Move.bare_dot d Goes.none) g
     soft_rule ps Move.free_onward d e g = Goes.rule Move.place_bare (Goes.rule Move.bare_onward d Goes.none) g
@@ -134,11 +143,26 @@ below Level.Sums ps = Sub (Rule.Tail Level.Products) ∷ Sub (Rule.Tail Level.Su
 below Level.Shifts ps = Sub (Rule.Tail Level.Products) ∷ Sub (Rule.Tail Level.Sums) ∷ Sub (Rule.Tail Level.Shifts) ∷ ps
 below Level.Orders ps = Sub (Rule.Tail Level.Products) ∷ Sub (Rule.Tail Level.Sums) ∷ Sub (Rule.Tail Level.Shifts) ∷ Sub (Rule.Tail Level.Orders) ∷ ps
 below Level.Equalities ps = Sub (Rule.Tail Level.Products) ∷ Sub (Rule.Tail Level.Sums) ∷ Sub (Rule.Tail Level.Shifts) ∷ Sub (Rule.Tail Level.Orders) ∷ Sub (Rule.Tail Level.Equalities) ∷ ps
-below Level.BitAnds ps = Sub (Rule.Tail Level.Products) ∷ Sub (Rule.Tail Level.Sums) ∷ Sub (Rule.Tail Level.Shifts) ∷ Sub (Rule.Tail Level.Orders) ∷ Sub (Rule.Tail Level.Equalities) ∷ Sub (Rule.Tail Level.BitAnds) ∷ ps
-below Level.BitXors ps = Sub (Rule.Tail Level.Products) ∷ Sub (Rule.Tail Level.Sums) ∷ Sub (Rule.Tail Level.Shifts) ∷ Sub (Rule.Tail Level.Orders) ∷ Sub (Rule.Tail Level.Equalities) ∷ Sub (Rule.Tail Level.BitAnds) ∷ Sub (Rule.Tail Level.BitXors) ∷ ps
-below Level.BitOrs ps = Sub (Rule.Tail Level.Products) ∷ Sub (Rule.Tail Level.Sums) ∷ Sub (Rule.Tail Level.Shifts) ∷ Sub (Rule.Tail Level.Orders) ∷ Sub (Rule.Tail Level.Equalities) ∷ Sub (Rule.Tail Level.BitAnds) ∷ Sub (Rule.Tail Level.BitXors) ∷ Sub (Rule.Tail Level.BitOrs) ∷ ps
-below Level.Ands ps = Sub (Rule.Tail Level.Products) ∷ Sub (Rule.Tail Level.Sums) ∷ Sub (Rule.Tail Level.Shifts) ∷ Sub (Rule.Tail Level.Orders) ∷ Sub (Rule.Tail Level.Equalities) ∷ Sub (Rule.Tail Level.BitAnds) ∷ Sub (Rule.Tail Level.BitXors) ∷ Sub (Rule.Tail Level.BitOrs) ∷ Sub (Rule.Tail Level.Ands) ∷ ps
-below Level.Ors ps = Sub (Rule.Tail Level.Products) ∷ Sub (Rule.Tail Level.Sums) ∷ Sub (Rule.Tail Level.Shifts) ∷ Sub (Rule.Tail Level.Orders) ∷ Sub (Rule.Tail Level.Equalities) ∷ Sub (Rule.Tail Level.BitAnds) ∷ Sub (Rule.Tail Level.BitXors) ∷ Sub (Rule.Tail Level.BitOrs) ∷ Sub (Rule.Tail Level.Ands) ∷ Sub (Rule.Tail Level.Ors) ∷ ps
+below Level.BitAnds ps = Sub (Rule.Tail Level.Products) ∷ Sub (Rule.Tail Level.Sums)
+    ∷ Sub (Rule.Tail Level.Shifts) ∷ Sub (Rule.Tail Level.Orders)
+    ∷ Sub (Rule.Tail Level.Equalities) ∷ Sub (Rule.Tail Level.BitAnds) ∷ ps
+below Level.BitXors ps = Sub (Rule.Tail Level.Products) ∷ Sub (Rule.Tail Level.Sums)
+    ∷ Sub (Rule.Tail Level.Shifts) ∷ Sub (Rule.Tail Level.Orders)
+    ∷ Sub (Rule.Tail Level.Equalities) ∷ Sub (Rule.Tail Level.BitAnds)
+    ∷ Sub (Rule.Tail Level.BitXors) ∷ ps
+below Level.BitOrs ps = Sub (Rule.Tail Level.Products) ∷ Sub (Rule.Tail Level.Sums)
+    ∷ Sub (Rule.Tail Level.Shifts) ∷ Sub (Rule.Tail Level.Orders)
+    ∷ Sub (Rule.Tail Level.Equalities) ∷ Sub (Rule.Tail Level.BitAnds)
+    ∷ Sub (Rule.Tail Level.BitXors) ∷ Sub (Rule.Tail Level.BitOrs) ∷ ps
+below Level.Ands ps = Sub (Rule.Tail Level.Products) ∷ Sub (Rule.Tail Level.Sums)
+    ∷ Sub (Rule.Tail Level.Shifts) ∷ Sub (Rule.Tail Level.Orders)
+    ∷ Sub (Rule.Tail Level.Equalities) ∷ Sub (Rule.Tail Level.BitAnds)
+    ∷ Sub (Rule.Tail Level.BitXors) ∷ Sub (Rule.Tail Level.BitOrs) ∷ Sub (Rule.Tail Level.Ands) ∷ ps
+below Level.Ors ps = Sub (Rule.Tail Level.Products) ∷ Sub (Rule.Tail Level.Sums)
+    ∷ Sub (Rule.Tail Level.Shifts) ∷ Sub (Rule.Tail Level.Orders)
+    ∷ Sub (Rule.Tail Level.Equalities) ∷ Sub (Rule.Tail Level.BitAnds)
+    ∷ Sub (Rule.Tail Level.BitXors) ∷ Sub (Rule.Tail Level.BitOrs) ∷ Sub (Rule.Tail Level.Ands)
+    ∷ Sub (Rule.Tail Level.Ors) ∷ ps
 
 pub below_above : {l k : Level} → Above l k → (ps : List Symbol) → below k ps ≡ below l (Sub (Rule.Tail k) ∷ ps)
 below_above Above.products ps = refl

@@ -14,13 +14,18 @@ use Rattle.maxj_syntax.specs.Productions.{Above, Part, Is, Choice, absent, is_na
 use Rattle.maxj_syntax.specs.Symbols.{Inside, Symbol, Mark, Name, Sub, Call, Act}
 use Rattle.maxj_syntax.specs.Symbols as Y
 use Rattle.maxj_syntax.specs.Moves.{Move, NamedMove, onward, ordered, looser, close, is_own}
-use Rattle.maxj_syntax.specs.Steps.{Entry, At, Below, Ground, On, Goes, with_text, text_of, between, no_span, fresh, add, add_last, turned, spanned, tree_of, start_of, add_classes, class_of, memory_type}
+use Rattle.maxj_syntax.specs.Steps.{Entry, At, Below, Ground, On, Goes, with_text, text_of, between}
+use Rattle.maxj_syntax.specs.Steps.{no_span, fresh, add, add_last, turned, spanned, tree_of}
+use Rattle.maxj_syntax.specs.Steps.{start_of, add_classes, class_of, memory_type}
 use Rattle.std.proofs.lemmas.List.{append-nil}
 use Rattle.maxj_syntax.specs.TokenClasses.{IsNameToken}
 use Rattle.text_scan.proofs.ByteTests.{bytes_same}
 use Rattle.maxj_syntax.proofs.Fits.{and_left, and_right}
 use Rattle.maxj_syntax.proofs.Segments.{Seg, then, link, parted, made, tok}
-use Rattle.maxj_syntax.proofs.Meanings.{shape, named_shape, top_of, adds, Reads, IsName, IsDotted, IsNew, IsNewName, IsWordName, IsMemory, IsLess, IsGreater, IsBegun, IsHead, handed_word, IsHandedBy, Target, Follows, Result, NamedResult}
+use Rattle.maxj_syntax.proofs.Meanings.{shape, named_shape, top_of, adds, Reads, IsName, IsDotted}
+use Rattle.maxj_syntax.proofs.Meanings.{IsNew, IsNewName, IsWordName, IsMemory, IsLess, IsGreater}
+use Rattle.maxj_syntax.proofs.Meanings.{IsBegun, IsHead, handed_word, IsHandedBy, Target, Follows}
+use Rattle.maxj_syntax.proofs.Meanings.{Result, NamedResult}
 
 join_one : (cs : Trees) (u : Tree) (us : Trees) → join (add_last cs u) us ≡ join cs (Cons u us)
 join_one Nil u us = refl
@@ -75,12 +80,16 @@ place_of_name {x = x} {y = y} g = subst (λ z. Reads (Part.Place z) x y) (sym g.
 abbrev IsAdded : Tree → Tree → List PlacedToken → List PlacedToken → Type 0
 IsAdded t v xs ys = (ts : Trees) × (v ≡ adds t ts) × Reads (Part.Args ts) xs ys
 
-call_tree : {a v : Tree} {x xs m n l : List PlacedToken} → IsName a x xs → Reads (Part.Sign_ (codes "(")) xs m → IsAdded (turned N.Call a) v m n → Reads (Part.Sign_ (codes ")")) n l → Reads (Part.Call (spanned (between x l) v)) x l
+call_tree : {a v : Tree} {x xs m n l : List PlacedToken} → IsName a x xs
+    → Reads (Part.Sign_ (codes "(")) xs m → IsAdded (turned N.Call a) v m n
+    → Reads (Part.Sign_ (codes ")")) n l → Reads (Part.Call (spanned (between x l) v)) x l
 call_tree {v = v} {x = x} {xs = xs} {l = l} g o h c =
     let e = closed N.Call g.0 (between x xs) (between x l) Nil h.0 v (h.1 ∙ ap (λ z. adds (turned N.Call z) h.0) g.1) in
     subst (λ z. Reads (Part.Call z) x l) (sym e) (made Choice.call_name (link g.2 (link o (link h.2 c))))
 
-dotted_tree : {a v : Tree} {x xs m n l : List PlacedToken} → IsDotted a x xs → Reads (Part.Sign_ (codes "(")) xs m → IsAdded (turned N.DotCall a) v m n → Reads (Part.Sign_ (codes ")")) n l → Reads (Part.Call (spanned (between x l) v)) x l
+dotted_tree : {a v : Tree} {x xs m n l : List PlacedToken} → IsDotted a x xs
+    → Reads (Part.Sign_ (codes "(")) xs m → IsAdded (turned N.DotCall a) v m n
+    → Reads (Part.Sign_ (codes ")")) n l → Reads (Part.Call (spanned (between x l) v)) x l
 dotted_tree {v = v} {x = x} {l = l} g o h c =
     let e = closed N.DotCall g.0 no_span (between x l) (one g.1) h.0 v (h.1 ∙ ap (λ z. adds (turned N.DotCall z) h.0) g.2) in
     subst (λ z. Reads (Part.Call z) x l) (sym e) (made Choice.call_dot (then g.3 (link o (link h.2 c))))
@@ -88,13 +97,17 @@ dotted_tree {v = v} {x = x} {l = l} g o h c =
 dot_tree : {a : Tree} {x xs : List PlacedToken} → IsDotted a x xs → Reads (Part.Open (spanned (between x xs) a)) x xs
 dot_tree {x = x} {xs = xs} g = subst (λ z. Reads (Part.Open (spanned (between x xs) z)) x xs) (sym g.2) (made Choice.dot g.3)
 
-new_tree : {a p v : Tree} {x y xs m n l : List PlacedToken} → IsNewName (At y p) (At x a) xs → Reads (Part.Sign_ (codes "(")) xs m → IsAdded (with_text (text_of p) a) v m n → Reads (Part.Sign_ (codes ")")) n l → Reads (Part.Call (spanned (between x l) v)) x l
+new_tree : {a p v : Tree} {x y xs m n l : List PlacedToken} → IsNewName (At y p) (At x a) xs
+    → Reads (Part.Sign_ (codes "(")) xs m → IsAdded (with_text (text_of p) a) v m n
+    → Reads (Part.Sign_ (codes ")")) n l → Reads (Part.Call (spanned (between x l) v)) x l
 new_tree {a = a} {v = v} {x = x} {l = l} g o h c =
     let f = ap (λ z. adds (with_text (text_of z) a) h.0) g.2 ∙ ap (λ z. adds (with_text g.1 z) h.0) g.0.0 in
     let e = closed N.New g.1 no_span (between x l) Nil h.0 v (h.1 ∙ f) in
     subst (λ z. Reads (Part.Call z) x l) (sym e) (made Choice.call_new (link g.0.1 (link g.3 (link o (link h.2 c)))))
 
-array_tree : {a p v : Tree} {x y xs n : List PlacedToken} → IsNew a x y → Reads (Part.Base p) y xs → (ts : Trees) × (v ≡ adds (turned N.NewArray (add a p)) ts) × Reads (Part.Sizes ts) xs n → Reads (Part.Array (spanned (between x n) v)) x n
+array_tree : {a p v : Tree} {x y xs n : List PlacedToken} → IsNew a x y
+    → Reads (Part.Base p) y xs → (ts : Trees) × (v ≡ adds (turned N.NewArray (add a p)) ts)
+    × Reads (Part.Sizes ts) xs n → Reads (Part.Array (spanned (between x n) v)) x n
 array_tree {p = p} {v = v} {x = x} {n = n} g b h =
     let e = closed N.NewArray [] no_span (between x n) (one p) h.0 v (h.1 ∙ ap (λ z. adds (turned N.NewArray (add z p)) h.0) g.0) in
     subst (λ z. Reads (Part.Array z) x n) (sym e) (made Choice.array (link g.1 (link b h.2)))
@@ -107,7 +120,13 @@ onwards : (x : List PlacedToken) (a : Tree) (s : Below) (xs : List PlacedToken) 
     → ((v : Tree) (ys : List PlacedToken) → (P → Reads (Part.Simple v) x ys) → Q (At x v) s ys) → Follows onward (At x a) s xs Q
 onwards x a s xs P Q g f =
     λ v0 m0 h0. λ v1 m1 h1. λ v2 m2 h2. λ v3 m3 h3. λ v4 m4 h4. λ v5 m5 h5. λ v6 m6 h6. λ v7 m7 h7. λ v8 m8 h8. λ v9 m9 h9. λ c mc hc. λ t m e i. λ w n k.
-    f _ n (λ p. made Choice.connect (link (hc (h9 (made (Choice.tighter Above.ors) (h8 (made (Choice.tighter Above.ands) (h7 (made (Choice.tighter Above.bit_ors) (h6 (made (Choice.tighter Above.bit_xors) (h5 (made (Choice.tighter Above.bit_ands) (h4 (made (Choice.tighter Above.equalities) (h3 (made (Choice.tighter Above.orders) (h2 (made (Choice.tighter Above.shifts) (h1 (made (Choice.tighter Above.sums) (h0 (made (Choice.tighter Above.products) (g p)))))))))))))))))))))) (tok e i k)))
+    f _ n (λ p. made Choice.connect (link (hc (h9 (made (Choice.tighter Above.ors)
+    (h8 (made (Choice.tighter Above.ands) (h7 (made (Choice.tighter Above.bit_ors)
+    (h6 (made (Choice.tighter Above.bit_xors) (h5 (made (Choice.tighter Above.bit_ands)
+    (h4 (made (Choice.tighter Above.equalities) (h3
+    (made (Choice.tighter Above.orders) (h2 (made (Choice.tighter Above.shifts)
+    (h1 (made (Choice.tighter Above.sums) (h0 (made (Choice.tighter Above.products)
+    (g p)))))))))))))))))))))) (tok e i k)))
 
 site_end : (d : Site) (x : List PlacedToken) (v : Tree) (s : Below) (ys : List PlacedToken) (P : Type 0) (Q : Entry → Below → List PlacedToken → Type 0) → (P → Reads (Part.Simple v) x ys)
     → ((zs : List PlacedToken) → (P → Target d v x zs) → Q (At x v) s zs) → Follows (close d) (At x v) s ys Q
@@ -173,18 +192,27 @@ greater_order {r = r} {x = x} {z = z} g d =
     subst (λ u. Reads (Part.Joined Level.Orders (spanned (between x z) (add u r))) x z) (sym g.2) (made (Choice.joined Above.orders) (link g.3 (link (sign_of refl g.4) d)))
 
 -- the tails of the levels above the orders, and the right side of a connection
-looser_then : (ps : List Symbol) (x : List PlacedToken) (a : Tree) (s : Below) (xs : List PlacedToken) (P : Type 0) (Q : Entry → Below → List PlacedToken → Type 0) → (P → Reads (Part.Joined Level.Orders a) x xs)
+looser_then : (ps : List Symbol) (x : List PlacedToken) (a : Tree) (s : Below)
+    (xs : List PlacedToken) (P : Type 0) (Q : Entry → Below → List PlacedToken → Type 0)
+    → (P → Reads (Part.Joined Level.Orders a) x xs)
     → ((v : Tree) (ys : List PlacedToken) → (P → Reads (Part.Simple v) x ys) → Follows ps (At x v) s ys Q) → Follows (looser ++ ps) (At x a) s xs Q
 looser_then ps x a s xs P Q g f =
     λ v4 m4 h4. λ v5 m5 h5. λ v6 m6 h6. λ v7 m7 h7. λ v8 m8 h8. λ v9 m9 h9. λ c mc hc. λ t m e i. λ w n k.
-    f _ n (λ p. made Choice.connect (link (hc (h9 (made (Choice.tighter Above.ors) (h8 (made (Choice.tighter Above.ands) (h7 (made (Choice.tighter Above.bit_ors) (h6 (made (Choice.tighter Above.bit_xors) (h5 (made (Choice.tighter Above.bit_ands) (h4 (made (Choice.tighter Above.equalities) (g p)))))))))))))) (tok e i k)))
+    f _ n (λ p. made Choice.connect (link (hc (h9 (made (Choice.tighter Above.ors)
+    (h8 (made (Choice.tighter Above.ands) (h7 (made (Choice.tighter Above.bit_ors)
+    (h6 (made (Choice.tighter Above.bit_xors) (h5 (made (Choice.tighter Above.bit_ands)
+    (h4 (made (Choice.tighter Above.equalities) (g p)))))))))))))) (tok e i k)))
 
-looser_end : (d : Site) (x : List PlacedToken) (a : Tree) (s : Below) (xs : List PlacedToken) (P : Type 0) (Q : Entry → Below → List PlacedToken → Type 0) → (P → Reads (Part.Joined Level.Orders a) x xs)
+looser_end : (d : Site) (x : List PlacedToken) (a : Tree) (s : Below) (xs : List PlacedToken)
+    (P : Type 0) (Q : Entry → Below → List PlacedToken → Type 0)
+    → (P → Reads (Part.Joined Level.Orders a) x xs)
     → ((v : Tree) (ys : List PlacedToken) → (P → Target d v x ys) → Q (At x v) s ys) → Follows (looser ++ close d) (At x a) s xs Q
 looser_end d x a s xs P Q g f = looser_then (close d) x a s xs P Q g (λ v ys h. site_end d x v s ys P Q h (λ zs k. f v zs k))
 
 ordered_end : (d : Site) (x : List PlacedToken) (a : Tree) (y : List PlacedToken) (r : Tree) (s : Below) (xs : List PlacedToken) (P : Type 0) (Q : Entry → Below → List PlacedToken → Type 0)
-    → (P → Reads (Part.Joined Level.Orders (spanned (between x xs) (add a r))) x xs) → ((v : Tree) (ys : List PlacedToken) → (P → Target d v x ys) → Q (At x v) s ys) → Follows (ordered ++ close d) (At y r) (On (At x a) s) xs Q
+    → (P → Reads (Part.Joined Level.Orders (spanned (between x xs) (add a r))) x xs)
+    → ((v : Tree) (ys : List PlacedToken) → (P → Target d v x ys) → Q (At x v) s ys)
+    → Follows (ordered ++ close d) (At y r) (On (At x a) s) xs Q
 ordered_end d x a y r s xs P Q g f = λ v m h. looser_end d x v s m P Q (λ p. h (g p)) f
 
 -- with nothing below, of which nothing is said
@@ -201,10 +229,14 @@ void_tree {x = x} {y = y} e i = subst (λ v. Reads (Part.Result (Node N.Plain v 
 handed_by : (m : Bool) {p : List ℕ} {q : Tree} {x y : List PlacedToken} → IsHandedBy m p q x y → Reads (Part.Handed (handed_word m) p (spanned (between x y) q)) x y
 handed_by m {p = p} {x = x} {y = y} g = subst (λ z. Reads (Part.Handed (handed_word m) p (spanned (between x y) z)) x y) (sym g.1) (made Choice.handed g.2)
 
-memory_base : {q : Tree} {x y m n z : List PlacedToken} → IsMemory q x y → Reads (Part.Sign_ (codes "<")) y m → Reads (Part.Word_ (codes "DFEVar")) m n → Reads (Part.Sign_ (codes ">")) n z → Reads (Part.Base (spanned (between x z) q)) x z
+memory_base : {q : Tree} {x y m n z : List PlacedToken} → IsMemory q x y
+    → Reads (Part.Sign_ (codes "<")) y m → Reads (Part.Word_ (codes "DFEVar")) m n
+    → Reads (Part.Sign_ (codes ">")) n z → Reads (Part.Base (spanned (between x z) q)) x z
 memory_base {x = x} {z = z} g a b c = subst (λ u. Reads (Part.Base (spanned (between x z) u)) x z) (sym g.0) (made Choice.base_memory (link g.1 (link a (link b c))))
 
-pub method_tree : {a p r : Tree} {w : List ℕ} (v : Tree) (ts : Trees) (q : Span) → a ≡ Node N.Method w no_span (one r) → p ≡ adds a ts → spanned q (add p v) ≡ Node N.Method w q (Cons r (join ts (one v)))
+pub method_tree : {a p r : Tree} {w : List ℕ} (v : Tree) (ts : Trees) (q : Span)
+    → a ≡ Node N.Method w no_span (one r) → p ≡ adds a ts
+    → spanned q (add p v) ≡ Node N.Method w q (Cons r (join ts (one v)))
 method_tree {a = a} {p = p} {r = r} {w = w} v ts q e f =
     ap (λ z. spanned q (add z v)) (f ∙ ap (λ z. adds z ts) e ∙ adds_is N.Method w no_span (one r) ts) ∙ ap (λ l. Node N.Method w q (Cons r l)) (add_is_join ts v)
 
@@ -276,7 +308,9 @@ step Move.free_index (At x a) s xs = λ t m e i. λ v n h. λ u o f j. λ w l k.
 step Move.free_dot (At x a) s xs = λ t m e i. λ u n f j. λ v o h. (_, refl, refl, λ g. h ((written u.token), a, refl, link (made Choice.open_form g) (tok e i (tok f j end))))
 step Move.free_onward (At x a) s xs = onwards x a s xs (Reads (Part.Open a) x xs) (Result (Rule.Rest Form.Free) (At x a) s xs) (λ g. prefixed g) (λ v ys f. (_, refl, refl, f))
 step Move.array_dot (At x a) s xs = λ t m e i. λ u n f j. λ v o h. (_, refl, refl, λ g. h ((written u.token), a, refl, link (made Choice.array_form g) (tok e i (tok f j end))))
-step Move.array_onward (At x a) s xs = onwards x a s xs (Reads (Part.Array a) x xs) (Result (Rule.Rest Form.Fresh) (At x a) s xs) (λ g. made Choice.no_prefix (made Choice.array_form g)) (λ v ys f. (_, refl, refl, f))
+step Move.array_onward (At x a) s xs = onwards x a s xs (Reads (Part.Array a) x xs)
+    (Result (Rule.Rest Form.Fresh) (At x a) s xs) (λ g. made Choice.no_prefix
+    (made Choice.array_form g)) (λ v ys f. (_, refl, refl, f))
 step Move.dotted_call (At x a) s xs = λ t m e i. λ v n h. λ u l f j. λ w o k. (_, refl, refl, λ g. k (dotted_tree g (tok e i end) h (tok f j end)))
 step Move.dotted_name (At x a) s xs = λ w o k. (_, refl, refl, λ g. k (dot_tree g))
 step Move.type_name b s xs = λ t m e i. λ v n h. (_, refl, refl, h (made Choice.just_base (made Choice.base_name (tok e i.0 end))))
@@ -284,12 +318,24 @@ step Move.type_word b s xs = λ t m e i. λ v n h. (_, refl, refl, h (made Choic
 step Move.dims (At x a) s xs = λ t m e i. λ u n f j. λ v l h. (_, refl, refl, λ g. h (made Choice.array_of (link g (tok e i (tok f j end)))))
 step Move.no_dims (At x a) s xs = (_, refl, refl, λ g. g)
 step Move.init b s xs = λ v m h. (_, refl, refl, made Choice.init_expr h)
-step Move.braces b s xs = λ t m e i. λ v n h. λ u l f j. (_, refl, refl, subst (λ z. Reads (Part.Init z) xs l) (sym (closed N.Braces [] no_span (between xs l) Nil h.0 v h.1)) (made Choice.init_braces (tok e i (link h.2 (tok f j end)))))
+step Move.braces b s xs = λ t m e i. λ v n h. λ u l f j. (
+  _,
+  refl,
+  refl,
+  subst (λ z. Reads (Part.Init z) xs l) (sym (closed N.Braces [] no_span
+      (between xs l) Nil h.0 v h.1)) (made Choice.init_braces (tok e i (link h.2 (tok f j end)))),
+)
 step Move.inits (At x a) s xs = λ v m h. λ w n k. (_, refl, refl, (Cons v k.0, k.1, made Choice.inits (link h k.2)))
 step Move.no_inits (At x a) s xs = (_, refl, refl, (Nil, refl, made Choice.no_inits end))
 step Move.more_inits (At x a) s xs = λ t m0 e i. λ v m h. λ w n k. (_, refl, refl, (Cons v k.0, k.1, made Choice.more_inits (tok e i (link h k.2))))
 step Move.no_more_inits (At x a) s xs = (_, refl, refl, (Nil, refl, made Choice.no_more_inits end))
-step Move.block b s xs = λ t m e i. λ v n h. λ u l f j. (_, refl, refl, subst (λ z. Reads (Part.Block z) xs l) (sym (closed N.Block [] no_span (between xs l) Nil h.0 v h.1)) (made Choice.block (tok e i (link h.2 (tok f j end)))))
+step Move.block b s xs = λ t m e i. λ v n h. λ u l f j. (
+  _,
+  refl,
+  refl,
+  subst (λ z. Reads (Part.Block z) xs l) (sym (closed N.Block [] no_span
+      (between xs l) Nil h.0 v h.1)) (made Choice.block (tok e i (link h.2 (tok f j end)))),
+)
 step Move.stmts (At x a) s xs = λ v m h. λ w n k. (_, refl, refl, (Cons v k.0, k.1, made Choice.stmts (link h k.2)))
 step Move.no_stmts (At x a) s xs = (_, refl, refl, (Nil, refl, made Choice.no_stmts end))
 step Move.stmt_block b s xs = λ v m h. (_, refl, refl, made Choice.block_stmt h)
@@ -307,10 +353,31 @@ step Move.stmt_if b s xs = λ t1 m1 e1 i1. λ t2 m2 e2 i2. λ c m3 h3. λ t4 m4 
       (made Choice.if_stmt (tok e1 i1 (tok e2 i2 (link h3 (tok e4 i4 (link h5 h6.3)))))),
 )
 step Move.stmt_while b s xs = λ t1 m1 e1 i1. λ t2 m2 e2 i2. λ c m3 h3. λ t4 m4 e4 i4. λ d m5 h5. (_, refl, refl, made Choice.while_stmt (tok e1 i1 (tok e2 i2 (link h3 (tok e4 i4 h5)))))
-step Move.stmt_for b s xs = λ t1 m1 e1 i1. λ t2 m2 e2 i2. λ f m3 h3. λ t4 m4 e4 i4. λ c m5 h5. λ t6 m6 e6 i6. λ p m7 h7. λ t8 m8 e8 i8. λ d m9 h9.
-    (_, refl, refl, made Choice.for_stmt (tok e1 i1 (tok e2 i2 (link (h3 t4.place (ap from_of e4)) (tok e4 (i4, refl) (link (h5 t6.place (ap from_of e6)) (tok e6 (i6, refl) (link (h7 t8.place (ap from_of e8)) (tok e8 (i8, refl) h9)))))))))
+step Move.stmt_for b s xs = λ t1 m1 e1 i1. λ t2 m2 e2 i2. λ f m3 h3. λ t4 m4 e4 i4. λ c m5 h5. λ t6 m6 e6 i6. λ p m7 h7. λ t8 m8 e8 i8. λ d m9 h9. (
+  _,
+  refl,
+  refl,
+  made Choice.for_stmt (tok e1 i1 (tok e2 i2
+      (link (h3 t4.place (ap from_of e4)) (tok e4 (
+        i4,
+        refl,
+      ) (link (h5 t6.place (ap from_of e6)) (tok e6 (
+        i6,
+        refl,
+      ) (link (h7 t8.place (ap from_of e8)) (tok e8 (i8, refl) h9)))))))),
+)
 step Move.stmt_empty b s xs = λ t m e i. (_, refl, refl, made Choice.empty_stmt (tok e i end))
-step (Move.then_name {d = Site.Alone}) (At x a) s xs = λ t m e i. λ v n h. (_, refl, refl, λ g. h ((written t.token), turned N.Plain a, refl, link (made Choice.not_final end) (link (type_of_name g) (tok e i end))))
+step (Move.then_name {d = Site.Alone}) (At x a) s xs = λ t m e i. λ v n h. (
+  _,
+  refl,
+  refl,
+  λ g. h (
+    (written t.token),
+    turned N.Plain a,
+    refl,
+    link (made Choice.not_final end) (link (type_of_name g) (tok e i end)),
+  ),
+)
 step (Move.then_name {d = Site.Loop}) (At x a) s xs = λ t m e i. λ v n h. (_, refl, refl, λ g. h ((written t.token), turned N.Plain a, refl, link (type_of_name g) (tok e i end)))
 step Move.then_bracket (At x a) s xs = λ t m e i. λ v n h. (_, refl, refl, λ g. h xs g (tok e i end))
 step (Move.then_called {d = d}) (At x a) s xs = λ t m e i. λ v n h. λ u l f j. λ w o k.
@@ -321,8 +388,17 @@ step (Move.then_dims {d = Site.Alone}) (At x a) s xs = λ t m e i. λ v n h. λ 
 step (Move.then_dims {d = Site.Loop}) (At x a) s xs = λ t m e i. λ v n h. λ u o f j. λ w l k.
     (_, refl, refl, λ m0 g q. k ((written u.token), v, refl, link (h (made Choice.array_of (link (type_of_name g) (link q (tok e i end))))) (tok f j end)))
 step (Move.then_index {d = d}) (At x a) s xs = λ v n h. λ t m e i. λ w l k.
-    site_end d x w s l ((m0 : List PlacedToken) × IsName a x m0 × Reads (Part.Sign_ (codes "[")) m0 xs) (Result (Rule.BracketThen d) (At x a) s xs) (λ p. k (made Choice.place_index (link (place_of_name p.1) (link p.2 (link h (tok e i end)))))) (λ zs q. (_, refl, refl, λ m0 g r. q (m0, g, r)))
-step Move.declared (At x a) s xs = λ t m e i. (_, refl, refl, λ g. subst (λ z. Reads (Part.Stmt (spanned (between x m) z)) x m) (sym g.2) (made Choice.local (then g.3 (link (made Choice.no_init end) (tok e i end)))))
+    site_end d x w s l ((m0 : List PlacedToken) × IsName a x m0
+    × Reads (Part.Sign_ (codes "[")) m0 xs) (Result (Rule.BracketThen d) (At x a) s xs)
+    (λ p. k (made Choice.place_index (link (place_of_name p.1)
+    (link p.2 (link h (tok e i end)))))) (λ zs q. (_, refl, refl, λ m0 g r. q (m0, g, r)))
+step Move.declared (At x a) s xs = λ t m e i. (
+  _,
+  refl,
+  refl,
+  λ g. subst (λ z. Reads (Part.Stmt (spanned (between x m) z)) x m) (sym g.2)
+      (made Choice.local (then g.3 (link (made Choice.no_init end) (tok e i end)))),
+)
 step Move.declared_init (At x a) s xs = λ t m e i. λ v n h. λ u l f j.
     (_, refl, refl, λ g. subst (λ z. Reads (Part.Stmt (spanned (between x l) (add z v))) x l) (sym g.2) (made Choice.local (then g.3 (link (made Choice.some_init (tok e i h)) (tok f j end)))))
 step Move.declared_loop (At x a) s xs = λ t m e i. λ v n h.
@@ -367,7 +443,13 @@ step Move.no_classes b s xs = ([], refl, add_none s, made Choice.no_classes end)
 step Move.class b s xs = λ v m h. λ t n e i. λ k l g. (k ∷ [], refl, refl, (k, refl, g refl (link h (tok e i end))))
 step Move.mods b s xs = λ t m e i. λ v n h. (tt, refl, refl, made Choice.mods (tok e i h))
 step Move.no_mods b s xs = (tt, refl, refl, made Choice.no_mods end)
-step Move.declares_field (At x a) s xs = λ t m e i. (_, refl, refl, λ g. subst (λ z. Reads (Part.Member (spanned (between x m) z)) x m) (sym g.2) (made Choice.field (then g.3 (link (made Choice.no_init end) (tok e i end)))))
+step Move.declares_field (At x a) s xs = λ t m e i. (
+  _,
+  refl,
+  refl,
+  λ g. subst (λ z. Reads (Part.Member (spanned (between x m) z)) x m) (sym g.2)
+      (made Choice.field (then g.3 (link (made Choice.no_init end) (tok e i end)))),
+)
 step Move.declares_value (At x a) s xs = λ t m e i. λ v n h. λ u l f j.
     (_, refl, refl, λ g. subst (λ z. Reads (Part.Member (spanned (between x l) (add z v))) x l) (sym g.2) (made Choice.field (then g.3 (link (made Choice.some_init (tok e i h)) (tok f j end)))))
 step Move.declares_method (At x a) s xs = λ v m h. (_, refl, refl, λ g. h (method_head g))
@@ -394,7 +476,9 @@ step Move.super_rest (At y q) (On (At x a) s) xs = λ t1 m1 e1 i1. λ t2 m2 e2 i
   λ p f g. (
     spanned (between y m4) v,
     refl,
-    subst (λ z. Reads (Part.CtorBlock p z) y m4) (sym (closed N.Block [] no_span (between y m4) Nil h3.0 v (h3.1 ∙ ap (λ z. adds z h3.0) f))) (made Choice.ctor_block (then g (tok e1 i1 (tok e2 i2 (link h3.2 (tok e4 i4 end)))))),
+    subst (λ z. Reads (Part.CtorBlock p z) y m4) (sym (closed N.Block [] no_span
+        (between y m4) Nil h3.0 v (h3.1 ∙ ap (λ z. adds z h3.0) f)))
+        (made Choice.ctor_block (then g (tok e1 i1 (tok e2 i2 (link h3.2 (tok e4 i4 end)))))),
   ),
 )
 step Move.type_memory b s xs = λ t m e i. λ v n h. λ w l k. (_, refl, refl, k (made Choice.just_base (h (ap (λ z. Node N.Plain (written z) (between xs m) Nil) i, tok e i end))))
@@ -402,26 +486,53 @@ step Move.memory_type (At x a) s xs = λ t1 m1 e1 i1. λ t2 m2 e2 i2. λ t3 m3 e
 step Move.no_memory_type (At x a) s xs = (_, refl, refl, λ g. subst (λ z. Reads (Part.Base z) x xs) (sym g.0) (made Choice.base_name (word_id refl g.1)))
 step Move.new_memory (At x a) s xs = λ t m e i. λ v n h. (_, refl, refl, λ g. h g (ap (λ z. Node N.Plain (written z) (between xs m) Nil) i, tok e i end))
 step Move.new_memories b (Ground cs) xs = λ t1 m1 e1 i1. λ t2 m2 e2 i2. λ t3 m3 e3 i3. λ v n h. λ w o k. (_, refl, refl, tt)
-step Move.new_memories (At y p) (On (At x a) s) xs = λ t1 m1 e1 i1. λ t2 m2 e2 i2. λ t3 m3 e3 i3. λ v n h. λ w o k. (_, refl, refl, λ g q. k (array_tree g (memory_base q (tok e1 i1 end) (tok e2 i2 end) (tok e3 i3 end)) h))
+step Move.new_memories (At y p) (On
+    (At x a) s) xs = λ t1 m1 e1 i1. λ t2 m2 e2 i2. λ t3 m3 e3 i3. λ v n h. λ w o k. (
+      _,
+      refl,
+      refl,
+      λ g q. k (array_tree g (memory_base q (tok e1 i1 end) (tok e2 i2 end) (tok e3 i3 end)) h),
+    )
 step Move.new_plain_memory b (Ground cs) xs = λ v m h. (_, refl, refl, tt)
 step Move.new_plain_memory (At y p) (On (At x a) s) xs = λ v m h. (_, refl, refl, λ g q. h (g, codes "Memory", q.0, word_id refl q.1))
 step Move.stmt_new_memory (At x a) s xs = λ t m e i. λ v n h. (_, refl, refl, λ g. h g (ap (λ z. Node N.Plain (written z) (between xs m) Nil) i, tok e i end))
 step Move.stmt_new_memories b (Ground cs) xs = λ t1 m1 e1 i1. λ t2 m2 e2 i2. λ t3 m3 e3 i3. λ v n h. λ w o k. (_, refl, refl, tt)
-step Move.stmt_new_memories (At y p) (On (At x a) s) xs = λ t1 m1 e1 i1. λ t2 m2 e2 i2. λ t3 m3 e3 i3. λ v n h. λ w o k. (_, refl, refl, λ g q. k (array_tree g (memory_base q (tok e1 i1 end) (tok e2 i2 end) (tok e3 i3 end)) h))
+step Move.stmt_new_memories (At y p) (On
+    (At x a) s) xs = λ t1 m1 e1 i1. λ t2 m2 e2 i2. λ t3 m3 e3 i3. λ v n h. λ w o k. (
+      _,
+      refl,
+      refl,
+      λ g q. k (array_tree g (memory_base q (tok e1 i1 end) (tok e2 i2 end) (tok e3 i3 end)) h),
+    )
 step Move.stmt_new_plain_memory b (Ground cs) xs = λ v m h. (_, refl, refl, tt)
 step Move.stmt_new_plain_memory (At y p) (On (At x a) s) xs = λ v m h. (_, refl, refl, λ g q. h (g, codes "Memory", q.0, word_id refl q.1))
 step Move.stmt_memory b s xs = λ t m e i. λ v n h. (_, refl, refl, h (ap (λ z. Node N.Name (written z) (between xs m) Nil) i, tok e i end))
 step Move.first_memory b s xs = λ t m e i. λ v n h. (_, refl, refl, λ q z. h (ap (λ z. Node N.Name (written z) (between xs m) Nil) i, tok e i end) q)
-step (Move.memory_name {d = Site.Alone}) (At x a) s xs = λ t m e i. λ v n h. (_, refl, refl, λ g. h (written t.token, turned N.Plain a, refl, link (made Choice.not_final end) (link (type_of_name (name_of refl g)) (tok e i end))))
+step (Move.memory_name {d = Site.Alone}) (At x a) s xs = λ t m e i. λ v n h. (
+  _,
+  refl,
+  refl,
+  λ g. h (
+    written t.token,
+    turned N.Plain a,
+    refl,
+    link (made Choice.not_final end) (link (type_of_name (name_of refl g)) (tok e i end)),
+  ),
+)
 step (Move.memory_name {d = Site.Loop}) (At x a) s xs = λ t m e i. λ v n h. (_, refl, refl, λ g. h (written t.token, turned N.Plain a, refl, link (type_of_name (name_of refl g)) (tok e i end)))
 step Move.memory_bracket (At x a) s xs = λ t m e i. λ v n h. (_, refl, refl, λ g. h xs (name_of refl g) (tok e i end))
 step (Move.memory_called {d = d}) (At x a) s xs = λ t m e i. λ v n h. λ u l f j. λ w o k.
     site_end d x w s o (IsWordName (codes "Memory") a x xs) (Result (Rule.MemoryThen d) (At x a) s xs) (λ g. k (call_tree (name_of refl g) (tok e i end) h (tok f j end))) (λ zs q. (_, refl, refl, q))
 step Move.memory_less (At x a) s xs = λ t m e i. λ v n h. (_, refl, refl, λ g. h (a, xs, ap (λ z. Node N.Binary (written z) no_span (one a)) i, g, tok e i end))
-step (Move.memory_bare {d = d}) (At x a) s xs = λ v m h. site_end d x v s m (IsWordName (codes "Memory") a x xs) (Result (Rule.MemoryThen d) (At x a) s xs) (λ g. h (place_of_name (name_of refl g))) (λ zs q. (_, refl, refl, q))
+step (Move.memory_bare {d = d}) (At x a) s xs = λ v m h. site_end d x v s m
+    (IsWordName (codes "Memory") a x xs) (Result (Rule.MemoryThen d) (At x a) s xs)
+    (λ g. h (place_of_name (name_of refl g))) (λ zs q. (_, refl, refl, q))
 step Move.less_dfevar (At x a) s xs = λ t m e i. λ v n h. (_, refl, refl, λ g. h g (ap (λ z. Node N.Name (written z) (between xs m) Nil) i, tok e i end))
 step (Move.less_other {d = d}) (At x a) s xs = λ o m0 h0. λ v1 m1 h1. λ v2 m2 h2. λ v3 m3 h3.
-    ordered_end d x a xs v3 s m3 (IsLess a x xs) (Result (Rule.LessThen d) (At x a) s xs) (λ g. less_order g (h3 (made (Choice.tighter Above.shifts) (h2 (made (Choice.tighter Above.sums) (h1 (made (Choice.tighter Above.products) h0))))))) (λ v ys q. (_, refl, refl, q))
+    ordered_end d x a xs v3 s m3 (IsLess a x xs) (Result (Rule.LessThen d) (At x a) s xs)
+    (λ g. less_order g (h3 (made (Choice.tighter Above.shifts)
+    (h2 (made (Choice.tighter Above.sums) (h1 (made
+    (Choice.tighter Above.products) h0))))))) (λ v ys q. (_, refl, refl, q))
 step Move.dfevar_greater b (Ground cs) xs = λ t m e i. λ v n h. (_, refl, refl, tt)
 step Move.dfevar_greater (At y q) (On (At x a) s) xs = λ t m e i. λ v n h. (
   _,
@@ -436,45 +547,79 @@ step Move.dfevar_greater (At y q) (On (At x a) s) xs = λ t m e i. λ v n h. (
     made Choice.base_memory (link g.3.1 (link g.4 (link k.1 (tok e i end)))),
   ),
 )
-step (Move.dfevar_further {d = d}) (At y q) (Ground cs) xs = λ o m0 h0. λ v1 m1 h1. λ v2 m2 h2. λ v3 m3 h3. ordered_ground d y v3 cs m3 (Result (Rule.DFEVarThen d) (At y q) (Ground cs) xs) (λ v ys. (_, refl, refl, tt))
+step (Move.dfevar_further {d = d}) (At y q)
+    (Ground cs) xs = λ o m0 h0. λ v1 m1 h1. λ v2 m2 h2. λ v3 m3 h3. ordered_ground d y v3 cs m3
+    (Result (Rule.DFEVarThen d) (At y q) (Ground cs) xs) (λ v ys. (_, refl, refl, tt))
 step (Move.dfevar_further {d = d}) (At y q) (On (At x a) s) xs = λ o m0 h0. λ v1 m1 h1. λ v2 m2 h2. λ v3 m3 h3.
     ordered_end d x a y v3 s m3 (IsLess a x y × IsWordName (codes "DFEVar") q y xs) (Result (Rule.DFEVarThen d) (At y q) (On (At x a) s) xs)
-    (λ p. less_order p.0 (h3 (made (Choice.tighter Above.shifts) (h2 (made (Choice.tighter Above.sums) (h1 (made (Choice.tighter Above.products) (made Choice.no_prefix (h0 (name_of refl p.1)))))))))) (λ v ys f. (_, refl, refl, λ g k. f (g, k)))
+    (λ p. less_order p.0 (h3 (made (Choice.tighter Above.shifts)
+    (h2 (made (Choice.tighter Above.sums) (h1 (made (Choice.tighter Above.products)
+    (made Choice.no_prefix (h0 (name_of refl p.1)))))))))) (λ v ys f. (
+      _,
+      refl,
+      refl,
+      λ g k. f (g, k),
+    ))
 step (Move.dfevar_tighter {d = d}) (At y q) (Ground cs) xs = λ o m0 h0. ordered_ground d y o cs m0 (Result (Rule.DFEVarThen d) (At y q) (Ground cs) xs) (λ v ys. (_, refl, refl, tt))
 step (Move.dfevar_tighter {d = d}) (At y q) (On (At x a) s) xs = λ o m0 h0.
-    ordered_end d x a y o s m0 (IsLess a x y × IsWordName (codes "DFEVar") q y xs) (Result (Rule.DFEVarThen d) (At y q) (On (At x a) s) xs) (λ p. less_order p.0 (h0 (prefixed (open_of_name (name_of refl p.1))))) (λ v ys f. (_, refl, refl, λ g k. f (g, k)))
+    ordered_end d x a y o s m0 (IsLess a x y
+    × IsWordName (codes "DFEVar") q y xs) (Result (Rule.DFEVarThen d) (At y q)
+    (On (At x a) s) xs) (λ p. less_order p.0 (h0 (prefixed
+    (open_of_name (name_of refl p.1))))) (λ v ys f. (_, refl, refl, λ g k. f (g, k)))
 step (Move.dfevar_order {d = d}) (At y q) (Ground cs) xs = λ t m e i. λ r m1 h1.
     λ v2 m2 h2. looser_end d y v2 (Ground cs) m2 ⊥ (Result (Rule.DFEVarThen d) (At y q) (Ground cs) xs) (λ p. absurd p) (λ v ys k. (_, refl, refl, tt))
 step (Move.dfevar_order {d = d}) (At y q) (On (At x a) s) xs = λ t m e i. λ r m1 h1.
-    ordered_end d x (Node N.Binary (written t.token) no_span (one (spanned (between x xs) (add a q)))) m r s m1 (IsLess a x y × IsWordName (codes "DFEVar") q y xs) (Result (Rule.DFEVarThen d) (At y q) (On (At x a) s) xs)
+    ordered_end d x (Node N.Binary (written t.token) no_span
+    (one (spanned (between x xs) (add a q)))) m r s m1 (IsLess a x y
+    × IsWordName (codes "DFEVar") q y xs) (Result (Rule.DFEVarThen d) (At y q)
+    (On (At x a) s) xs)
     (λ p. made (Choice.joined Above.orders) (link (less_order p.0 (up (prefixed (open_of_name (name_of refl p.1))))) (tok e i.0 h1))) (λ v ys f. (_, refl, refl, λ g k. f (g, k)))
-step (Move.dfevar_looser {d = d}) (At y q) (Ground cs) xs = looser_end d y (spanned (between y xs) q) (Ground cs) xs ⊥ (Result (Rule.DFEVarThen d) (At y q) (Ground cs) xs) (λ p. absurd p) (λ v ys k. (_, refl, refl, tt))
+step (Move.dfevar_looser {d = d}) (At y q) (Ground cs) xs = looser_end d y
+    (spanned (between y xs) q) (Ground cs) xs ⊥ (Result (Rule.DFEVarThen d) (At y q)
+    (Ground cs) xs) (λ p. absurd p) (λ v ys k. (_, refl, refl, tt))
 step (Move.dfevar_looser {d = d}) (At y q) (On (At x a) s) xs =
-    looser_end d x (spanned (between x xs) (add a q)) s xs (IsLess a x y × IsWordName (codes "DFEVar") q y xs) (Result (Rule.DFEVarThen d) (At y q) (On (At x a) s) xs) (λ p. less_order p.0 (up (prefixed (open_of_name (name_of refl p.1))))) (λ v ys f. (_, refl, refl, λ g k. f (g, k)))
+    looser_end d x (spanned (between x xs) (add a q)) s xs (IsLess a x y
+    × IsWordName (codes "DFEVar") q y xs) (Result (Rule.DFEVarThen d) (At y q)
+    (On (At x a) s) xs) (λ p. less_order p.0 (up (prefixed
+    (open_of_name (name_of refl p.1))))) (λ v ys f. (_, refl, refl, λ g k. f (g, k)))
 step Move.greater_name (At x a) s xs = λ t m e i. λ v n h. (_, refl, refl, λ g. h g (written t.token, refl, tok e i end))
 step (Move.greater_dims {d = Site.Alone}) (At x a) s xs = λ t m e i. λ u n f j. λ v l h. λ w o g k. λ z q r.
     (_, refl, refl, λ p. r (written w.token, v, refl, link (made Choice.not_final end) (link (h (made Choice.array_of (link (made Choice.just_base p.5) (tok e i (tok f j end))))) (tok g k end))))
 step (Move.greater_dims {d = Site.Loop}) (At x a) s xs = λ t m e i. λ u n f j. λ v l h. λ w o g k. λ z q r.
     (_, refl, refl, λ p. r (written w.token, v, refl, link (h (made Choice.array_of (link (made Choice.just_base p.5) (tok e i (tok f j end))))) (tok g k end)))
 step (Move.greater_other {d = d}) (At x a) s xs = λ o m0 h0. λ v1 m1 h1. λ v2 m2 h2. λ v3 m3 h3.
-    ordered_end d x a xs v3 s m3 (IsGreater a x xs) (Result (Rule.GreaterThen d) (At x a) s xs) (λ g. greater_order g (h3 (made (Choice.tighter Above.shifts) (h2 (made (Choice.tighter Above.sums) (h1 (made (Choice.tighter Above.products) h0))))))) (λ v ys q. (_, refl, refl, q))
+    ordered_end d x a xs v3 s m3 (IsGreater a x xs) (Result (Rule.GreaterThen d) (At x a) s xs)
+    (λ g. greater_order g (h3 (made (Choice.tighter Above.shifts)
+    (h2 (made (Choice.tighter Above.sums) (h1 (made
+    (Choice.tighter Above.products) h0))))))) (λ v ys q. (_, refl, refl, q))
 step Move.memory_declared b (Ground cs) xs = λ v n h. (_, refl, refl, tt)
 step (Move.memory_declared {d = Site.Alone}) (At y q) (On (At x a) s) xs = λ v n h.
     (_, refl, refl, λ g k. h (k.0, memory_type x y, ap (λ z. Node N.Local (text_of z) no_span (one (memory_type x y))) k.1, link (made Choice.not_final end) (link (made Choice.just_base g.5) k.2)))
 step (Move.memory_declared {d = Site.Loop}) (At y q) (On (At x a) s) xs = λ v n h.
     (_, refl, refl, λ g k. h (k.0, memory_type x y, ap (λ z. Node N.Local (text_of z) no_span (one (memory_type x y))) k.1, link (made Choice.just_base g.5) k.2))
-step (Move.memory_further {d = d}) (At y q) (Ground cs) xs = λ c m0 h0. λ p m1 h1. λ v2 m2 h2. λ v3 m3 h3. λ v4 m4 h4. ordered_ground d y v4 cs m4 (Result (Rule.MemoryName d) (At y q) (Ground cs) xs) (λ v ys. (_, refl, refl, tt))
+step (Move.memory_further {d = d}) (At y q)
+    (Ground cs) xs = λ c m0 h0. λ p m1 h1. λ v2 m2 h2. λ v3 m3 h3. λ v4 m4 h4. ordered_ground d
+    y v4 cs m4 (Result (Rule.MemoryName d) (At y q) (Ground cs) xs) (λ v ys. (_, refl, refl, tt))
 step (Move.memory_further {d = d}) (At y q) (On (At x a) s) xs = λ c m0 h0. λ p m1 h1. λ v2 m2 h2. λ v3 m3 h3. λ v4 m4 h4.
     ordered_end d x a y v4 s m4 (IsGreater a x y × IsName q y xs) (Result (Rule.MemoryName d) (At y q) (On (At x a) s) xs)
-    (λ p. greater_order p.0 (h4 (made (Choice.tighter Above.shifts) (h3 (made (Choice.tighter Above.sums) (h2 (made (Choice.tighter Above.products) (made Choice.no_prefix (h1 (h0 p.1)))))))))) (λ v ys f. (_, refl, refl, λ g k. f (g, k)))
+    (λ p. greater_order p.0 (h4 (made (Choice.tighter Above.shifts)
+    (h3 (made (Choice.tighter Above.sums) (h2 (made (Choice.tighter Above.products)
+    (made Choice.no_prefix (h1 (h0 p.1)))))))))) (λ v ys f. (_, refl, refl, λ g k. f (g, k)))
 step Move.memory_set (At x a) s xs = λ t m e i. λ v n h. (_, refl, refl, λ g. made Choice.set (link g (tok e i h)))
 step Move.memory_count (At x a) s xs = λ t m e i. (_, refl, refl, λ g. made Choice.count (link g (tok e i end)))
 step Move.memory_dot (At x a) s xs = λ t m e i. λ u n f j. λ v o h. (_, refl, refl, λ g. h (written u.token, a, refl, link (made Choice.open_form (place_open g)) (tok e i (tok f j end))))
 step Move.memory_tighter (At x a) s xs = λ v m h. λ v4 m4 h4.
-    looser_then [] x v4 s m4 (Reads (Part.Place a) x xs) (Result Rule.MemoryBare (At x a) s xs) (λ g. h4 (made (Choice.tighter Above.orders) (h (prefixed (place_open g))))) (λ v ys f. (_, refl, refl, f))
+    looser_then [] x v4 s m4 (Reads (Part.Place a) x xs) (Result Rule.MemoryBare (At x a) s xs)
+    (λ g. h4 (made (Choice.tighter Above.orders) (h (prefixed (place_open g)))))
+    (λ v ys f. (_, refl, refl, f))
 step Move.memory_order (At x a) s xs = λ t m e i. λ r m1 h1. λ v4 m4 h4.
-    looser_then [] x v4 s m4 (Reads (Part.Place a) x xs) (Result Rule.MemoryBare (At x a) s xs) (λ g. h4 (made (Choice.joined Above.orders) (link (made (Choice.tighter Above.orders) (up (prefixed (place_open g)))) (tok e i.0 h1)))) (λ v ys f. (_, refl, refl, f))
-step Move.memory_looser (At x a) s xs = looser_then [] x a s xs (Reads (Part.Place a) x xs) (Result Rule.MemoryBare (At x a) s xs) (λ g. made (Choice.tighter Above.orders) (up (prefixed (place_open g)))) (λ v ys f. (_, refl, refl, f))
+    looser_then [] x v4 s m4 (Reads (Part.Place a) x xs) (Result Rule.MemoryBare (At x a) s xs)
+    (λ g. h4 (made (Choice.joined Above.orders) (link
+    (made (Choice.tighter Above.orders) (up (prefixed (place_open g)))) (tok e i.0 h1))))
+    (λ v ys f. (_, refl, refl, f))
+step Move.memory_looser (At x a) s xs = looser_then [] x a s xs (Reads (Part.Place a) x xs)
+    (Result Rule.MemoryBare (At x a) s xs) (λ g. made (Choice.tighter Above.orders)
+    (up (prefixed (place_open g)))) (λ v ys f. (_, refl, refl, f))
 step Move.other_name b s xs = λ t m e i. λ c m1 h1. λ p m2 h2. (_, refl, refl, made Choice.no_prefix (h2 (h1 (written t.token, refl, tok e i.0 end))))
 step Move.other_nameless b s xs = λ v m h. (_, refl, refl, h)
 step Move.nameless_prefix b s xs = λ t m e i. λ a n h. (_, refl, refl, made Choice.prefix (tok e i h))
@@ -483,10 +628,26 @@ step Move.nameless_value b s xs = λ t m e i. λ v n h. (_, refl, refl, made Cho
 step Move.nameless_parentheses b s xs = λ t m e i. λ v n h. λ u l f j. λ w o k. (_, refl, refl, made Choice.no_prefix (k (made Choice.parentheses (tok e i (link h (tok f j end))))))
 step Move.nameless_new b s xs = λ t m e i. λ v n h. (_, refl, refl, made Choice.no_prefix (h (refl, tok e i end)))
 step Move.further_called (At x a) s xs = λ t m e i. λ v n h. λ u l f j. λ w o k. (_, refl, refl, λ g. k (made Choice.call (call_tree g (tok e i end) h (tok f j end))))
-step Move.further_dot (At x a) s xs = λ t m e i. λ u n f j. λ v o h. λ w l k. (_, refl, refl, λ g. k (h (written u.token, a, refl, link (made Choice.open_form (open_of_name g)) (tok e i (tok f j end)))))
+step Move.further_dot (At x a) s xs = λ t m e i. λ u n f j. λ v o h. λ w l k. (
+  _,
+  refl,
+  refl,
+  λ g. k (h (
+    written u.token,
+    a,
+    refl,
+    link (made Choice.open_form (open_of_name g)) (tok e i (tok f j end)),
+  )),
+)
 step Move.further_index (At x a) s xs = λ t m e i. λ v n h. λ u o f j. λ w l k. (_, refl, refl, λ g. k (made Choice.index (link (open_of_name g) (tok e i (link h (tok f j end))))))
-step Move.tighter_product (At x a) s xs = λ t m e i. λ r n h. λ v1 m1 h1. λ v2 m2 h2. λ v3 m3 h3.
-    (_, refl, refl, λ g. h3 (made (Choice.tighter Above.shifts) (h2 (made (Choice.tighter Above.sums) (h1 (made (Choice.joined Above.products) (link (made (Choice.tighter Above.products) g) (tok e i h))))))))
+step Move.tighter_product (At x a) s xs = λ t m e i. λ r n h. λ v1 m1 h1. λ v2 m2 h2. λ v3 m3 h3. (
+  _,
+  refl,
+  refl,
+  λ g. h3 (made (Choice.tighter Above.shifts)
+      (h2 (made (Choice.tighter Above.sums) (h1 (made (Choice.joined Above.products)
+      (link (made (Choice.tighter Above.products) g) (tok e i h))))))),
+)
 step Move.tighter_sum (At x a) s xs = λ t m e i. λ r n h. λ v2 m2 h2. λ v3 m3 h3.
     (_, refl, refl, λ g. h3 (made (Choice.tighter Above.shifts) (h2 (made (Choice.joined Above.sums) (link (made (Choice.tighter Above.sums) (made (Choice.tighter Above.products) g)) (tok e i h))))))
 step Move.tighter_shift (At x a) s xs = λ t m e i. λ r n h. λ v3 m3 h3. (_, refl, refl, λ g. h3 (made (Choice.joined Above.shifts) (link (up g) (tok e i h))))
@@ -496,31 +657,66 @@ step Move.tighter_shift (At x a) s xs = λ t m e i. λ r n h. λ v3 m3 h3. (_, r
 own_name : (i : Inside) (w : List ℕ) → true ≡ is_own i w → (i.unmade ≡ true) × (w ≡ i.class)
 own_name i w e = (and_left i.unmade _ (sym e), bytes_same w i.class (and_right i.unmade _ (sym e)))
 
-ctor_tree : (i : Inside) (w : List ℕ) (p q v : Tree) (x y : List PlacedToken) (kids : Trees) → q ≡ fresh N.Field [] → p ≡ Node N.Plain w (between x y) Nil → w ≡ i.class → (at : Span) → v ≡ spanned at (adds (turned N.Ctor (with_text (text_of p) q)) kids)
+ctor_tree : (i : Inside) (w : List ℕ) (p q v : Tree) (x y : List PlacedToken) (kids : Trees)
+    → q ≡ fresh N.Field [] → p ≡ Node N.Plain w (between x y) Nil → w ≡ i.class → (at : Span)
+    → v ≡ spanned at (adds (turned N.Ctor (with_text (text_of p) q)) kids)
     → v ≡ Node N.Ctor i.class at kids
 ctor_tree i w p q v x y kids e f g at h =
-    h ∙ ap (λ z. spanned at (adds (turned N.Ctor (with_text (text_of z) q)) kids)) f ∙ ap (λ z. spanned at (adds (turned N.Ctor (with_text w z)) kids)) e ∙ ap (λ c. spanned at (adds (fresh N.Ctor c) kids)) g ∙ ap (λ z. spanned at z) (adds_is N.Ctor i.class no_span Nil kids)
+    h ∙ ap (λ z. spanned at (adds (turned N.Ctor (with_text (text_of z) q)) kids)) f ∙ ap
+    (λ z. spanned at (adds (turned N.Ctor (with_text w z)) kids)) e ∙ ap
+    (λ c. spanned at (adds (fresh N.Ctor c) kids)) g ∙ ap (λ z. spanned at z)
+    (adds_is N.Ctor i.class no_span Nil kids)
 
-class_mean : {w : List ℕ} {a : Tree} {x xs n : List PlacedToken} {k : ClassTree} {t u : PlacedToken} {m : List PlacedToken} → xs ≡ t ∷ m → (t.token ≡ Token.Word w) × (is_name w ≡ true) → m ≡ u ∷ n → u.token ≡ Token.Word (codes "extends")
-    → (ys : List PlacedToken) → (with_text (written t.token) a ≡ fresh N.Class w → Seg (Part.Mods ∷ Part.Word_ (codes "class") ∷ Part.Id w ∷ Part.Word_ (codes "extends") ∷ []) x n → Reads (Part.Class_ k) x ys) → a ≡ fresh N.Class []
+class_mean : {w : List ℕ} {a : Tree} {x xs n : List PlacedToken} {k : ClassTree}
+    {t u : PlacedToken} {m : List PlacedToken} → xs ≡ t ∷ m → (t.token ≡ Token.Word w)
+    × (is_name w ≡ true) → m ≡ u ∷ n → u.token ≡ Token.Word (codes "extends")
+    → (ys : List PlacedToken) → (with_text (written t.token) a ≡ fresh N.Class w
+    → Seg (Part.Mods ∷ Part.Word_ (codes "class") ∷ Part.Id w ∷ Part.Word_ (codes "extends")
+    ∷ []) x n → Reads (Part.Class_ k) x ys) → a ≡ fresh N.Class []
     → Seg (Part.Mods ∷ Part.Word_ (codes "class") ∷ []) x xs → Reads (Part.Class_ k) x ys
 class_mean {t = t} e i f j ys h g q = h (ap (λ z. with_text (written t.token) z) g ∙ ap (λ z. fresh N.Class (written z)) i.0) (then q (tok e i (tok f j end)))
 
-class_body : {w : List ℕ} {a v : Tree} {x xs m n l o : List PlacedToken} (b : Bool) → Reads (Part.Word_ (parent b)) xs m → Reads (Part.Sign_ (codes "{")) m n → (ts : Trees) × (v ≡ adds a ts) × Reads (Part.Members b w true ts) n l → Reads (Part.Sign_ (codes "}")) l o
+class_body : {w : List ℕ} {a v : Tree} {x xs m n l o : List PlacedToken} (b : Bool)
+    → Reads (Part.Word_ (parent b)) xs m → Reads (Part.Sign_ (codes "{")) m n → (ts : Trees)
+    × (v ≡ adds a ts) × Reads (Part.Members b w true ts) n l → Reads (Part.Sign_ (codes "}")) l o
     → a ≡ fresh N.Class w → Seg (Part.Mods ∷ Part.Word_ (codes "class") ∷ Part.Id w ∷ Part.Word_ (codes "extends") ∷ []) x xs → Reads (Part.Class_ (class_of b (spanned (between x o) v))) x o
 class_body {w = w} {v = v} {x = x} {o = o} b e f h g q r =
-    subst (λ z. Reads (Part.Class_ (class_of b z)) x o) (sym (closed N.Class w no_span (between x o) Nil h.0 v (h.1 ∙ ap (λ z. adds z h.0) q))) (made Choice.one_class (then r (link e (link f (link h.2 g)))))
+    subst (λ z. Reads (Part.Class_ (class_of b z)) x o)
+    (sym (closed N.Class w no_span (between x o) Nil h.0 v (h.1 ∙ ap (λ z. adds z h.0) q)))
+    (made Choice.one_class (then r (link e (link f (link h.2 g)))))
 
-field_head : {q d : Tree} {x y l m : List PlacedToken} {u : PlacedToken} → IsBegun q x y → Reads (Part.Type_ d) y l → l ≡ u ∷ m → IsNameToken u.token → IsHead N.Field (with_text (written u.token) (add q d)) x m
+field_head : {q d : Tree} {x y l m : List PlacedToken} {u : PlacedToken} → IsBegun q x y
+    → Reads (Part.Type_ d) y l → l ≡ u ∷ m → IsNameToken u.token
+    → IsHead N.Field (with_text (written u.token) (add q d)) x m
 field_head {d = d} {u = u} g h f j = (written u.token, d, ap (λ z. with_text (written u.token) (add z d)) g.0, link g.1 (link h (tok f j end)))
 
 named_step : {n : Y.Named} {qs : List Symbol} → NamedMove n qs → (b : Entry) (s : Below) (xs : List PlacedToken) → Follows qs b s xs (NamedResult n b s xs)
 named_step (NamedMove.class_name {w = w} ni) (At x a) (Ground cs) xs = λ t m e i. λ u n f j. λ v l h. (_, refl, refl, class_mean e i f j l h)
 named_step (NamedMove.class_name {w = w} ni) (At x a) (On c s) xs = λ t m e i. λ u n f j. λ v l h. (_, refl, refl, class_mean e i f j l h)
-named_step NamedMove.kernel (At x a) (Ground cs) xs = λ t m e i. λ u n f j. λ v l h. λ z o g k. (class_of false (spanned (between x o) v), refl, refl, class_body false (tok e i end) (tok f j end) h (tok g k end))
-named_step NamedMove.kernel (At x a) (On c s) xs = λ t m e i. λ u n f j. λ v l h. λ z o g k. (class_of false (spanned (between x o) v), refl, refl, class_body false (tok e i end) (tok f j end) h (tok g k end))
-named_step NamedMove.manager (At x a) (Ground cs) xs = λ t m e i. λ u n f j. λ v l h. λ z o g k. (class_of true (spanned (between x o) v), refl, refl, class_body true (tok e i end) (tok f j end) h (tok g k end))
-named_step NamedMove.manager (At x a) (On c s) xs = λ t m e i. λ u n f j. λ v l h. λ z o g k. (class_of true (spanned (between x o) v), refl, refl, class_body true (tok e i end) (tok f j end) h (tok g k end))
+named_step NamedMove.kernel (At x a) (Ground cs) xs = λ t m e i. λ u n f j. λ v l h. λ z o g k. (
+  class_of false (spanned (between x o) v),
+  refl,
+  refl,
+  class_body false (tok e i end) (tok f j end) h (tok g k end),
+)
+named_step NamedMove.kernel (At x a) (On c s) xs = λ t m e i. λ u n f j. λ v l h. λ z o g k. (
+  class_of false (spanned (between x o) v),
+  refl,
+  refl,
+  class_body false (tok e i end) (tok f j end) h (tok g k end),
+)
+named_step NamedMove.manager (At x a) (Ground cs) xs = λ t m e i. λ u n f j. λ v l h. λ z o g k. (
+  class_of true (spanned (between x o) v),
+  refl,
+  refl,
+  class_body true (tok e i end) (tok f j end) h (tok g k end),
+)
+named_step NamedMove.manager (At x a) (On c s) xs = λ t m e i. λ u n f j. λ v l h. λ z o g k. (
+  class_of true (spanned (between x o) v),
+  refl,
+  refl,
+  class_body true (tok e i end) (tok f j end) h (tok g k end),
+)
 named_step NamedMove.member (At x a) s xs = λ u m h. λ v n k. (_, refl, refl, k (refl, h))
 named_step NamedMove.no_member (At x a) s xs = (_, refl, refl, (Nil, refl, made Choice.no_members end))
 named_step NamedMove.void_method b (Ground cs) xs = λ t m e i. λ u n f j. λ v l h. λ w o k. (_, refl, refl, tt)
@@ -531,14 +727,26 @@ named_step NamedMove.void_method (At y q) (On (At x a) s) xs = λ t m e i. λ u 
   λ g. (
     Cons v k.0,
     k.1,
-    made Choice.member (link (h (written u.token, _, ap (λ z. turned N.Method (with_text (written u.token) (add z (Node N.Plain (written t.token) (between xs m) Nil)))) g.0, link g.1 (link (void_tree e i) (tok f j end)))) k.2),
+    made Choice.member (link (h (
+      written u.token,
+      _,
+      ap (λ z. turned N.Method (with_text (written u.token)
+          (add z (Node N.Plain (written t.token) (between xs m) Nil)))) g.0,
+      link g.1 (link (void_tree e i) (tok f j end)),
+    )) k.2),
   ),
 )
 named_step NamedMove.word_member b (Ground cs) xs = λ t m e i. λ d n h. λ u l f j. λ v o k. λ w z r. (_, refl, refl, tt)
 named_step NamedMove.word_member (At y q) (On (At x a) s) xs = λ t m e i. λ d n h. λ u l f j. λ v o k. λ w z r.
     (_, refl, refl, λ g. (Cons v r.0, r.1, made Choice.member (link (k (field_head g (h (made Choice.just_base (made Choice.base_word (tok e i end)))) f j)) r.2)))
 named_step (NamedMove.name_member {w = w} ni) b (Ground cs) xs = λ t m e i. λ v n h. (_, refl, refl, tt)
-named_step (NamedMove.name_member {w = w} ni) (At y q) (On (At x a) s) xs = λ t m e i. λ v n h. (_, refl, refl, λ g. h g w (ap (λ z. Node N.Plain (written z) (between xs m) Nil) i.0) (tok e i end) refl refl)
+named_step (NamedMove.name_member {w = w} ni) (At y q) (On (At x a) s) xs = λ t m e i. λ v n h. (
+  _,
+  refl,
+  refl,
+  λ g. h g w (ap (λ z. Node N.Plain (written z) (between xs m) Nil) i.0)
+      (tok e i end) refl refl,
+)
 named_step NamedMove.after_type b (Ground cs) xs = λ d n h. λ u l f j. λ v o k. λ w z r. (_, refl, refl, tt)
 named_step NamedMove.after_type b (On c (Ground cs)) xs = λ d n h. λ u l f j. λ v o k. λ w z r. (_, refl, refl, tt)
 named_step NamedMove.after_type (At p a0) (On (At y q) (On (At x a) s)) xs = λ d n h. λ u l f j. λ v o k. λ w z r. (

@@ -40,7 +40,9 @@ token_same : {t u : PlacedToken} {ts us : List PlacedToken} → t ∷ ts ≡ u �
 token_same e = cc
 
 module _ (F : List PlacedToken → PlacedToken → Type 0) where
-  longer : (before : List PlacedToken) (t : PlacedToken) (behind : List PlacedToken) {us : List PlacedToken} {q : ℕ} (b : IsFirst F us q) (m : List PlacedToken) → F before t → b.before ≡ before ++ m → t ∷ behind ≡ m ++ b.token ∷ b.behind → b.token ≡ t
+  longer : (before : List PlacedToken) (t : PlacedToken) (behind : List PlacedToken)
+      {us : List PlacedToken} {q : ℕ} (b : IsFirst F us q) (m : List PlacedToken) → F before t
+      → b.before ≡ before ++ m → t ∷ behind ≡ m ++ b.token ∷ b.behind → b.token ≡ t
   longer before t behind b [] f e g = sym (token_same g)
   longer before t behind b (x ∷ m) f e g = absurd (b.first before t m (subst (λ y. b.before ≡ before ++ y ∷ m) (sym (token_same g)) e) f)
 

@@ -22,7 +22,9 @@ get_drop zero n ts d = ap (λ m. get_or ts m d) (omega arith)
 get_drop (suc s) n [] d = refl
 get_drop (suc s) n (t ∷ ts) d = let e : suc s + n ≡ suc (s + n) = omega arith in get_drop s n ts d ∙ ap (λ m. get_or (t ∷ ts) m d) (sym e)
 
-span_is : (ts : List PlacedToken) (s e : ℕ) (d : PlacedToken) (x : ℕ) → s < e → e ≤ length ts → x ≡ to_of (get_or ts (e - 1) d ∷ []) → record { from = (get_or ts s d).place; to = x } ≡ span_of (take (e - s) (drop s ts))
+span_is : (ts : List PlacedToken) (s e : ℕ) (d : PlacedToken) (x : ℕ) → s < e → e ≤ length ts
+    → x ≡ to_of (get_or ts (e - 1) d ∷ [])
+    → record { from = (get_or ts s d).place; to = x } ≡ span_of (take (e - s) (drop s ts))
 span_is ts s e d x h k f =
     let n : e - s ≡ suc (e - s - 1) = omega (arith, h) in
     let l = length-drop s ts in
@@ -36,7 +38,10 @@ span_is ts s e d x h k f =
     let q : to_of (take (e - s) (drop s ts)) ≡ x = ap (λ m. to_of (take m (drop s ts))) n ∙ b ∙ ap (λ t. to_of (t ∷ [])) o ∙ ap (λ m. to_of (get_or ts m d ∷ [])) j ∙ sym f in
     sym (ap (λ m. record { from = m; to = to_of (take (e - s) (drop s ts)) }) p ∙ ap (λ m. record { from = (get_or ts s d).place; to = m }) q)
 
-pub span_view : (ts : List PlacedToken) (s e : ℕ) (first last : PlacedToken) (x : ℕ) → s < e → e ≤ length ts → slice_get ts s ≡ Some first → slice_get ts (e - 1) ≡ Some last → x ≡ to_of (last ∷ []) → record { from = first.place; to = x } ≡ span_of (take (e - s) (drop s ts))
+pub span_view : (ts : List PlacedToken) (s e : ℕ) (first last : PlacedToken) (x : ℕ) → s < e
+    → e ≤ length ts → slice_get ts s ≡ Some first → slice_get ts (e - 1) ≡ Some last
+    → x ≡ to_of (last ∷ []) → record { from = first.place; to = x } ≡ span_of
+    (take (e - s) (drop s ts))
 span_view ts s e first last x h k f l i =
     let a = get_or_from_slice_get ts s first first f in
     let b = get_or_from_slice_get ts (e - 1) last first l in

@@ -31,7 +31,10 @@ last_part from to children more e f =
     ap (λ m. take m (drop from (children ++ more))) n ∙ ap (λ m. take (length more) (drop m (children ++ more))) e ∙ ap (take (length more)) (drop-append_seam children more) ∙ take-length more
 
 -- one more node, with the further children
-pub one_more : (from : ℕ) (ps : List Packed) (children more : List ℕ) (q : Packed) → AreEnds from ps (length children) → q.end ≡ length children + length more → drafts from (ps ++ q ∷ []) (children ++ more) ≡ drafts from ps children ++ draft_of q more ∷ []
+pub one_more : (from : ℕ) (ps : List Packed) (children more : List ℕ) (q : Packed)
+    → AreEnds from ps (length children) → q.end ≡ length children + length more
+    → drafts from (ps ++ q ∷ []) (children ++ more) ≡ drafts from ps children ++ draft_of q more
+    ∷ []
 one_more from [] children more q h e = ap (λ l. draft_of q l ∷ []) (last_part from q.end children more h e)
 one_more from (p ∷ ps) children more q h e =
     let k = part from p.end children more h.0 (within p.end ps (length children) h.1) in
@@ -57,7 +60,9 @@ start_within from (q ∷ ps) size zero p h e =
 start_within from (q ∷ ps) size (suc n) p h e = start_within q.end ps size n p h.1 e
 
 -- the node with a number
-pub draft_at : (from : ℕ) (ps : List Packed) (children : List ℕ) (n : ℕ) (p : Packed) → slice_get ps n ≡ Some p → slice_get (drafts from ps children) n ≡ Some (draft_of p (take (p.end - start_at from ps n) (drop (start_at from ps n) children)))
+pub draft_at : (from : ℕ) (ps : List Packed) (children : List ℕ) (n : ℕ) (p : Packed)
+    → slice_get ps n ≡ Some p → slice_get (drafts from ps children) n ≡ Some
+    (draft_of p (take (p.end - start_at from ps n) (drop (start_at from ps n) children)))
 draft_at from [] children n p e = absurd (cc)
 draft_at from (q ∷ ps) children zero p e = let same : q ≡ p = cc in ap (λ x. Some (draft_of x (take (x.end - from) (drop from children)))) same
 draft_at from (q ∷ ps) children (suc n) p e = draft_at q.end ps children n p e

@@ -98,22 +98,35 @@ abbrev pub is : Bor (List ℕ) → Bor (List ℕ) → Bool
 is q name = pointwise nat_eq q.now name.now
 
 -- the set after the name of one more class
-pub seen_at : (cs : List Class) (i : ℕ) (d : Class) (name q : Bor (List ℕ)) → i < length cs → name.now ≡ (get_or cs i d).name → cond (is name q) true (list_any (bytes_eq q.now) (names (take i cs))) ≡ list_any (bytes_eq q.now) (names (take (i + 1) cs))
-seen_at cs i d name q lt e = seen_more (names (take i cs)) name.now q.now ∙ ap (λ n. list_any (bytes_eq q.now) (names (take i cs) ++ n ∷ [])) e ∙ ap (list_any (bytes_eq q.now)) (sym (names_more cs i d lt))
+pub seen_at : (cs : List Class) (i : ℕ) (d : Class) (name q : Bor (List ℕ)) → i < length cs
+    → name.now ≡ (get_or cs i d).name
+    → cond (is name q) true (list_any (bytes_eq q.now) (names (take i cs))) ≡ list_any
+    (bytes_eq q.now) (names (take (i + 1) cs))
+seen_at cs i d name q lt e = seen_more (names (take i cs)) name.now q.now ∙ ap
+    (λ n. list_any (bytes_eq q.now) (names (take i cs) ++ n
+    ∷ [])) e ∙ ap (list_any (bytes_eq q.now)) (sym (names_more cs i d lt))
 
 negated : (b c : Bool) → c ≡ not b → b ≡ not c
 negated true c e = rw e refl
 negated false c e = rw e refl
 
-twice_at : (cs : List Class) (i : ℕ) (d : Class) (name : List ℕ) (has fresh : Bool) → i < length cs → name ≡ (get_or cs i d).name → fresh ≡ not has → has ≡ list_any (bytes_eq name) (names (take i cs)) → twice (names (take (i + 1) cs)) ≡ (not fresh || twice (names (take i cs)))
+twice_at : (cs : List Class) (i : ℕ) (d : Class) (name : List ℕ) (has fresh : Bool)
+    → i < length cs → name ≡ (get_or cs i d).name → fresh ≡ not has
+    → has ≡ list_any (bytes_eq name) (names (take i cs))
+    → twice (names (take (i + 1) cs)) ≡ (not fresh || twice (names (take i cs)))
 twice_at cs i d name has fresh lt e f g =
     ap twice (names_more cs i d lt) ∙ twice_more (names (take i cs)) ((get_or cs i d).name)
     ∙ ap (λ b. b || twice (names (take i cs))) (ap (λ n. list_any (bytes_eq n) (names (take i cs))) (sym e) ∙ sym g ∙ negated has fresh f)
 
 -- the name of one more class stood before
-pub found : (cs : List Class) (i : ℕ) (d : Class) (name : List ℕ) (has fresh : Bool) → i < length cs → name ≡ (get_or cs i d).name → fresh ≡ not has → has ≡ list_any (bytes_eq name) (names (take i cs)) → fresh ≡ false → twice (names cs) ≡ true
+pub found : (cs : List Class) (i : ℕ) (d : Class) (name : List ℕ) (has fresh : Bool)
+    → i < length cs → name ≡ (get_or cs i d).name → fresh ≡ not has
+    → has ≡ list_any (bytes_eq name) (names (take i cs)) → fresh ≡ false → twice (names cs) ≡ true
 found cs i d name has fresh lt e f g h =
     ap twice (names_split cs (i + 1)) ∙ twice_kept (names (take (i + 1) cs)) (names (drop (i + 1) cs)) (twice_at cs i d name has fresh lt e f g ∙ ap (λ b. not b || twice (names (take i cs))) h)
 
-pub none_more : (cs : List Class) (i : ℕ) (d : Class) (name : List ℕ) (has fresh : Bool) → i < length cs → name ≡ (get_or cs i d).name → fresh ≡ not has → has ≡ list_any (bytes_eq name) (names (take i cs)) → fresh ≡ true → twice (names (take i cs)) ≡ false → twice (names (take (i + 1) cs)) ≡ false
+pub none_more : (cs : List Class) (i : ℕ) (d : Class) (name : List ℕ) (has fresh : Bool)
+    → i < length cs → name ≡ (get_or cs i d).name → fresh ≡ not has
+    → has ≡ list_any (bytes_eq name) (names (take i cs)) → fresh ≡ true
+    → twice (names (take i cs)) ≡ false → twice (names (take (i + 1) cs)) ≡ false
 none_more cs i d name has fresh lt e f g h none = twice_at cs i d name has fresh lt e f g ∙ ap (λ b. not b || twice (names (take i cs))) h ∙ none

@@ -66,14 +66,18 @@ Does a old new = (tokens xs : List PlacedToken) → Acts tokens a xs old new
 
 -- a new tree without children
 abbrev pub Adds : NodeKind → NodeWord → Span → ℕ → Builder → Builder → Type 0
-Adds k w span start old new = (tokens : List PlacedToken) (b : Entry) (s : Below) → Holds tokens old b s → Holds tokens new (At (drop start tokens) (Node k (word_in tokens w) span Nil)) (On b s)
+Adds k w span start old new = (tokens : List PlacedToken) (b : Entry) (s : Below)
+    → Holds tokens old b s → Holds tokens new (At (drop start tokens)
+    (Node k (word_in tokens w) span Nil)) (On b s)
 
 -- the tree on top becomes the first child of a new one
 abbrev pub Wraps : NodeKind → NodeWord → Builder → Builder → Type 0
-Wraps k w old new = (tokens : List PlacedToken) (b : Entry) (s : Below) → Holds tokens old b s → Holds tokens new (At (start_of b) (Node k (word_in tokens w) no_span (one (tree_of b)))) s
+Wraps k w old new = (tokens : List PlacedToken) (b : Entry) (s : Below) → Holds tokens old b s
+    → Holds tokens new (At (start_of b) (Node k (word_in tokens w) no_span (one (tree_of b)))) s
 
 abbrev pub Texts : NodeWord → Builder → Builder → Type 0
-Texts w old new = (tokens : List PlacedToken) (b : Entry) (s : Below) → Holds tokens old b s → Holds tokens new (At (start_of b) (with_text (word_in tokens w) (tree_of b))) s
+Texts w old new = (tokens : List PlacedToken) (b : Entry) (s : Below) → Holds tokens old b s
+    → Holds tokens new (At (start_of b) (with_text (word_in tokens w) (tree_of b))) s
 
 -- a node without children
 pub record IsLeaf (node : Draft) (k : NodeKind) (w : NodeWord) (span : Span) : Type 0 where

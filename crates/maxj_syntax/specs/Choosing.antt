@@ -1,5 +1,6 @@
 -- The choice that the parser takes at the next token, and what it must know of the rules to take the right one.
-use Rattle.std.specs.Prelude.{◌≡◌, ◌⊎◌, ◌+◌, ◌^◌, ℕ, List, [], ◌∷◌, Bool, true, false, ◌&&◌, Option, Some, None, if◌then◌else◌, nat_eq, nat_lt, bit_or, bit_and, codes}
+use Rattle.std.specs.Prelude.{◌≡◌, ◌⊎◌, ◌+◌, ◌^◌, ℕ, List, [], ◌∷◌, Bool, true, false, ◌&&◌, Option}
+use Rattle.std.specs.Prelude.{Some, None, if◌then◌else◌, nat_eq, nat_lt, bit_or, bit_and, codes}
 use Rattle.std.specs.List.{list_any}
 use Rattle.std.specs.Int.{bit_at}
 use Rattle.std.specs.Str.{bytes_eq}
@@ -98,7 +99,9 @@ member_guards false = begins_member ∷ [] ∷ []
 
 abbrev pub named_choices : Y.Named → List (List Symbol)
 named_choices Y.ClassName = []
-named_choices (Y.Parent w) = (word W.Kernel ∷ body (record { manager = false; class = w; unmade = true })) ∷ (word W.CustomManager ∷ body (record { manager = true; class = w; unmade = true })) ∷ []
+named_choices (Y.Parent w) = (word W.Kernel
+    ∷ body (record { manager = false; class = w; unmade = true }))
+    ∷ (word W.CustomManager ∷ body (record { manager = true; class = w; unmade = true })) ∷ []
 named_choices (Y.Members i) = member_choices i.unmade i
 named_choices (Y.Head i) =
     void_choice i ∷ word_choice i ∷ []
@@ -123,7 +126,8 @@ binds _ = false
 abbrev pub bound : Y.Named → List ℕ → List Symbol
 bound Y.ClassName w = Name w Text ∷ word W.Extends ∷ Call (Y.Parent w) ∷ []
 bound (Y.Head i) w = name_choice i w (is_own i w) (bytes_eq w (codes "Memory"))
-bound (Y.FirstParam m) w = Name w Text ∷ Sub (R.Opened m) ∷ sign S.Close ∷ Act (Begin N.Block) ∷ sign S.OpenBrace ∷ word W.Super ∷ sign S.Open ∷ Name w Skip ∷ Sub R.SuperRest ∷ []
+bound (Y.FirstParam m) w = Name w Text ∷ Sub (R.Opened m) ∷ sign S.Close ∷ Act (Begin N.Block)
+    ∷ sign S.OpenBrace ∷ word W.Super ∷ sign S.Open ∷ Name w Skip ∷ Sub R.SuperRest ∷ []
 bound _ w = []
 
 abbrev pub named_first : Y.Named → List TokenClass
@@ -247,7 +251,9 @@ covers (c ∷ cs) set = within set (set_of (c ∷ cs))
 abbrev pub ordered : ℕ → ℕ → List (List TokenClass) → List (List Symbol) → Bool
 ordered before on [] [] = true
 ordered before on (g ∷ gs) (c ∷ cs) =
-    apart (all_begin c) before && (covers g (all_begin c) && (implies (all_empty empties c) (is_otherwise g && within before on) && (implies (is_otherwise g) (is_last cs) && ordered (bit_or before (set_of g)) on gs cs)))
+    apart (all_begin c) before && (covers g (all_begin c)
+    && (implies (all_empty empties c) (is_otherwise g && within before on)
+    && (implies (is_otherwise g) (is_last cs) && ordered (bit_or before (set_of g)) on gs cs)))
 ordered before on _ _ = false
 
 abbrev pub follows : ℕ → List Symbol → Bool

@@ -43,14 +43,20 @@ word_bytes W.EngineParameters = codes "EngineParameters"
 -- the words that the grammar knows
 abbrev pub words : List Word
 words =
-    W.Package ∷ W.Import ∷ W.Static ∷ W.Public ∷ W.Private ∷ W.Protected ∷ W.Final ∷ W.Class ∷ W.Extends ∷ W.Void ∷ W.Return ∷ W.If ∷ W.Else ∷ W.While ∷ W.For ∷ W.New ∷ W.This ∷ W.True ∷ W.False
+    W.Package ∷ W.Import ∷ W.Static ∷ W.Public ∷ W.Private ∷ W.Protected ∷ W.Final ∷ W.Class
+    ∷ W.Extends ∷ W.Void ∷ W.Return ∷ W.If ∷ W.Else ∷ W.While ∷ W.For ∷ W.New ∷ W.This
+    ∷ W.True ∷ W.False
     ∷ W.Int ∷ W.Boolean ∷ W.Super ∷ W.Kernel ∷ W.CustomManager ∷ W.Memory ∷ W.DFEVar ∷ W.KernelParameters ∷ W.EngineParameters ∷ []
 
 -- the signs
 abbrev pub all_signs : List Sign
 all_signs =
-    S.Open ∷ S.Close ∷ S.OpenBrace ∷ S.CloseBrace ∷ S.OpenBracket ∷ S.CloseBracket ∷ S.Semicolon ∷ S.Comma ∷ S.Dot ∷ S.Assign ∷ S.Plus ∷ S.Minus ∷ S.Star ∷ S.Slash ∷ S.Percent ∷ S.And ∷ S.Or ∷ S.Xor ∷ S.Tilde ∷ S.Not
-    ∷ S.Question ∷ S.Colon ∷ S.Less ∷ S.Greater ∷ S.LessEqual ∷ S.GreaterEqual ∷ S.Equal ∷ S.NotEqual ∷ S.Same ∷ S.NotSame ∷ S.ShiftLeft ∷ S.ShiftRight ∷ S.AndAnd ∷ S.OrOr ∷ S.PlusPlus ∷ S.MinusMinus ∷ S.PlusAssign
+    S.Open ∷ S.Close ∷ S.OpenBrace ∷ S.CloseBrace ∷ S.OpenBracket ∷ S.CloseBracket ∷ S.Semicolon
+    ∷ S.Comma ∷ S.Dot ∷ S.Assign ∷ S.Plus ∷ S.Minus ∷ S.Star ∷ S.Slash ∷ S.Percent ∷ S.And
+    ∷ S.Or ∷ S.Xor ∷ S.Tilde ∷ S.Not
+    ∷ S.Question ∷ S.Colon ∷ S.Less ∷ S.Greater ∷ S.LessEqual ∷ S.GreaterEqual ∷ S.Equal
+    ∷ S.NotEqual ∷ S.Same ∷ S.NotSame ∷ S.ShiftLeft ∷ S.ShiftRight ∷ S.AndAnd ∷ S.OrOr
+    ∷ S.PlusPlus ∷ S.MinusMinus ∷ S.PlusAssign
     ∷ S.MinusAssign ∷ S.StarAssign ∷ S.Connect ∷ []
 
 -- those of the words that have so many bytes

@@ -32,19 +32,26 @@ connecting = Act (Wrap N.Connect) ∷ sign S.Connect ∷ Sub R.Expr ∷ Act Into
 -- the tails of the levels above the orders, and the end of a connection
 abbrev pub looser : List Symbol
 looser =
-    Sub (R.Tail Level.Equalities) ∷ Sub (R.Tail Level.BitAnds) ∷ Sub (R.Tail Level.BitXors) ∷ Sub (R.Tail Level.BitOrs) ∷ Sub (R.Tail Level.Ands) ∷ Sub (R.Tail Level.Ors) ∷ Sub R.CondTail ∷
+    Sub (R.Tail Level.Equalities) ∷ Sub (R.Tail Level.BitAnds) ∷ Sub (R.Tail Level.BitXors)
+    ∷ Sub (R.Tail Level.BitOrs) ∷ Sub (R.Tail Level.Ands) ∷ Sub (R.Tail Level.Ors)
+    ∷ Sub R.CondTail ∷
     Act (Wrap N.Connect) ∷ sign S.Connect ∷ Sub R.Expr ∷ Act Into ∷ Act End ∷ []
 
 -- behind a prefix form at the begin of a connection: the tails of all levels, and the right side
 abbrev pub onward : List Symbol
 onward =
-    Sub (R.Tail Level.Products) ∷ Sub (R.Tail Level.Sums) ∷ Sub (R.Tail Level.Shifts) ∷ Sub (R.Tail Level.Orders) ∷ Sub (R.Tail Level.Equalities) ∷ Sub (R.Tail Level.BitAnds) ∷ Sub (R.Tail Level.BitXors) ∷ Sub (R.Tail Level.BitOrs) ∷ Sub (R.Tail Level.Ands) ∷ Sub (R.Tail Level.Ors) ∷ Sub R.CondTail ∷
+    Sub (R.Tail Level.Products) ∷ Sub (R.Tail Level.Sums) ∷ Sub (R.Tail Level.Shifts)
+    ∷ Sub (R.Tail Level.Orders) ∷ Sub (R.Tail Level.Equalities) ∷ Sub (R.Tail Level.BitAnds)
+    ∷ Sub (R.Tail Level.BitXors) ∷ Sub (R.Tail Level.BitOrs) ∷ Sub (R.Tail Level.Ands)
+    ∷ Sub (R.Tail Level.Ors) ∷ Sub R.CondTail ∷
     Act (Wrap N.Connect) ∷ sign S.Connect ∷ Sub R.Expr ∷ Act Into ∷ Act End ∷ []
 
 -- behind the right operand of an order at the begin of a connection
 abbrev pub ordered : List Symbol
 ordered =
-    Act Into ∷ Act End ∷ Sub (R.Tail Level.Orders) ∷ Sub (R.Tail Level.Equalities) ∷ Sub (R.Tail Level.BitAnds) ∷ Sub (R.Tail Level.BitXors) ∷ Sub (R.Tail Level.BitOrs) ∷ Sub (R.Tail Level.Ands) ∷ Sub (R.Tail Level.Ors) ∷ Sub R.CondTail ∷
+    Act Into ∷ Act End ∷ Sub (R.Tail Level.Orders) ∷ Sub (R.Tail Level.Equalities)
+    ∷ Sub (R.Tail Level.BitAnds) ∷ Sub (R.Tail Level.BitXors) ∷ Sub (R.Tail Level.BitOrs)
+    ∷ Sub (R.Tail Level.Ands) ∷ Sub (R.Tail Level.Ors) ∷ Sub R.CondTail ∷
     Act (Wrap N.Connect) ∷ sign S.Connect ∷ Sub R.Expr ∷ Act Into ∷ Act End ∷ []
 
 abbrev pub close : Site → List Symbol
@@ -83,8 +90,10 @@ pub data Move : Rule → List Symbol → Type 0 where
   param : Move R.Param (Act (Begin N.Param) ∷ Sub R.MaybeFinal ∷ Sub R.TypeName ∷ Act Into ∷ Mark C.Name Text ∷ Act End ∷ [])
   final : Move R.MaybeFinal (word W.Final ∷ [])
   not_final : Move R.MaybeFinal []
-  kernel_opening : Move (R.Opening false) (Act (Begin N.Param) ∷ Sub R.MaybeFinal ∷ Mark (C.Word W.KernelParameters) (Push N.Plain) ∷ Act Into ∷ Call (Y.FirstParam false) ∷ [])
-  manager_opening : Move (R.Opening true) (Act (Begin N.Param) ∷ Sub R.MaybeFinal ∷ Mark (C.Word W.EngineParameters) (Push N.Plain) ∷ Act Into ∷ Call (Y.FirstParam true) ∷ [])
+  kernel_opening : Move (R.Opening false) (Act (Begin N.Param) ∷ Sub R.MaybeFinal
+      ∷ Mark (C.Word W.KernelParameters) (Push N.Plain) ∷ Act Into ∷ Call (Y.FirstParam false) ∷ [])
+  manager_opening : Move (R.Opening true) (Act (Begin N.Param) ∷ Sub R.MaybeFinal
+      ∷ Mark (C.Word W.EngineParameters) (Push N.Plain) ∷ Act Into ∷ Call (Y.FirstParam true) ∷ [])
   kernel_opened : Move (R.Opened false) (Act End ∷ Act Into ∷ Sub R.MoreParams ∷ [])
   manager_opened : Move (R.Opened true) (Act End ∷ Act Into ∷ [])
   super_rest : Move R.SuperRest (sign S.Close ∷ sign S.Semicolon ∷ Sub R.Stmts ∷ sign S.CloseBrace ∷ Act End ∷ Act Into ∷ Act End ∷ [])
@@ -124,7 +133,8 @@ pub data Move : Rule → List Symbol → Type 0 where
   new_name : Move R.NewBase (Mark (C.NameBut W.Memory) (Push N.Plain) ∷ Sub R.NewRest ∷ [])
   new_memory : Move R.NewBase (Mark (C.Word W.Memory) (Push N.Plain) ∷ Sub R.NewMemory ∷ [])
   new_word : Move R.NewBase (Mark C.TypeWord (Push N.Plain) ∷ Act Into ∷ Act (Turn N.NewArray) ∷ Sub R.Sizes ∷ Act End ∷ Sub R.FreshTail ∷ [])
-  new_memories : Move R.NewMemory (sign S.Less ∷ word W.DFEVar ∷ sign S.Greater ∷ Act End ∷ Act Into ∷ Act (Turn N.NewArray) ∷ Sub R.Sizes ∷ Act End ∷ Sub R.FreshTail ∷ [])
+  new_memories : Move R.NewMemory (sign S.Less ∷ word W.DFEVar ∷ sign S.Greater ∷ Act End
+      ∷ Act Into ∷ Act (Turn N.NewArray) ∷ Sub R.Sizes ∷ Act End ∷ Sub R.FreshTail ∷ [])
   new_plain_memory : Move R.NewMemory (Sub R.NewRest ∷ [])
   new_call : Move R.NewRest (Act Named ∷ sign S.Open ∷ Sub R.Args ∷ sign S.Close ∷ Act End ∷ Sub R.Post ∷ [])
   new_array : Move R.NewRest (Act Into ∷ Act (Turn N.NewArray) ∷ Sub R.Sizes ∷ Act End ∷ Sub R.FreshTail ∷ [])
@@ -146,21 +156,26 @@ pub data Move : Rule → List Symbol → Type 0 where
   stmt_new_name : Move R.NewStmt (Mark (C.NameBut W.Memory) (Push N.Plain) ∷ Sub R.NewStmtRest ∷ [])
   stmt_new_memory : Move R.NewStmt (Mark (C.Word W.Memory) (Push N.Plain) ∷ Sub R.NewStmtMemory ∷ [])
   stmt_new_word : Move R.NewStmt (Mark C.TypeWord (Push N.Plain) ∷ Act Into ∷ Act (Turn N.NewArray) ∷ Sub R.Sizes ∷ Act End ∷ Sub (R.Rest Form.Fresh) ∷ [])
-  stmt_new_memories : Move R.NewStmtMemory (sign S.Less ∷ word W.DFEVar ∷ sign S.Greater ∷ Act End ∷ Act Into ∷ Act (Turn N.NewArray) ∷ Sub R.Sizes ∷ Act End ∷ Sub (R.Rest Form.Fresh) ∷ [])
+  stmt_new_memories : Move R.NewStmtMemory (sign S.Less ∷ word W.DFEVar ∷ sign S.Greater
+      ∷ Act End ∷ Act Into ∷ Act (Turn N.NewArray) ∷ Sub R.Sizes ∷ Act End
+      ∷ Sub (R.Rest Form.Fresh) ∷ [])
   stmt_new_plain_memory : Move R.NewStmtMemory (Sub R.NewStmtRest ∷ [])
   stmt_new_call : Move R.NewStmtRest (Act Named ∷ sign S.Open ∷ Sub R.Args ∷ sign S.Close ∷ Act End ∷ Sub (R.Rest Form.Call) ∷ [])
   stmt_new_array : Move R.NewStmtRest (Act Into ∷ Act (Turn N.NewArray) ∷ Sub R.Sizes ∷ Act End ∷ Sub (R.Rest Form.Fresh) ∷ [])
-  place_index : Move (R.Rest Form.Place) (Act (Wrap N.Index) ∷ sign S.OpenBracket ∷ Sub R.Expr ∷ Act Into ∷ sign S.CloseBracket ∷ Act End ∷ Sub (R.Rest Form.Place) ∷ [])
+  place_index : Move (R.Rest Form.Place) (Act (Wrap N.Index) ∷ sign S.OpenBracket ∷ Sub R.Expr
+      ∷ Act Into ∷ sign S.CloseBracket ∷ Act End ∷ Sub (R.Rest Form.Place) ∷ [])
   place_bare : Move (R.Rest Form.Place) (Sub R.Bare ∷ [])
   set : Move R.Bare (Mark C.Assigning (Over N.Set) ∷ Sub R.Expr ∷ Act Into ∷ Act End ∷ [])
   count : Move R.Bare (Mark C.Counting (Over N.Set) ∷ Act End ∷ [])
   bare_dot : Move R.Bare (sign S.Dot ∷ Mark C.Name (Over N.Dot) ∷ Sub R.DottedRest ∷ [])
   bare_onward : Move R.Bare onward
-  call_index : Move (R.Rest Form.Call) (Act (Wrap N.Index) ∷ sign S.OpenBracket ∷ Sub R.Expr ∷ Act Into ∷ sign S.CloseBracket ∷ Act End ∷ Sub (R.Rest Form.Free) ∷ [])
+  call_index : Move (R.Rest Form.Call) (Act (Wrap N.Index) ∷ sign S.OpenBracket ∷ Sub R.Expr
+      ∷ Act Into ∷ sign S.CloseBracket ∷ Act End ∷ Sub (R.Rest Form.Free) ∷ [])
   call_dot : Move (R.Rest Form.Call) (sign S.Dot ∷ Mark C.Name (Over N.Dot) ∷ Sub R.DottedRest ∷ [])
   call_onward : Move (R.Rest Form.Call) onward
   run : Move (R.Rest Form.Call) (Act (Wrap N.Run) ∷ Act End ∷ [])
-  free_index : Move (R.Rest Form.Free) (Act (Wrap N.Index) ∷ sign S.OpenBracket ∷ Sub R.Expr ∷ Act Into ∷ sign S.CloseBracket ∷ Act End ∷ Sub (R.Rest Form.Free) ∷ [])
+  free_index : Move (R.Rest Form.Free) (Act (Wrap N.Index) ∷ sign S.OpenBracket ∷ Sub R.Expr
+      ∷ Act Into ∷ sign S.CloseBracket ∷ Act End ∷ Sub (R.Rest Form.Free) ∷ [])
   free_dot : Move (R.Rest Form.Free) (sign S.Dot ∷ Mark C.Name (Over N.Dot) ∷ Sub R.DottedRest ∷ [])
   free_onward : Move (R.Rest Form.Free) onward
   array_dot : Move (R.Rest Form.Fresh) (sign S.Dot ∷ Mark C.Name (Over N.Dot) ∷ Sub R.DottedRest ∷ [])
@@ -183,17 +198,23 @@ pub data Move : Rule → List Symbol → Type 0 where
   stmt_name : Move R.Stmt (Mark (C.NameBut W.Memory) (Push N.Name) ∷ Sub (R.NameThen Site.Alone) ∷ [])
   stmt_memory : Move R.Stmt (Mark (C.Word W.Memory) (Push N.Name) ∷ Sub (R.MemoryThen Site.Alone) ∷ [])
   stmt_return : Move R.Stmt (Act (Begin N.Return) ∷ word W.Return ∷ Sub R.ReturnRest ∷ [])
-  stmt_if : Move R.Stmt (Act (Begin N.If) ∷ word W.If ∷ sign S.Open ∷ Sub R.Expr ∷ Act Into ∷ sign S.Close ∷ Sub R.Body ∷ Act Into ∷ Sub R.ElseTail ∷ Act End ∷ [])
+  stmt_if : Move R.Stmt (Act (Begin N.If) ∷ word W.If ∷ sign S.Open ∷ Sub R.Expr ∷ Act Into
+      ∷ sign S.Close ∷ Sub R.Body ∷ Act Into ∷ Sub R.ElseTail ∷ Act End ∷ [])
   stmt_while : Move R.Stmt (Act (Begin N.While) ∷ word W.While ∷ sign S.Open ∷ Sub R.Expr ∷ Act Into ∷ sign S.Close ∷ Sub R.Body ∷ Act Into ∷ Act End ∷ [])
-  stmt_for : Move R.Stmt (Act (Begin N.For) ∷ word W.For ∷ sign S.Open ∷ Sub R.First ∷ Act Into ∷ sign S.Semicolon ∷ Sub R.Test ∷ Act Into ∷ sign S.Semicolon ∷ Sub R.Step ∷ Act Into ∷ sign S.Close ∷ Sub R.Body ∷ Act Into ∷ Act End ∷ [])
+  stmt_for : Move R.Stmt (Act (Begin N.For) ∷ word W.For ∷ sign S.Open ∷ Sub R.First ∷ Act Into
+      ∷ sign S.Semicolon ∷ Sub R.Test ∷ Act Into ∷ sign S.Semicolon ∷ Sub R.Step ∷ Act Into
+      ∷ sign S.Close ∷ Sub R.Body ∷ Act Into ∷ Act End ∷ [])
   stmt_empty : Move R.Stmt (Act (Begin N.Empty) ∷ sign S.Semicolon ∷ Act End ∷ [])
   stmt_other : Move R.Stmt (Sub R.Other ∷ sign S.Semicolon ∷ [])
   then_name : {d : Site} → Move (R.NameThen d) (Act (Turn N.Plain) ∷ Mark C.Name (Over N.Local) ∷ Sub (R.Declared d) ∷ [])
   then_bracket : {d : Site} → Move (R.NameThen d) (sign S.OpenBracket ∷ Sub (R.BracketThen d) ∷ [])
   then_called : {d : Site} → Move (R.NameThen d) (Act (Turn N.Call) ∷ sign S.Open ∷ Sub R.Args ∷ sign S.Close ∷ Act End ∷ Sub (R.Rest Form.Call) ∷ close d)
   then_bare : {d : Site} → Move (R.NameThen d) (Sub R.Bare ∷ close d)
-  then_dims : {d : Site} → Move (R.BracketThen d) (Act (Turn N.Plain) ∷ Act (Wrap N.ArrayOf) ∷ sign S.CloseBracket ∷ Act End ∷ Sub R.Dims ∷ Mark C.Name (Over N.Local) ∷ Sub (R.Declared d) ∷ [])
-  then_index : {d : Site} → Move (R.BracketThen d) (Act (Wrap N.Index) ∷ Sub R.Expr ∷ Act Into ∷ sign S.CloseBracket ∷ Act End ∷ Sub (R.Rest Form.Place) ∷ close d)
+  then_dims : {d : Site} → Move (R.BracketThen d) (Act (Turn N.Plain) ∷ Act (Wrap N.ArrayOf)
+      ∷ sign S.CloseBracket ∷ Act End ∷ Sub R.Dims ∷ Mark C.Name (Over N.Local)
+      ∷ Sub (R.Declared d) ∷ [])
+  then_index : {d : Site} → Move (R.BracketThen d) (Act (Wrap N.Index) ∷ Sub R.Expr ∷ Act Into
+      ∷ sign S.CloseBracket ∷ Act End ∷ Sub (R.Rest Form.Place) ∷ close d)
   declared : Move (R.Declared Site.Alone) (sign S.Semicolon ∷ Act End ∷ [])
   declared_init : Move (R.Declared Site.Alone) (sign S.Assign ∷ Sub R.Init ∷ Act Into ∷ sign S.Semicolon ∷ Act End ∷ [])
   declared_loop : Move (R.Declared Site.Loop) (sign S.Assign ∷ Sub R.Expr ∷ Act Into ∷ Act End ∷ [])
@@ -222,17 +243,29 @@ pub data Move : Rule → List Symbol → Type 0 where
   memory_less : {d : Site} → Move (R.MemoryThen d) (Mark (C.Sign S.Less) (Over N.Binary) ∷ Sub (R.LessThen d) ∷ [])
   memory_bare : {d : Site} → Move (R.MemoryThen d) (Sub R.MemoryBare ∷ close d)
   less_dfevar : {d : Site} → Move (R.LessThen d) (Mark (C.Word W.DFEVar) (Push N.Name) ∷ Sub (R.DFEVarThen d) ∷ [])
-  less_other : {d : Site} → Move (R.LessThen d) (Sub R.OtherOperand ∷ Sub (R.Tail Level.Products) ∷ Sub (R.Tail Level.Sums) ∷ Sub (R.Tail Level.Shifts) ∷ ordered ++ close d)
+  less_other : {d : Site} → Move (R.LessThen d) (Sub R.OtherOperand
+      ∷ Sub (R.Tail Level.Products) ∷ Sub (R.Tail Level.Sums) ∷ Sub (R.Tail Level.Shifts)
+      ∷ ordered ++ close d)
   dfevar_greater : {d : Site} → Move (R.DFEVarThen d) (Act Into ∷ Act End ∷ Mark (C.Sign S.Greater) (Over N.Binary) ∷ Sub (R.GreaterThen d) ∷ [])
-  dfevar_further : {d : Site} → Move (R.DFEVarThen d) (Sub R.Further ∷ Sub (R.Tail Level.Products) ∷ Sub (R.Tail Level.Sums) ∷ Sub (R.Tail Level.Shifts) ∷ ordered ++ close d)
+  dfevar_further : {d : Site} → Move (R.DFEVarThen d) (Sub R.Further
+      ∷ Sub (R.Tail Level.Products) ∷ Sub (R.Tail Level.Sums) ∷ Sub (R.Tail Level.Shifts)
+      ∷ ordered ++ close d)
   dfevar_tighter : {d : Site} → Move (R.DFEVarThen d) (Sub R.Tighter ∷ ordered ++ close d)
-  dfevar_order : {d : Site} → Move (R.DFEVarThen d) (Act Into ∷ Act End ∷ Mark (C.OrderBut S.Greater) (Over N.Binary) ∷ Sub (R.Operand Level.Shifts) ∷ ordered ++ close d)
+  dfevar_order : {d : Site} → Move (R.DFEVarThen d) (Act Into ∷ Act End
+      ∷ Mark (C.OrderBut S.Greater) (Over N.Binary) ∷ Sub (R.Operand Level.Shifts) ∷ ordered
+      ++ close d)
   dfevar_looser : {d : Site} → Move (R.DFEVarThen d) (Act Into ∷ Act End ∷ looser ++ close d)
   greater_name : {d : Site} → Move (R.GreaterThen d) (Mark C.Name (Push N.Name) ∷ Sub (R.MemoryName d) ∷ [])
-  greater_dims : {d : Site} → Move (R.GreaterThen d) (Act Memory ∷ Act (Wrap N.ArrayOf) ∷ sign S.OpenBracket ∷ sign S.CloseBracket ∷ Act End ∷ Sub R.Dims ∷ Mark C.Name (Over N.Local) ∷ Sub (R.Declared d) ∷ [])
-  greater_other : {d : Site} → Move (R.GreaterThen d) (Sub R.NamelessOperand ∷ Sub (R.Tail Level.Products) ∷ Sub (R.Tail Level.Sums) ∷ Sub (R.Tail Level.Shifts) ∷ ordered ++ close d)
+  greater_dims : {d : Site} → Move (R.GreaterThen d) (Act Memory ∷ Act (Wrap N.ArrayOf)
+      ∷ sign S.OpenBracket ∷ sign S.CloseBracket ∷ Act End ∷ Sub R.Dims
+      ∷ Mark C.Name (Over N.Local) ∷ Sub (R.Declared d) ∷ [])
+  greater_other : {d : Site} → Move (R.GreaterThen d) (Sub R.NamelessOperand
+      ∷ Sub (R.Tail Level.Products) ∷ Sub (R.Tail Level.Sums) ∷ Sub (R.Tail Level.Shifts)
+      ∷ ordered ++ close d)
   memory_declared : {d : Site} → Move (R.MemoryName d) (Act Declare ∷ Sub (R.Declared d) ∷ [])
-  memory_further : {d : Site} → Move (R.MemoryName d) (Sub R.Called ∷ Sub R.Post ∷ Sub (R.Tail Level.Products) ∷ Sub (R.Tail Level.Sums) ∷ Sub (R.Tail Level.Shifts) ∷ ordered ++ close d)
+  memory_further : {d : Site} → Move (R.MemoryName d) (Sub R.Called ∷ Sub R.Post
+      ∷ Sub (R.Tail Level.Products) ∷ Sub (R.Tail Level.Sums) ∷ Sub (R.Tail Level.Shifts)
+      ∷ ordered ++ close d)
   memory_set : Move R.MemoryBare (Mark C.Assigning (Over N.Set) ∷ Sub R.Expr ∷ Act Into ∷ Act End ∷ [])
   memory_count : Move R.MemoryBare (Mark C.Counting (Over N.Set) ∷ Act End ∷ [])
   memory_dot : Move R.MemoryBare (sign S.Dot ∷ Mark C.Name (Over N.Dot) ∷ Sub R.DottedRest ∷ [])
@@ -249,9 +282,14 @@ pub data Move : Rule → List Symbol → Type 0 where
   further_called : Move R.Further (Act (Turn N.Call) ∷ sign S.Open ∷ Sub R.Args ∷ sign S.Close ∷ Act End ∷ Sub R.Post ∷ [])
   further_dot : Move R.Further (sign S.Dot ∷ Mark C.Name (Over N.Dot) ∷ Sub R.Dotted ∷ Sub R.Post ∷ [])
   further_index : Move R.Further (Act (Wrap N.Index) ∷ sign S.OpenBracket ∷ Sub R.Expr ∷ Act Into ∷ sign S.CloseBracket ∷ Act End ∷ Sub R.Post ∷ [])
-  tighter_product : Move R.Tighter (Mark (C.Operator Level.Products) (Over N.Binary) ∷ Sub (R.Operand Level.Prefixes) ∷ Act Into ∷ Act End ∷ Sub (R.Tail Level.Products) ∷ Sub (R.Tail Level.Sums) ∷ Sub (R.Tail Level.Shifts) ∷ [])
-  tighter_sum : Move R.Tighter (Mark (C.Operator Level.Sums) (Over N.Binary) ∷ Sub (R.Operand Level.Products) ∷ Act Into ∷ Act End ∷ Sub (R.Tail Level.Sums) ∷ Sub (R.Tail Level.Shifts) ∷ [])
-  tighter_shift : Move R.Tighter (Mark (C.Operator Level.Shifts) (Over N.Binary) ∷ Sub (R.Operand Level.Sums) ∷ Act Into ∷ Act End ∷ Sub (R.Tail Level.Shifts) ∷ [])
+  tighter_product : Move R.Tighter (Mark (C.Operator Level.Products) (Over N.Binary)
+      ∷ Sub (R.Operand Level.Prefixes) ∷ Act Into ∷ Act End ∷ Sub (R.Tail Level.Products)
+      ∷ Sub (R.Tail Level.Sums) ∷ Sub (R.Tail Level.Shifts) ∷ [])
+  tighter_sum : Move R.Tighter (Mark (C.Operator Level.Sums) (Over N.Binary)
+      ∷ Sub (R.Operand Level.Products) ∷ Act Into ∷ Act End ∷ Sub (R.Tail Level.Sums)
+      ∷ Sub (R.Tail Level.Shifts) ∷ [])
+  tighter_shift : Move R.Tighter (Mark (C.Operator Level.Shifts) (Over N.Binary)
+      ∷ Sub (R.Operand Level.Sums) ∷ Act Into ∷ Act End ∷ Sub (R.Tail Level.Shifts) ∷ [])
 
 -- whether a member that begins with this name may be the constructor
 abbrev pub is_own : Inside → List ℕ → Bool
@@ -267,14 +305,27 @@ and_members i = Act Into ∷ Mark C.Name Text ∷ Sub R.Declares ∷ Act Into �
 -- the choices of the rules that speak of names
 pub data NamedMove : Y.Named → List Symbol → Type 0 where
   class_name : {w : List ℕ} → is_name w ≡ true → NamedMove Y.ClassName (Name w Text ∷ word W.Extends ∷ Call (Y.Parent w) ∷ [])
-  kernel : {w : List ℕ} → NamedMove (Y.Parent w) (word W.Kernel ∷ sign S.OpenBrace ∷ Call (Y.Members (record { manager = false; class = w; unmade = true })) ∷ sign S.CloseBrace ∷ Act End ∷ Act (Keep false) ∷ [])
-  manager : {w : List ℕ} → NamedMove (Y.Parent w) (word W.CustomManager ∷ sign S.OpenBrace ∷ Call (Y.Members (record { manager = true; class = w; unmade = true })) ∷ sign S.CloseBrace ∷ Act End ∷ Act (Keep true) ∷ [])
+  kernel : {w : List ℕ} → NamedMove (Y.Parent w) (word W.Kernel ∷ sign S.OpenBrace
+      ∷ Call (Y.Members (record { manager = false; class = w; unmade = true }))
+      ∷ sign S.CloseBrace ∷ Act End ∷ Act (Keep false) ∷ [])
+  manager : {w : List ℕ} → NamedMove (Y.Parent w) (word W.CustomManager ∷ sign S.OpenBrace
+      ∷ Call (Y.Members (record { manager = true; class = w; unmade = true }))
+      ∷ sign S.CloseBrace ∷ Act End ∷ Act (Keep true) ∷ [])
   member : {i : Inside} → NamedMove (Y.Members i) (Act (Begin N.Field) ∷ Sub R.Mods ∷ Call (Y.Head i) ∷ [])
   no_member : {m : Bool} {w : List ℕ} → NamedMove (Y.Members (record { manager = m; class = w; unmade = false })) []
-  void_method : {i : Inside} → NamedMove (Y.Head i) (Mark (C.Word W.Void) (Push N.Plain) ∷ Act Into ∷ Mark C.Name Text ∷ Act (Turn N.Method) ∷ Sub R.MethodRest ∷ Act Into ∷ Call (Y.Members i) ∷ [])
+  void_method : {i : Inside} → NamedMove (Y.Head i) (Mark (C.Word W.Void) (Push N.Plain)
+      ∷ Act Into ∷ Mark C.Name Text ∷ Act (Turn N.Method) ∷ Sub R.MethodRest ∷ Act Into
+      ∷ Call (Y.Members i) ∷ [])
   word_member : {i : Inside} → NamedMove (Y.Head i) (Mark C.TypeWord (Push N.Plain) ∷ Sub R.Dims ∷ and_members i)
-  name_member : {i : Inside} {w : List ℕ} → is_name w ≡ true → NamedMove (Y.Head i) (Name w (Push N.Plain) ∷ Call (Y.After i (is_own i w) (bytes_eq w (codes "Memory"))) ∷ [])
+  name_member : {i : Inside} {w : List ℕ} → is_name w ≡ true
+      → NamedMove (Y.Head i) (Name w (Push N.Plain)
+      ∷ Call (Y.After i (is_own i w) (bytes_eq w (codes "Memory"))) ∷ [])
   after_type : {i : Inside} {o m : Bool} → NamedMove (Y.After i o m) (Sub R.Dims ∷ and_members i)
   after_memory : {i : Inside} {o : Bool} → NamedMove (Y.After i o true) (sign S.Less ∷ word W.DFEVar ∷ sign S.Greater ∷ Act End ∷ Sub R.Dims ∷ and_members i)
-  after_ctor : {i : Inside} {m : Bool} → NamedMove (Y.After i true m) (Act Named ∷ Act (Turn N.Ctor) ∷ sign S.Open ∷ Sub (R.Opening i.manager) ∷ Act Into ∷ Call (Y.Members (made i)) ∷ [])
-  first_param : {m : Bool} {w : List ℕ} → is_name w ≡ true → NamedMove (Y.FirstParam m) (Name w Text ∷ Sub (R.Opened m) ∷ sign S.Close ∷ Act (Begin N.Block) ∷ sign S.OpenBrace ∷ word W.Super ∷ sign S.Open ∷ Name w Skip ∷ Sub R.SuperRest ∷ [])
+  after_ctor : {i : Inside} {m : Bool} → NamedMove (Y.After i true m) (Act Named
+      ∷ Act (Turn N.Ctor) ∷ sign S.Open ∷ Sub (R.Opening i.manager) ∷ Act Into
+      ∷ Call (Y.Members (made i)) ∷ [])
+  first_param : {m : Bool} {w : List ℕ} → is_name w ≡ true
+      → NamedMove (Y.FirstParam m) (Name w Text ∷ Sub (R.Opened m) ∷ sign S.Close
+      ∷ Act (Begin N.Block) ∷ sign S.OpenBrace ∷ word W.Super ∷ sign S.Open ∷ Name w Skip
+      ∷ Sub R.SuperRest ∷ [])

@@ -12,8 +12,10 @@ use Rattle.maxj_syntax.specs.Derivation.{Derives}
 -- the words that are no names
 abbrev pub reserved_words : List (List ℕ)
 reserved_words =
-    codes "package" ∷ codes "import" ∷ codes "static" ∷ codes "public" ∷ codes "private" ∷ codes "protected" ∷ codes "final" ∷ codes "class" ∷ codes "extends" ∷ codes "void"
-    ∷ codes "return" ∷ codes "if" ∷ codes "else" ∷ codes "while" ∷ codes "for" ∷ codes "new" ∷ codes "this" ∷ codes "true" ∷ codes "false" ∷ codes "int" ∷ codes "boolean"
+    codes "package" ∷ codes "import" ∷ codes "static" ∷ codes "public" ∷ codes "private"
+    ∷ codes "protected" ∷ codes "final" ∷ codes "class" ∷ codes "extends" ∷ codes "void"
+    ∷ codes "return" ∷ codes "if" ∷ codes "else" ∷ codes "while" ∷ codes "for" ∷ codes "new"
+    ∷ codes "this" ∷ codes "true" ∷ codes "false" ∷ codes "int" ∷ codes "boolean"
     ∷ codes "super" ∷ []
 
 abbrev pub is_name : List ℕ → Bool
@@ -174,24 +176,35 @@ pub data Choice (at : Span) : Part → List Part → Type 0 where
   -- classes
   one_class : {name : List ℕ} {manager : Bool} {ts : Trees}
       → Choice at (Class_ (record { name = name; manager = manager; tree = Node N.Class name at ts }))
-      (Mods ∷ Word_ (codes "class") ∷ Id name ∷ Word_ (codes "extends") ∷ Word_ (parent manager) ∷ Sign_ (codes "{") ∷ Members manager name true ts ∷ Sign_ (codes "}") ∷ [])
+      (Mods ∷ Word_ (codes "class") ∷ Id name ∷ Word_ (codes "extends") ∷ Word_ (parent manager)
+      ∷ Sign_ (codes "{") ∷ Members manager name true ts ∷ Sign_ (codes "}") ∷ [])
   no_mods : Choice at Mods []
   mods : {w : List ℕ} → Choice at Mods (WordOf modifiers w ∷ Mods ∷ [])
   no_members : {manager : Bool} {name : List ℕ} → Choice at (Members manager name false Nil) []
-  member : {manager some : Bool} {name : List ℕ} {a : Tree} {ts : Trees} → Choice at (Members manager name some (Cons a ts)) (Member a ∷ Members manager name some ts ∷ [])
-  the_ctor : {manager : Bool} {name : List ℕ} {a : Tree} {ts : Trees} → Choice at (Members manager name true (Cons a ts)) (Ctor manager name a ∷ Members manager name false ts ∷ [])
-  field : {w : List ℕ} {t : Tree} {ts : Trees} → Choice at (Member (Node N.Field w at (Cons t ts))) (Mods ∷ Type_ t ∷ Id w ∷ MaybeInit ts ∷ Sign_ (codes ";") ∷ [])
+  member : {manager some : Bool} {name : List ℕ} {a : Tree} {ts : Trees}
+      → Choice at (Members manager name some (Cons a ts)) (Member a
+      ∷ Members manager name some ts ∷ [])
+  the_ctor : {manager : Bool} {name : List ℕ} {a : Tree} {ts : Trees}
+      → Choice at (Members manager name true (Cons a ts)) (Ctor manager name a
+      ∷ Members manager name false ts ∷ [])
+  field : {w : List ℕ} {t : Tree} {ts : Trees}
+      → Choice at (Member (Node N.Field w at (Cons t ts))) (Mods ∷ Type_ t ∷ Id w ∷ MaybeInit ts
+      ∷ Sign_ (codes ";") ∷ [])
   method : {w : List ℕ} {r b : Tree} {ps : Trees}
-      → Choice at (Member (Node N.Method w at (Cons r (join ps (one b))))) (Mods ∷ Result r ∷ Id w ∷ Sign_ (codes "(") ∷ MaybeParams ps ∷ Sign_ (codes ")") ∷ Block b ∷ [])
+      → Choice at (Member (Node N.Method w at (Cons r (join ps (one b))))) (Mods ∷ Result r
+      ∷ Id w ∷ Sign_ (codes "(") ∷ MaybeParams ps ∷ Sign_ (codes ")") ∷ Block b ∷ [])
   -- constructors
   ctor : {manager : Bool} {name p : List ℕ} {ps : Trees} {b : Tree}
-      → Choice at (Ctor manager name (Node N.Ctor name at (join ps (one b)))) (Mods ∷ Id name ∷ Sign_ (codes "(") ∷ Opening manager p ps ∷ Sign_ (codes ")") ∷ CtorBlock p b ∷ [])
+      → Choice at (Ctor manager name (Node N.Ctor name at (join ps (one b)))) (Mods ∷ Id name
+      ∷ Sign_ (codes "(") ∷ Opening manager p ps ∷ Sign_ (codes ")") ∷ CtorBlock p b ∷ [])
   kernel_opening : {p : List ℕ} {a : Tree} {ps : Trees} → Choice at (Opening false p (Cons a ps)) (Handed (codes "KernelParameters") p a ∷ MoreParams ps ∷ [])
   manager_opening : {p : List ℕ} {a : Tree} → Choice at (Opening true p (one a)) (Handed (codes "EngineParameters") p a ∷ [])
   handed : {w p : List ℕ} {t : Tree} → Choice at (Handed w p (Node N.Param p at (one t))) (MaybeFinal ∷ HandedType w t ∷ Id p ∷ [])
   handed_type : {w : List ℕ} → Choice at (HandedType w (Node N.Plain w at Nil)) (Word_ w ∷ [])
   ctor_block : {p : List ℕ} {ts : Trees}
-      → Choice at (CtorBlock p (Node N.Block [] at ts)) (Sign_ (codes "{") ∷ Word_ (codes "super") ∷ Sign_ (codes "(") ∷ Id p ∷ Sign_ (codes ")") ∷ Sign_ (codes ";") ∷ Stmts ts ∷ Sign_ (codes "}") ∷ [])
+      → Choice at (CtorBlock p (Node N.Block [] at ts)) (Sign_ (codes "{")
+      ∷ Word_ (codes "super") ∷ Sign_ (codes "(") ∷ Id p ∷ Sign_ (codes ")")
+      ∷ Sign_ (codes ";") ∷ Stmts ts ∷ Sign_ (codes "}") ∷ [])
   -- parameters and types
   void_result : Choice at (Result (Node N.Plain (codes "void") at Nil)) (Word_ (codes "void") ∷ [])
   type_result : {t : Tree} → Choice at (Result t) (Type_ t ∷ [])
@@ -206,21 +219,28 @@ pub data Choice (at : Span) : Part → List Part → Type 0 where
   array_of : {t : Tree} → Choice at (Type_ (Node N.ArrayOf [] at (one t))) (Type_ t ∷ Sign_ (codes "[") ∷ Sign_ (codes "]") ∷ [])
   base_word : {w : List ℕ} → Choice at (Base (Node N.Plain w at Nil)) (WordOf type_words w ∷ [])
   base_name : {w : List ℕ} → Choice at (Base (Node N.Plain w at Nil)) (Id w ∷ [])
-  base_memory : Choice at (Base (Node N.Plain (codes "Memory") at Nil)) (Word_ (codes "Memory") ∷ Sign_ (codes "<") ∷ Word_ (codes "DFEVar") ∷ Sign_ (codes ">") ∷ [])
+  base_memory : Choice at (Base (Node N.Plain (codes "Memory") at Nil)) (Word_ (codes "Memory")
+      ∷ Sign_ (codes "<") ∷ Word_ (codes "DFEVar") ∷ Sign_ (codes ">") ∷ [])
   -- statements
   block : {ts : Trees} → Choice at (Block (Node N.Block [] at ts)) (Sign_ (codes "{") ∷ Stmts ts ∷ Sign_ (codes "}") ∷ [])
   no_stmts : Choice at (Stmts Nil) []
   stmts : {a : Tree} {ts : Trees} → Choice at (Stmts (Cons a ts)) (Stmt a ∷ Stmts ts ∷ [])
   block_stmt : {a : Tree} → Choice at (Stmt a) (Block a ∷ [])
-  local : {w : List ℕ} {t : Tree} {ts : Trees} → Choice at (Stmt (Node N.Local w at (Cons t ts))) (MaybeFinal ∷ Type_ t ∷ Id w ∷ MaybeInit ts ∷ Sign_ (codes ";") ∷ [])
+  local : {w : List ℕ} {t : Tree} {ts : Trees}
+      → Choice at (Stmt (Node N.Local w at (Cons t ts))) (MaybeFinal ∷ Type_ t ∷ Id w
+      ∷ MaybeInit ts ∷ Sign_ (codes ";") ∷ [])
   simple_stmt : {a : Tree} → Choice at (Stmt a) (Simple a ∷ Sign_ (codes ";") ∷ [])
   return_stmt : {a : Tree} → Choice at (Stmt a) (Returning a ∷ [])
   if_stmt : {c b : Tree} {ts us : Trees}
-      → Choice at (Stmt (Node N.If [] at (Cons c (Cons b (join ts us))))) (Word_ (codes "if") ∷ Sign_ (codes "(") ∷ Expr c ∷ Sign_ (codes ")") ∷ Body b ∷ ElseIfs ts ∷ MaybeElse us ∷ [])
-  while_stmt : {c b : Tree} → Choice at (Stmt (Node N.While [] at (two c b))) (Word_ (codes "while") ∷ Sign_ (codes "(") ∷ Expr c ∷ Sign_ (codes ")") ∷ Body b ∷ [])
+      → Choice at (Stmt (Node N.If [] at (Cons c (Cons b (join ts us))))) (Word_ (codes "if")
+      ∷ Sign_ (codes "(") ∷ Expr c ∷ Sign_ (codes ")") ∷ Body b ∷ ElseIfs ts ∷ MaybeElse us
+      ∷ [])
+  while_stmt : {c b : Tree} → Choice at (Stmt (Node N.While [] at (two c b)))
+      (Word_ (codes "while") ∷ Sign_ (codes "(") ∷ Expr c ∷ Sign_ (codes ")") ∷ Body b ∷ [])
   for_stmt : {f c s b : Tree} {i j k : ℕ}
       → Choice at (Stmt (Node N.For [] at (Cons f (Cons c (two s b)))))
-      (Word_ (codes "for") ∷ Sign_ (codes "(") ∷ First f i ∷ SignAt (codes ";") i ∷ Test c j ∷ SignAt (codes ";") j ∷ Step s k ∷ SignAt (codes ")") k ∷ Body b ∷ [])
+      (Word_ (codes "for") ∷ Sign_ (codes "(") ∷ First f i ∷ SignAt (codes ";") i ∷ Test c j
+      ∷ SignAt (codes ";") j ∷ Step s k ∷ SignAt (codes ")") k ∷ Body b ∷ [])
   empty_stmt : Choice at (Stmt (Node N.Empty [] at Nil)) (Sign_ (codes ";") ∷ [])
   body_block : {a : Tree} → Choice at (Body a) (Block a ∷ [])
   body_simple : {a : Tree} → Choice at (Body a) (Simple a ∷ Sign_ (codes ";") ∷ [])
@@ -229,7 +249,8 @@ pub data Choice (at : Span) : Part → List Part → Type 0 where
   return_value : {a : Tree} → Choice at (Returning (Node N.Return [] at (one a))) (Word_ (codes "return") ∷ Expr a ∷ Sign_ (codes ";") ∷ [])
   no_else_if : Choice at (ElseIfs Nil) []
   else_if : {c b : Tree} {ts : Trees}
-      → Choice at (ElseIfs (Cons c (Cons b ts))) (Word_ (codes "else") ∷ Word_ (codes "if") ∷ Sign_ (codes "(") ∷ Expr c ∷ Sign_ (codes ")") ∷ Body b ∷ ElseIfs ts ∷ [])
+      → Choice at (ElseIfs (Cons c (Cons b ts))) (Word_ (codes "else") ∷ Word_ (codes "if")
+      ∷ Sign_ (codes "(") ∷ Expr c ∷ Sign_ (codes ")") ∷ Body b ∷ ElseIfs ts ∷ [])
   no_else : Choice at (MaybeElse Nil) []
   otherwise : {b : Tree} → Choice at (MaybeElse (one b)) (Word_ (codes "else") ∷ Body b ∷ [])
   no_first : {n : ℕ} → Choice at (First (absent n) n) []
@@ -255,11 +276,16 @@ pub data Choice (at : Span) : Part → List Part → Type 0 where
   more_inits : {a : Tree} {ts : Trees} → Choice at (MoreInits (Cons a ts)) (Sign_ (codes ",") ∷ Init a ∷ MoreInits ts ∷ [])
   -- expressions
   no_cond : {a : Tree} → Choice at (Expr a) (Joined Level.Ors a ∷ [])
-  cond : {c a b : Tree} → Choice at (Expr (Node N.Cond [] at (Cons c (two a b)))) (Joined Level.Ors c ∷ Sign_ (codes "?") ∷ Expr a ∷ Sign_ (codes ":") ∷ Expr b ∷ [])
+  cond : {c a b : Tree} → Choice at (Expr (Node N.Cond [] at (Cons c (two a b))))
+      (Joined Level.Ors c ∷ Sign_ (codes "?") ∷ Expr a ∷ Sign_ (codes ":") ∷ Expr b ∷ [])
   tighter : {l k : Level} {a : Tree} → Above l k → Choice at (Joined k a) (Joined l a ∷ [])
-  joined : {l k : Level} {s : List ℕ} {a b : Tree} → Above l k → Choice at (Joined k (Node N.Binary s at (two a b))) (Joined k a ∷ SignOf (signs_of k) s ∷ Joined l b ∷ [])
+  joined : {l k : Level} {s : List ℕ} {a b : Tree} → Above l k
+      → Choice at (Joined k (Node N.Binary s at (two a b))) (Joined k a ∷ SignOf (signs_of k) s
+      ∷ Joined l b ∷ [])
   no_prefix : {a : Tree} → Choice at (Joined Level.Prefixes a) (Postfix a ∷ [])
-  prefix : {s : List ℕ} {a : Tree} → Choice at (Joined Level.Prefixes (Node N.Prefix s at (one a))) (SignOf (signs_of Level.Prefixes) s ∷ Joined Level.Prefixes a ∷ [])
+  prefix : {s : List ℕ} {a : Tree}
+      → Choice at (Joined Level.Prefixes (Node N.Prefix s at (one a)))
+      (SignOf (signs_of Level.Prefixes) s ∷ Joined Level.Prefixes a ∷ [])
   open_form : {a : Tree} → Choice at (Postfix a) (Open a ∷ [])
   array_form : {a : Tree} → Choice at (Postfix a) (Array a ∷ [])
   literal : {k : NodeKind} {w : List ℕ} → Choice at (Open (Node k w at Nil)) (Literal k w ∷ [])
@@ -270,8 +296,12 @@ pub data Choice (at : Span) : Part → List Part → Type 0 where
   dot : {w : List ℕ} {a : Tree} → Choice at (Open (Node N.Dot w at (one a))) (Postfix a ∷ Sign_ (codes ".") ∷ Id w ∷ [])
   index : {a b : Tree} → Choice at (Open (Node N.Index [] at (two a b))) (Open a ∷ Sign_ (codes "[") ∷ Expr b ∷ Sign_ (codes "]") ∷ [])
   call_name : {w : List ℕ} {ts : Trees} → Choice at (Call (Node N.Call w at ts)) (Id w ∷ Sign_ (codes "(") ∷ Args ts ∷ Sign_ (codes ")") ∷ [])
-  call_dot : {w : List ℕ} {a : Tree} {ts : Trees} → Choice at (Call (Node N.DotCall w at (Cons a ts))) (Postfix a ∷ Sign_ (codes ".") ∷ Id w ∷ Sign_ (codes "(") ∷ Args ts ∷ Sign_ (codes ")") ∷ [])
-  call_new : {w : List ℕ} {ts : Trees} → Choice at (Call (Node N.New w at ts)) (Word_ (codes "new") ∷ Id w ∷ Sign_ (codes "(") ∷ Args ts ∷ Sign_ (codes ")") ∷ [])
+  call_dot : {w : List ℕ} {a : Tree} {ts : Trees}
+      → Choice at (Call (Node N.DotCall w at (Cons a ts))) (Postfix a ∷ Sign_ (codes ".") ∷ Id w
+      ∷ Sign_ (codes "(") ∷ Args ts ∷ Sign_ (codes ")") ∷ [])
+  call_new : {w : List ℕ} {ts : Trees}
+      → Choice at (Call (Node N.New w at ts)) (Word_ (codes "new") ∷ Id w ∷ Sign_ (codes "(")
+      ∷ Args ts ∷ Sign_ (codes ")") ∷ [])
   array : {b : Tree} {ts : Trees} → Choice at (Array (Node N.NewArray [] at (Cons b ts))) (Word_ (codes "new") ∷ Base b ∷ Sizes ts ∷ [])
   no_args : Choice at (Args Nil) []
   args : {a : Tree} {ts : Trees} → Choice at (Args (Cons a ts)) (Expr a ∷ MoreArgs ts ∷ [])

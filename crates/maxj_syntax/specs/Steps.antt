@@ -130,8 +130,14 @@ pub data Goes : List Symbol → Entry → Below → List PlacedToken → Entry �
   none : {b : Entry} {s : Below} {xs : List PlacedToken} → Goes [] b s xs b s xs
   mark : {k : TokenClass} {e : Effect} {ps : List Symbol} {b c : Entry} {s r : Below} {t : PlacedToken} {xs ys : List PlacedToken} → Accepts k t.token
       → Goes ps (read_top e t.token (t ∷ xs) xs b) (read_below e b s) xs c r ys → Goes (Mark k e ∷ ps) b s (t ∷ xs) c r ys
-  name : {w : List ℕ} {e : Effect} {ps : List Symbol} {b c : Entry} {s r : Below} {t : PlacedToken} {xs ys : List PlacedToken} → (t.token ≡ Token.Word w) × (is_name w ≡ true)
+  name : {w : List ℕ} {e : Effect} {ps : List Symbol} {b c : Entry} {s r : Below}
+      {t : PlacedToken} {xs ys : List PlacedToken} → (t.token ≡ Token.Word w) × (is_name w ≡ true)
       → Goes ps (read_top e t.token (t ∷ xs) xs b) (read_below e b s) xs c r ys → Goes (Name w e ∷ ps) b s (t ∷ xs) c r ys
-  act : {a : Action} {ps : List Symbol} {b c : Entry} {s r : Below} {xs ys : List PlacedToken} → Goes ps (act_top a xs b s) (act_below a b s) xs c r ys → Goes (Act a ∷ ps) b s xs c r ys
-  rule : {p : Rule} {qs ps : List Symbol} {b m c : Entry} {s q r : Below} {xs ms ys : List PlacedToken} → Move p qs → Goes qs b s xs m q ms → Goes ps m q ms c r ys → Goes (Sub p ∷ ps) b s xs c r ys
-  call : {n : Y.Named} {qs ps : List Symbol} {b m c : Entry} {s q r : Below} {xs ms ys : List PlacedToken} → NamedMove n qs → Goes qs b s xs m q ms → Goes ps m q ms c r ys → Goes (Call n ∷ ps) b s xs c r ys
+  act : {a : Action} {ps : List Symbol} {b c : Entry} {s r : Below} {xs ys : List PlacedToken}
+      → Goes ps (act_top a xs b s) (act_below a b s) xs c r ys → Goes (Act a ∷ ps) b s xs c r ys
+  rule : {p : Rule} {qs ps : List Symbol} {b m c : Entry} {s q r : Below}
+      {xs ms ys : List PlacedToken} → Move p qs → Goes qs b s xs m q ms → Goes ps m q ms c r ys
+      → Goes (Sub p ∷ ps) b s xs c r ys
+  call : {n : Y.Named} {qs ps : List Symbol} {b m c : Entry} {s q r : Below}
+      {xs ms ys : List PlacedToken} → NamedMove n qs → Goes qs b s xs m q ms
+      → Goes ps m q ms c r ys → Goes (Call n ∷ ps) b s xs c r ys

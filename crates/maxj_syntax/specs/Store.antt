@@ -7,7 +7,12 @@ use Rattle.maxj_syntax.specs.declared.nodes.Lent.{Lent}
 -- the nodes, the first one's children from a place on, and each other's from where those of the one before it end
 abbrev pub drafts : ℕ → List Packed → List ℕ → List Draft
 drafts from [] children = []
-drafts from (p ∷ ps) children = record { kind = p.kind; word = p.word; span = p.span; children = take (p.end - from) (drop from children) } ∷ drafts p.end ps children
+drafts from (p ∷ ps) children = record {
+  kind = p.kind;
+  word = p.word;
+  span = p.span;
+  children = take (p.end - from) (drop from children);
+} ∷ drafts p.end ps children
 
 -- no node's children end before they begin, and the last one's end with the list
 abbrev pub AreEnds : ℕ → List Packed → ℕ → Type 0

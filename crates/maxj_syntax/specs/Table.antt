@@ -38,8 +38,12 @@ choices R.Params = (Sub R.Param ∷ Act Into ∷ Sub R.MoreParams ∷ []) ∷ []
 choices R.MoreParams = (sign S.Comma ∷ Sub R.Param ∷ Act Into ∷ Sub R.MoreParams ∷ []) ∷ [] ∷ []
 choices R.Param = (Act (Begin N.Param) ∷ Sub R.MaybeFinal ∷ Sub R.TypeName ∷ Act Into ∷ Mark C.Name Text ∷ Act End ∷ []) ∷ []
 choices R.MaybeFinal = (word W.Final ∷ []) ∷ [] ∷ []
-choices (R.Opening false) = (Act (Begin N.Param) ∷ Sub R.MaybeFinal ∷ Mark (C.Word W.KernelParameters) (Push N.Plain) ∷ Act Into ∷ Call (Y.FirstParam false) ∷ []) ∷ []
-choices (R.Opening true) = (Act (Begin N.Param) ∷ Sub R.MaybeFinal ∷ Mark (C.Word W.EngineParameters) (Push N.Plain) ∷ Act Into ∷ Call (Y.FirstParam true) ∷ []) ∷ []
+choices (R.Opening false) = (Act (Begin N.Param) ∷ Sub R.MaybeFinal
+    ∷ Mark (C.Word W.KernelParameters) (Push N.Plain) ∷ Act Into ∷ Call (Y.FirstParam false)
+    ∷ []) ∷ []
+choices (R.Opening true) = (Act (Begin N.Param) ∷ Sub R.MaybeFinal
+    ∷ Mark (C.Word W.EngineParameters) (Push N.Plain) ∷ Act Into ∷ Call (Y.FirstParam true)
+    ∷ []) ∷ []
 choices (R.Opened false) = (Act End ∷ Act Into ∷ Sub R.MoreParams ∷ []) ∷ []
 choices (R.Opened true) = (Act End ∷ Act Into ∷ []) ∷ []
 choices R.SuperRest = (sign S.Close ∷ sign S.Semicolon ∷ Sub R.Stmts ∷ sign S.CloseBrace ∷ Act End ∷ Act Into ∷ Act End ∷ []) ∷ []
@@ -175,7 +179,9 @@ choices R.Stmt =
     ∷ (Act (Begin N.Return) ∷ word W.Return ∷ Sub R.ReturnRest ∷ [])
     ∷ (Act (Begin N.If) ∷ word W.If ∷ sign S.Open ∷ Sub R.Expr ∷ Act Into ∷ sign S.Close ∷ Sub R.Body ∷ Act Into ∷ Sub R.ElseTail ∷ Act End ∷ [])
     ∷ (Act (Begin N.While) ∷ word W.While ∷ sign S.Open ∷ Sub R.Expr ∷ Act Into ∷ sign S.Close ∷ Sub R.Body ∷ Act Into ∷ Act End ∷ [])
-    ∷ (Act (Begin N.For) ∷ word W.For ∷ sign S.Open ∷ Sub R.First ∷ Act Into ∷ sign S.Semicolon ∷ Sub R.Test ∷ Act Into ∷ sign S.Semicolon ∷ Sub R.Step ∷ Act Into ∷ sign S.Close ∷ Sub R.Body ∷ Act Into ∷ Act End ∷ [])
+    ∷ (Act (Begin N.For) ∷ word W.For ∷ sign S.Open ∷ Sub R.First ∷ Act Into ∷ sign S.Semicolon
+    ∷ Sub R.Test ∷ Act Into ∷ sign S.Semicolon ∷ Sub R.Step ∷ Act Into ∷ sign S.Close
+    ∷ Sub R.Body ∷ Act Into ∷ Act End ∷ [])
     ∷ (Act (Begin N.Empty) ∷ sign S.Semicolon ∷ Act End ∷ [])
     ∷ (Sub R.Other ∷ sign S.Semicolon ∷ []) ∷ []
 choices (R.NameThen Site.Alone) =
@@ -242,11 +248,13 @@ choices (R.DFEVarThen Site.Loop) =
     ∷ (Act Into ∷ Act End ∷ looser) ∷ []
 choices (R.GreaterThen Site.Alone) =
     (Mark C.Name (Push N.Name) ∷ Sub (R.MemoryName Site.Alone) ∷ [])
-    ∷ (Act Memory ∷ Act (Wrap N.ArrayOf) ∷ sign S.OpenBracket ∷ sign S.CloseBracket ∷ Act End ∷ Sub R.Dims ∷ Mark C.Name (Over N.Local) ∷ Sub (R.Declared Site.Alone) ∷ [])
+    ∷ (Act Memory ∷ Act (Wrap N.ArrayOf) ∷ sign S.OpenBracket ∷ sign S.CloseBracket ∷ Act End
+    ∷ Sub R.Dims ∷ Mark C.Name (Over N.Local) ∷ Sub (R.Declared Site.Alone) ∷ [])
     ∷ (Sub R.NamelessOperand ∷ Sub (R.Tail Level.Products) ∷ Sub (R.Tail Level.Sums) ∷ Sub (R.Tail Level.Shifts) ∷ ordered ++ close Site.Alone) ∷ []
 choices (R.GreaterThen Site.Loop) =
     (Mark C.Name (Push N.Name) ∷ Sub (R.MemoryName Site.Loop) ∷ [])
-    ∷ (Act Memory ∷ Act (Wrap N.ArrayOf) ∷ sign S.OpenBracket ∷ sign S.CloseBracket ∷ Act End ∷ Sub R.Dims ∷ Mark C.Name (Over N.Local) ∷ Sub (R.Declared Site.Loop) ∷ [])
+    ∷ (Act Memory ∷ Act (Wrap N.ArrayOf) ∷ sign S.OpenBracket ∷ sign S.CloseBracket ∷ Act End
+    ∷ Sub R.Dims ∷ Mark C.Name (Over N.Local) ∷ Sub (R.Declared Site.Loop) ∷ [])
     ∷ (Sub R.NamelessOperand ∷ Sub (R.Tail Level.Products) ∷ Sub (R.Tail Level.Sums) ∷ Sub (R.Tail Level.Shifts) ∷ ordered) ∷ []
 choices (R.MemoryName Site.Alone) =
     (Act Declare ∷ Sub (R.Declared Site.Alone) ∷ [])
@@ -273,8 +281,11 @@ choices R.Further =
     ∷ (sign S.Dot ∷ Mark C.Name (Over N.Dot) ∷ Sub R.Dotted ∷ Sub R.Post ∷ [])
     ∷ (Act (Wrap N.Index) ∷ sign S.OpenBracket ∷ Sub R.Expr ∷ Act Into ∷ sign S.CloseBracket ∷ Act End ∷ Sub R.Post ∷ []) ∷ []
 choices R.Tighter =
-    (Mark (C.Operator Level.Products) (Over N.Binary) ∷ Sub (R.Operand Level.Prefixes) ∷ Act Into ∷ Act End ∷ Sub (R.Tail Level.Products) ∷ Sub (R.Tail Level.Sums) ∷ Sub (R.Tail Level.Shifts) ∷ [])
-    ∷ (Mark (C.Operator Level.Sums) (Over N.Binary) ∷ Sub (R.Operand Level.Products) ∷ Act Into ∷ Act End ∷ Sub (R.Tail Level.Sums) ∷ Sub (R.Tail Level.Shifts) ∷ [])
+    (Mark (C.Operator Level.Products) (Over N.Binary) ∷ Sub (R.Operand Level.Prefixes)
+    ∷ Act Into ∷ Act End ∷ Sub (R.Tail Level.Products) ∷ Sub (R.Tail Level.Sums)
+    ∷ Sub (R.Tail Level.Shifts) ∷ [])
+    ∷ (Mark (C.Operator Level.Sums) (Over N.Binary) ∷ Sub (R.Operand Level.Products) ∷ Act Into
+    ∷ Act End ∷ Sub (R.Tail Level.Sums) ∷ Sub (R.Tail Level.Shifts) ∷ [])
     ∷ (Mark (C.Operator Level.Shifts) (Over N.Binary) ∷ Sub (R.Operand Level.Sums) ∷ Act Into ∷ Act End ∷ Sub (R.Tail Level.Shifts) ∷ []) ∷ []
 
 -- the classes of tokens with which each of them is taken; none says that it is taken otherwise
@@ -375,7 +386,9 @@ guards R.ReturnRest = (C.Sign S.Semicolon ∷ []) ∷ [] ∷ []
 guards R.ElseTail = (C.Word W.Else ∷ []) ∷ [] ∷ []
 guards R.ElseRest = (C.Word W.If ∷ []) ∷ [] ∷ []
 guards R.Body = (C.Sign S.OpenBrace ∷ []) ∷ (C.Word W.Return ∷ []) ∷ [] ∷ []
-guards R.First = (C.TypeWord ∷ []) ∷ (C.NameBut W.Memory ∷ []) ∷ (C.Word W.Memory ∷ []) ∷ (C.Operator Level.Prefixes ∷ C.Literal ∷ C.ValueWord ∷ C.Sign S.Open ∷ C.Word W.New ∷ []) ∷ [] ∷ []
+guards R.First = (C.TypeWord ∷ []) ∷ (C.NameBut W.Memory ∷ []) ∷ (C.Word W.Memory ∷ [])
+    ∷ (C.Operator Level.Prefixes ∷ C.Literal ∷ C.ValueWord ∷ C.Sign S.Open ∷ C.Word W.New ∷ [])
+    ∷ [] ∷ []
 guards R.Test = (C.Operator Level.Prefixes ∷ C.Literal ∷ C.ValueWord ∷ C.Name ∷ C.Sign S.Open ∷ C.Word W.New ∷ []) ∷ [] ∷ []
 guards R.Step = (C.Name ∷ C.Operator Level.Prefixes ∷ C.Literal ∷ C.ValueWord ∷ C.Sign S.Open ∷ C.Word W.New ∷ []) ∷ [] ∷ []
 guards (R.MemoryThen Site.Alone) = (C.Name ∷ []) ∷ (C.Sign S.OpenBracket ∷ []) ∷ (C.Sign S.Open ∷ []) ∷ (C.Sign S.Less ∷ []) ∷ [] ∷ []

@@ -33,7 +33,8 @@ pub record ClassTree : Type 0 where
 abbrev mutual
   -- the node n is the root of the tree; its children have smaller numbers
   pub IsAt : List Cell → ℕ → Tree → Type 0
-  IsAt nodes n (Node k w s children) = (cell : Cell) × (slice_get nodes n ≡ Some cell) × (cell.kind ≡ k) × (cell.word ≡ w) × (cell.span ≡ s) × AreAt nodes n cell.children children
+  IsAt nodes n (Node k w s children) = (cell : Cell) × (slice_get nodes n ≡ Some cell)
+      × (cell.kind ≡ k) × (cell.word ≡ w) × (cell.span ≡ s) × AreAt nodes n cell.children children
 
   pub AreAt : List Cell → ℕ → List ℕ → Trees → Type 0
   AreAt nodes top numbers Nil = numbers ≡ []

@@ -65,7 +65,8 @@ pub fn push_class_name<'a>(
     stack: &mut Vec<Symbol<'a>>,
     next: Option<Placed<'a>>,
 ) -> Result<bool, NoMemory>
-    ensures { IfOk result (λ taken. IsExpanded (views.Call views.ClassName) (option_map placed_view next.entry) (todo stack.old.items) (todo stack.new.items) taken) }
+    ensures { IfOk result (λ taken. IsExpanded (views.Call views.ClassName)
+        (option_map placed_view next.entry) (todo stack.old.items) (todo stack.new.items) taken) }
 {
     let Some(name) = next_name(next) else {
         return Ok(false)
@@ -104,7 +105,8 @@ pub fn push_first_param<'a>(
     manager: bool,
     next: Option<Placed<'a>>,
 ) -> Result<bool, NoMemory>
-    ensures { IfOk result (λ taken. IsExpanded (views.Call (views.FirstParam manager)) (option_map placed_view next.entry) (todo stack.old.items) (todo stack.new.items) taken) }
+    ensures { IfOk result (λ taken. IsExpanded (views.Call (views.FirstParam manager))
+        (option_map placed_view next.entry) (todo stack.old.items) (todo stack.new.items) taken) }
 {
     let Some(name) = next_name(next) else {
         return Ok(false)
@@ -140,7 +142,8 @@ pub fn push_parent<'a>(
     class: &'a [u8],
     next: Option<Placed<'a>>,
 ) -> Result<bool, NoMemory>
-    ensures { IfOk result (λ taken. IsExpanded (views.Call (views.Parent class.now)) (option_map placed_view next.entry) (todo stack.old.items) (todo stack.new.items) taken) }
+    ensures { IfOk result (λ taken. IsExpanded (views.Call (views.Parent class.now))
+        (option_map placed_view next.entry) (todo stack.old.items) (todo stack.new.items) taken) }
 {
     let kind = next_kind(next);
     if admits(&[TokenClass::Word(Word::Kernel)], kind) {

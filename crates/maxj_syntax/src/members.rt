@@ -38,7 +38,9 @@ pub fn push_member<'a>(
     inside: Inside<'a>,
     next: Option<Placed<'a>>,
 ) -> Result<bool, NoMemory>
-    ensures { IfOk result (λ taken. IsExpanded (views.Call (views.Members (inside_view inside.entry))) (option_map placed_view next.entry) (todo stack.old.items) (todo stack.new.items) taken) }
+    ensures { IfOk result (λ taken. IsExpanded (views.Call
+        (views.Members (inside_view inside.entry))) (option_map placed_view next.entry)
+        (todo stack.old.items) (todo stack.new.items) taken) }
 {
     let begins = [
         TokenClass::Modifier,
@@ -143,7 +145,9 @@ pub fn push_head<'a>(
     inside: Inside<'a>,
     next: Option<Placed<'a>>,
 ) -> Result<bool, NoMemory>
-    ensures { IfOk result (λ taken. IsExpanded (views.Call (views.Head (inside_view inside.entry))) (option_map placed_view next.entry) (todo stack.old.items) (todo stack.new.items) taken) }
+    ensures { IfOk result (λ taken. IsExpanded (views.Call
+        (views.Head (inside_view inside.entry))) (option_map placed_view next.entry)
+        (todo stack.old.items) (todo stack.new.items) taken) }
 {
     if let Some(name) = next_name(next) {
         put_name(stack, inside, name, is_own(inside, name), is_memory(name))?;
@@ -229,7 +233,9 @@ pub fn push_after<'a>(
     memory: bool,
     next: Option<Placed<'a>>,
 ) -> Result<bool, NoMemory>
-    ensures { IfOk result (λ taken. IsExpanded (views.Call (views.After (inside_view inside.entry) own memory)) (option_map placed_view next.entry) (todo stack.old.items) (todo stack.new.items) taken) }
+    ensures { IfOk result (λ taken. IsExpanded (views.Call
+        (views.After (inside_view inside.entry) own memory)) (option_map placed_view next.entry)
+        (todo stack.old.items) (todo stack.new.items) taken) }
 {
     let kind = next_kind(next);
     if admits_if(own, &[TokenClass::Sign(Sign::Open)], kind) {

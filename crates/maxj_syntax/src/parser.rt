@@ -9,7 +9,9 @@ ghost use Rattle.maxj_syntax.specs.Symbols.{symbol_view, named_view};
 ghost use Rattle.maxj_syntax.specs.Productions.{is_name};
 ghost use Rattle.maxj_syntax.specs.TokenClasses.{class_has};
 ghost use Rattle.maxj_syntax.specs.Choosing.{kind_at};
-ghost use Rattle.maxj_syntax.specs.Building.{todo, IsExpanded, IsChosen, IsRule, IsTaken, IsRefused, token_of_word, Reached, Settles, EndsIn, IsTheFile, IsTheFileOf, FailsToParse};
+ghost use Rattle.maxj_syntax.specs.Building.{todo, IsExpanded, IsChosen, IsRule, IsTaken};
+ghost use Rattle.maxj_syntax.specs.Building.{IsRefused, token_of_word, Reached, Settles, EndsIn};
+ghost use Rattle.maxj_syntax.specs.Building.{IsTheFile, IsTheFileOf, FailsToParse};
 ghost use Rattle.maxj_syntax.specs.Cells.{cells_of};
 ghost use Rattle.maxj_syntax.specs.Plain.{Ranged, SettlesRanged};
 ghost use Rattle.maxj_syntax.specs.Ranges.{AreInRange};
@@ -53,7 +55,8 @@ fn push_named<'a>(
     named: Named<'a>,
     next: Option<Placed<'a>>,
 ) -> Result<bool, NoMemory>
-    ensures { IfOk result (λ taken. IsExpanded (views.Call (named_view named.entry)) (option_map placed_view next.entry) (todo stack.old.items) (todo stack.new.items) taken) }
+    ensures { IfOk result (λ taken. IsExpanded (views.Call (named_view named.entry))
+        (option_map placed_view next.entry) (todo stack.old.items) (todo stack.new.items) taken) }
 {
     match named {
         Named::Parent(class) => push_parent(stack, class, next),
@@ -88,7 +91,9 @@ fn expand<'a>(
     kind: Option<Kind>,
 ) -> Result<bool, NoMemory>
     requires { kind ≡ kind_at (option_map placed_view next) }
-    ensures { IfOk result (λ taken. IsRule (symbol_view rule.entry) → IsExpanded (symbol_view rule.entry) (option_map placed_view next.entry) (todo stack.old.items) (todo stack.new.items) taken) }
+    ensures { IfOk result (λ taken. IsRule (symbol_view rule.entry)
+        → IsExpanded (symbol_view rule.entry) (option_map placed_view next.entry)
+        (todo stack.old.items) (todo stack.new.items) taken) }
 {
     match rule {
         Symbol::Fixed(Fixed::Sub(rule)) => push_choice(stack, rule, kind),

@@ -239,12 +239,19 @@ fn statements_have_trees(rt: HostRuntime) {
 fn sources_have_classes(rt: HostRuntime) {
     let cases: [(&[u8], &[u8]); 6] = [
         (
-            b"package a.b;import static a.*;import b;public final class K extends Kernel{protected K(KernelParameters p,final int[] n,Memory<DFEVar> m){super(p);x=1;}}",
+            b"package a.b;import static a.*;import b;public final class K extends \
+                Kernel{protected K(KernelParameters p,final int[] n,Memory<DFEVar> \
+                m){super(p);x=1;}}",
             b"(class K (ctor K (param p (type KernelParameters)) (param n (array (type int))) (param m (type Memory)) (block (set = (name x) (whole 1)))))",
         ),
         (
-            b"class L extends Kernel{L(KernelParameters p){super(p);}}class M extends CustomManager{int a=1;M(final EngineParameters e){super(e);}K f(){return new K();}public static void main(String[] s){}}",
-            b"(class L (ctor L (param p (type KernelParameters)) (block)))(class M (field a (type int) (whole 1)) (ctor M (param e (type EngineParameters)) (block)) (method f (type K) (block (return (new K)))) (method main (type void) (param s (array (type String))) (block)))",
+            b"class L extends Kernel{L(KernelParameters p){super(p);}}class M \
+                extends CustomManager{int a=1;M(final EngineParameters e){super(e)\
+                ;}K f(){return new K();}public static void main(String[] s){}}",
+            b"(class L (ctor L (param p (type KernelParameters)) (block)))(class \
+                M (field a (type int) (whole 1)) (ctor M (param e (type EngineParameters)\
+                ) (block)) (method f (type K) (block (return (new K)))) (method \
+                main (type void) (param s (array (type String))) (block)))",
         ),
         (
             b"class Memory extends Kernel{Memory x;Memory<DFEVar>[] m;Memory(KernelParameters p){super(p);}}",
@@ -252,7 +259,9 @@ fn sources_have_classes(rt: HostRuntime) {
         ),
         (
             b"class A extends Kernel{A(KernelParameters a){super(a);}}class B extends CustomManager{B(EngineParameters b){super(b);}B[] c(B b){}}",
-            b"(class A (ctor A (param a (type KernelParameters)) (block)))(class B (ctor B (param b (type EngineParameters)) (block)) (method c (array (type B)) (param b (type B)) (block)))",
+            b"(class A (ctor A (param a (type KernelParameters)) (block)))(class \
+                B (ctor B (param b (type EngineParameters)) (block)) (method c (array \
+                (type B)) (param b (type B)) (block)))",
         ),
         (
             b"class Kernel extends Kernel{Kernel(KernelParameters Kernel){super(Kernel);}}",
@@ -260,7 +269,10 @@ fn sources_have_classes(rt: HostRuntime) {
         ),
         (
             b"class K extends Kernel{K k;K(KernelParameters p){super(p);for(int i=0;;){}}void g(int a,K b){}}",
-            b"(class K (field k (type K)) (ctor K (param p (type KernelParameters)) (block (for (local i (type int) (whole 0)) (empty) (empty) (block)))) (method g (type void) (param a (type int)) (param b (type K)) (block)))",
+            b"(class K (field k (type K)) (ctor K (param p (type KernelParameters)\
+                ) (block (for (local i (type int) (whole 0)) (empty) (empty) (block)\
+                ))) (method g (type void) (param a (type int)) (param b (type K)\
+                ) (block)))",
         ),
     ];
     for (text, wanted) in cases {
@@ -278,8 +290,11 @@ fn trees_have_spans(rt: HostRuntime) {
         b"final class K extends Kernel{final int a=(1+x)*2;K(KernelParameters p){super(p);for(;;)y;Memory<DFEVar> m;}}";
     let short: &[u8] =
         b"class K extends Kernel{K(KernelParameters p){super(p);for(;;)y();Memory<DFEVar> m;z=(1+x)*2;}}";
-    let wanted: &[u8] =
-        b"(class K 0-94 (ctor K 23-93 (param p 25-43 (type KernelParameters 25-41)) (block 44-93 (for 54-65 (empty 58-58) (empty 59-59) (empty 60-60) (run 61-64 (call y 61-64))) (local m 65-82 (type Memory 65-79)) (set = 82-91 (name z 82-83) (op * 84-91 (op + 85-88 (whole 1 85-86) (name x 87-88)) (whole 2 90-91))))))";
+    let wanted: &[u8] = b"(class K 0-94 (ctor K 23-93 (param p 25-43 (type KernelParameters 25-41)\
+            ) (block 44-93 (for 54-65 (empty 58-58) (empty 59-59) (empty 60-60) \
+            (run 61-64 (call y 61-64))) (local m 65-82 (type Memory 65-79)) (set \
+            = 82-91 (name z 82-83) (op * 84-91 (op + 85-88 (whole 1 85-86) (name \
+            x 87-88)) (whole 2 90-91))))))";
     match read(rt.alloc(), source, true) {
         Outcome::Misplaced(place) => assert_eq!(rt; place, 88),
         _ => assert!(rt; false),

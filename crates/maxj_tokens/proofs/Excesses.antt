@@ -1,5 +1,7 @@
 -- Signs that are open, and tokens behind the last `;`, `{` or `}`.
-use Rattle.std.proofs.Common.{◌≡◌, ◌∙◌, inl, inr, ℕ, zero, suc, ◌+◌, ◌-◌, ◌<◌, ◌≤◌, Bool, true, false, List, [], ◌∷◌, ◌++◌, Option, Some, None, length, slice_get, take, refl, sym, ap, subst, append_assoc, arith, length-append}
+use Rattle.std.proofs.Common.{◌≡◌, ◌∙◌, inl, inr, ℕ, zero, suc, ◌+◌, ◌-◌, ◌<◌, ◌≤◌, Bool, true}
+use Rattle.std.proofs.Common.{false, List, [], ◌∷◌, ◌++◌, Option, Some, None, length, slice_get}
+use Rattle.std.proofs.Common.{take, refl, sym, ap, subst, append_assoc, arith, length-append}
 use Rattle.std.specs.Prelude.{if◌then◌else◌}
 use Rattle.std.specs.Int.{from_bool}
 use Rattle.std.specs.List.{list_any}
@@ -40,13 +42,19 @@ byte_fits true = omega arith
 byte_fits false = omega arith
 
 -- the token stands too deep exactly where the counts with it say so
-pub deep : (ts : List PlacedToken) (t : PlacedToken) (opened closed : ℕ) → opened ≡ count_of is_opening ts + from_bool (is_opening t) → closed ≡ count_of is_closing ts + from_bool (is_closing t) → 200 < opened - closed → IsTooDeep ts t
+pub deep : (ts : List PlacedToken) (t : PlacedToken) (opened closed : ℕ)
+    → opened ≡ count_of is_opening ts + from_bool (is_opening t)
+    → closed ≡ count_of is_closing ts + from_bool (is_closing t) → 200 < opened - closed
+    → IsTooDeep ts t
 deep ts t opened closed e f h =
     let o = count_more is_opening ts t in
     let c = count_more is_closing ts t in
     omega arith
 
-pub not_deep : (ts : List PlacedToken) (t : PlacedToken) (opened closed : ℕ) → opened ≡ count_of is_opening ts + from_bool (is_opening t) → closed ≡ count_of is_closing ts + from_bool (is_closing t) → opened - closed ≤ 200 → IsTooDeep ts t → ⊥
+pub not_deep : (ts : List PlacedToken) (t : PlacedToken) (opened closed : ℕ)
+    → opened ≡ count_of is_opening ts + from_bool (is_opening t)
+    → closed ≡ count_of is_closing ts + from_bool (is_closing t) → opened - closed ≤ 200
+    → IsTooDeep ts t → ⊥
 not_deep ts t opened closed e f h d =
     let o = count_more is_opening ts t in
     let c = count_more is_closing ts t in
@@ -165,7 +173,9 @@ deep_at ts i t opened closed m n behind lt c e f h =
     first_at IsExcess ts i t lt c.none (inl (deep us t (opened + m) (closed + n) o q h))
 
 -- the token stands too far
-pub far_at : (ts : List PlacedToken) (i : ℕ) (t : PlacedToken) (opened closed : ℕ) (behind : Option ℕ) (n : ℕ) → slice_get ts i ≡ Some t → IsCounted (take i ts) opened closed behind → behind ≡ Some n → 2000 < n → is_break t ≡ true
+pub far_at : (ts : List PlacedToken) (i : ℕ) (t : PlacedToken) (opened closed : ℕ)
+    (behind : Option ℕ) (n : ℕ) → slice_get ts i ≡ Some t
+    → IsCounted (take i ts) opened closed behind → behind ≡ Some n → 2000 < n → is_break t ≡ true
     → IsFirst IsExcess ts t.place
 far_at ts i t opened closed behind n lt c e h f =
     let us = take i ts in

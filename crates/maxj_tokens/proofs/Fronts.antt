@@ -17,7 +17,9 @@ use Rattle.maxj_tokens.proofs.Words.{start_is_name, token_of_word, no_longer_wor
 
 -- words
 
-pub word_taken : (text front rest : List ℕ) → BeginsNoGap text → starts_name text ≡ true → text ≡ front ++ rest → list_all is_name_byte front ≡ true → BeginsOutside Word rest → Takes text (Token.Word front) rest
+pub word_taken : (text front rest : List ℕ) → BeginsNoGap text → starts_name text ≡ true
+    → text ≡ front ++ rest → list_all is_name_byte front ≡ true → BeginsOutside Word rest
+    → Takes text (Token.Word front) rest
 word_taken text [] [] gap h e a o = absurd (clash (sym (ap starts_name e) ∙ h) refl)
 word_taken text [] (y ∷ rest) gap h e a o = absurd (clash (start_is_name y (sym (ap starts_name e) ∙ h)) o)
 word_taken text (b ∷ bs) rest gap h e a o =
@@ -29,7 +31,9 @@ word_taken text (b ∷ bs) rest gap h e a o =
 
 -- strings
 
-pub string_taken : (text inner front behind rest : List ℕ) → BeginsNoGap text → text ≡ 34 ∷ inner → inner ≡ front ++ behind → list_all is_string_byte front ≡ true → behind ≡ 34 ∷ rest → Takes text (Token.Str (take (length text - length rest) text)) rest
+pub string_taken : (text inner front behind rest : List ℕ) → BeginsNoGap text → text ≡ 34
+    ∷ inner → inner ≡ front ++ behind → list_all is_string_byte front ≡ true → behind ≡ 34
+    ∷ rest → Takes text (Token.Str (take (length text - length rest) text)) rest
 string_taken text inner front behind rest gap e f all g =
     let whole : text ≡ (34 ∷ front ++ 34 ∷ []) ++ rest = e ∙ ap (λ l. 34 ∷ l) (f ∙ ap (λ l. front ++ l) g ∙ sym (append_assoc front (34 ∷ []) rest)) in
     let same = front_is text (34 ∷ front ++ 34 ∷ []) rest whole in
@@ -53,7 +57,9 @@ same_front (x ∷ c) d (y ∷ front) behind e a b o =
     same_front c d front behind tail (and_true (is_string_byte x) _ a).1 (and_true (is_string_byte y) _ b).1 o
 
 -- a text that begins with a quote begins with a string or with no token
-quoted : (text : List ℕ) → starts_string text ≡ true → (word rest : List ℕ) (t : Token) → text ≡ word ++ rest → token_of word ≡ Some t → (c : List ℕ) × (text ≡ 34 ∷ c ++ 34 ∷ rest) × (list_all is_string_byte c ≡ true)
+quoted : (text : List ℕ) → starts_string text ≡ true → (word rest : List ℕ) (t : Token)
+    → text ≡ word ++ rest → token_of word ≡ Some t → (c : List ℕ) × (text ≡ 34 ∷ c ++ 34 ∷ rest)
+    × (list_all is_string_byte c ≡ true)
 quoted text h [] rest t e is = absurd (cc)
 quoted text h (b ∷ bs) rest t e is =
     let quote : b ≡ 34 = eq_same b 34 (sym (ap starts_string e) ∙ h) in
@@ -61,7 +67,10 @@ quoted text h (b ∷ bs) rest t e is =
     let (c, f, all) = string_is (34 ∷ bs) (string_token bs some) in
     (c, e ∙ ap (λ x. x ∷ bs ++ rest) quote ∙ ap (λ l. l ++ rest) f ∙ ap (λ l. 34 ∷ l) (append_assoc c (34 ∷ []) rest), all)
 
-pub no_string_closed : (text inner front behind : List ℕ) → starts_string text ≡ true → text ≡ 34 ∷ inner → inner ≡ front ++ behind → list_all is_string_byte front ≡ true → BeginsOutside Quotable behind → ((rest : List ℕ) → behind ≡ 34 ∷ rest → ⊥) → BeginsNoToken text
+pub no_string_closed : (text inner front behind : List ℕ) → starts_string text ≡ true
+    → text ≡ 34 ∷ inner → inner ≡ front ++ behind → list_all is_string_byte front ≡ true
+    → BeginsOutside Quotable behind → ((rest : List ℕ) → behind ≡ 34 ∷ rest → ⊥)
+    → BeginsNoToken text
 no_string_closed text inner front behind h e f all o none word rest t g k =
     let (c, w, a) = quoted text h word rest t g k.is in
     let tail : c ++ 34 ∷ rest ≡ front ++ behind = (let q : inner ≡ c ++ 34 ∷ rest = cc in sym q ∙ f) in
@@ -211,7 +220,9 @@ two_taken text rest b c s gap three e is =
     apart : b ∷ c ∷ [] ≡ 47 ∷ [] → BeginsStar rest → ⊥
     apart e s = cc
 
-pub one_taken : (text rest : List ℕ) (b : ℕ) (s : Sign) → BeginsNoGap text → LacksSign 3 text → LacksSign 2 text → ((back : List ℕ) → text ≡ 47 ∷ 42 ∷ back → ⊥) → text ≡ b ∷ rest → sign_bytes s ≡ b ∷ [] → Takes text (Token.Sign (sign_bytes s)) rest
+pub one_taken : (text rest : List ℕ) (b : ℕ) (s : Sign) → BeginsNoGap text → LacksSign 3 text
+    → LacksSign 2 text → ((back : List ℕ) → text ≡ 47 ∷ 42 ∷ back → ⊥) → text ≡ b ∷ rest
+    → sign_bytes s ≡ b ∷ [] → Takes text (Token.Sign (sign_bytes s)) rest
 one_taken text rest b s gap three two comment e is =
     let h : is_sign (b ∷ []) ≡ true = sym (ap is_sign is) ∙ sign_view s in
     let o = sign_other b [] h in
@@ -246,7 +257,9 @@ no_two text none (b ∷ c ∷ d ∷ ds) back e n = absurd (omega arith)
 
 -- no token
 
-pub none_taken : (text : List ℕ) → starts_name text ≡ false → starts_number text ≡ false → starts_string text ≡ false → ((b : ℕ) (rest : List ℕ) → text ≡ b ∷ rest → is_sign (b ∷ []) ≡ false) → BeginsNoToken text
+pub none_taken : (text : List ℕ) → starts_name text ≡ false → starts_number text ≡ false
+    → starts_string text ≡ false → ((b : ℕ) (rest : List ℕ) → text ≡ b ∷ rest
+    → is_sign (b ∷ []) ≡ false) → BeginsNoToken text
 none_taken text n d q alone [] rest t e k = let is = k.is in absurd (cc)
 none_taken text n d q alone (b ∷ bs) rest t e k =
     let o : IsOther b = record { name = sym (ap starts_name e) ∙ n; digit = sym (ap starts_number e) ∙ d; quote = sym (ap starts_string e) ∙ q } in

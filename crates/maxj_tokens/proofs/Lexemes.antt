@@ -11,7 +11,9 @@ written_some : (u t : Token) → Some u ≡ Some t → written t ≡ written u
 written_some u t e = let f : u ≡ t = cc in sym (ap written f)
 
 chosen : (a b c d e : Bool) (w : List ℕ) (t : Token)
-    → (if a then Some (Token.Word w) else (if b then Some (Token.Whole w) else (if c then Some (Token.Decimal w) else (if d then Some (Token.Str w) else (if e then Some (Token.Sign w) else None))))) ≡ Some t → written t ≡ w
+    → (if a then Some (Token.Word w) else (if b then Some (Token.Whole w) else
+    (if c then Some (Token.Decimal w) else (if d then Some (Token.Str w) else
+    (if e then Some (Token.Sign w) else None))))) ≡ Some t → written t ≡ w
 chosen true b c d e w t h = written_some (Token.Word w) t h
 chosen false true c d e w t h = written_some (Token.Whole w) t h
 chosen false false true d e w t h = written_some (Token.Decimal w) t h

@@ -1,5 +1,7 @@
 -- Integers and decimals at the front of a text.
-use Rattle.std.proofs.Common.{◌≡◌, ◌∙◌, ◌⊎◌, inl, inr, ℕ, ◌==◌, Bool, true, false, cond, not, ◌||◌, List, [], ◌∷◌, ◌++◌, Some, None, IsSome, length, take, ◌-◌, refl, sym, ap, subst, append_assoc, arith}
+use Rattle.std.proofs.Common.{◌≡◌, ◌∙◌, ◌⊎◌, inl, inr, ℕ, ◌==◌, Bool, true, false, cond, not, ◌||◌}
+use Rattle.std.proofs.Common.{List, [], ◌∷◌, ◌++◌, Some, None, IsSome, length, take, ◌-◌, refl, sym}
+use Rattle.std.proofs.Common.{ap, subst, append_assoc, arith}
 use Rattle.std.specs.List.{list_all, list_any, before_first, after_first}
 use Rattle.std.specs.Str.{bytes_eq}
 use Rattle.grammar.specs.Bytes.{is_digit, is_hex}
@@ -9,12 +11,17 @@ use Rattle.text_scan.specs.Classes.{is_in, BeginsOutside}
 use Rattle.maxj_tokens.specs.Reading.{Takes, TakesPlain, LacksDecimal, BeginsNoSuffix, starts_number, is_plain}
 use Rattle.text_scan.specs.declared.bytes.ByteClass.{ByteClass}
 use Rattle.text_scan.specs.declared.bytes.ByteClass.TheVariants.{Digit, Hex}
-use Rattle.text_scan.proofs.ByteTests.{and_true, both_true, or_true, or_left, or_right, clash, not_true, true_or_false, none_some, bytes_same, not_all, eq_same, before_here, before_later, after_later, parts_at}
+use Rattle.text_scan.proofs.ByteTests.{and_true, both_true, or_true, or_left, or_right, clash}
+use Rattle.text_scan.proofs.ByteTests.{not_true, true_or_false, none_some, bytes_same, not_all}
+use Rattle.text_scan.proofs.ByteTests.{eq_same, before_here, before_later, after_later, parts_at}
 use Rattle.maxj_tokens.proofs.Words.{not_word, no_string, no_sign, parted, all_are, all_digits, integer_bytes, digit_no_dot, are_digits_all}
 use Rattle.text_scan.proofs.Fronts.{taken, front_is}
 
 -- bytes of a class, and then one that is none: all of them are the front
-pub same_split : (class : ByteClass) (x : ℕ) → is_in class x ≡ false → (c d front behind : List ℕ) → c ++ x ∷ d ≡ front ++ behind → list_all (is_in class) c ≡ true → list_all (is_in class) front ≡ true → BeginsOutside class behind → behind ≡ x ∷ d
+pub same_split : (class : ByteClass) (x : ℕ) → is_in class x ≡ false
+    → (c d front behind : List ℕ) → c ++ x ∷ d ≡ front ++ behind
+    → list_all (is_in class) c ≡ true → list_all (is_in class) front ≡ true
+    → BeginsOutside class behind → behind ≡ x ∷ d
 same_split class x h [] d [] behind e a b o = sym e
 same_split class x h [] d (y ∷ front) behind e a b o =
     let first : x ≡ y = cc in
@@ -66,7 +73,10 @@ decimal_word d e a b n m =
     both_true _ _ (ap are_digits r.before ∙ digits_are d a n) (ap are_digits r.after ∙ digits_are e b m)
 
 -- where digits, a dot and digits must stand
-decimal_split : (text front behind : List ℕ) → text ≡ front ++ behind → list_all is_digit front ≡ true → BeginsOutside Digit behind → (word back : List ℕ) → text ≡ word ++ back → is_decimal word ≡ true → (e : List ℕ) × (behind ≡ 46 ∷ e ++ back) × (are_digits e ≡ true)
+decimal_split : (text front behind : List ℕ) → text ≡ front ++ behind
+    → list_all is_digit front ≡ true → BeginsOutside Digit behind → (word back : List ℕ)
+    → text ≡ word ++ back → is_decimal word ≡ true → (e : List ℕ) × (behind ≡ 46 ∷ e ++ back)
+    × (are_digits e ≡ true)
 decimal_split text front behind s a o word back f t =
     let i = decimal_is word t in
     let whole : text ≡ i.whole ++ (46 ∷ i.part ++ back) = f ∙ ap (λ l. l ++ back) i.split ∙ append_assoc i.whole (46 ∷ i.part) back in
@@ -75,7 +85,10 @@ decimal_split text front behind s a o word back f t =
 pub no_dot : (text front behind : List ℕ) → text ≡ front ++ behind → list_all is_digit front ≡ true → BeginsOutside Digit behind → ((rest : List ℕ) → behind ≡ 46 ∷ rest → ⊥) → LacksDecimal text
 no_dot text front behind s a o none word back f = not_true _ (λ t. let (e, g, _) = decimal_split text front behind s a o word back f t in none (e ++ back) g)
 
-pub no_part : (text front behind inner part rest : List ℕ) → text ≡ front ++ behind → list_all is_digit front ≡ true → BeginsOutside Digit behind → behind ≡ 46 ∷ inner → inner ≡ part ++ rest → (length part == 0) ≡ true → BeginsOutside Digit rest → LacksDecimal text
+pub no_part : (text front behind inner part rest : List ℕ) → text ≡ front ++ behind
+    → list_all is_digit front ≡ true → BeginsOutside Digit behind → behind ≡ 46 ∷ inner
+    → inner ≡ part ++ rest → (length part == 0) ≡ true → BeginsOutside Digit rest
+    → LacksDecimal text
 no_part text front behind inner (x ∷ part) rest s a o e f n q = absurd (clash n (some_length x part))
 no_part text front behind inner [] rest s a o e f n q = λ word back g. not_true _ (λ t.
     let (p, h, d) = decimal_split text front behind s a o word back g t in
@@ -100,7 +113,9 @@ decimal_more d e c cs a h = not_true _ (λ t.
     let r = parts_at is_dot is_digit digit_no_dot d 46 (e ++ c ∷ cs) a refl in
     clash (are_digits_all (e ++ c ∷ cs) (sym (ap are_digits r.after) ∙ (and_true _ _ t).1)) (not_all is_digit e c cs h))
 
-pub decimal_taken : (text word rest : List ℕ) → BeginsNoGap text → text ≡ word ++ rest → is_decimal word ≡ true → BeginsOutside Digit rest → Takes text (Token.Decimal (take (length text - length rest) text)) rest
+pub decimal_taken : (text word rest : List ℕ) → BeginsNoGap text → text ≡ word ++ rest
+    → is_decimal word ≡ true → BeginsOutside Digit rest
+    → Takes text (Token.Decimal (take (length text - length rest) text)) rest
 decimal_taken text word rest gap e h o = subst (λ l. Takes text (Token.Decimal l) rest) (sym (front_is text word rest e)) (by (decimal_is word h))
   where
     whole : (d p : List ℕ) → word ≡ d ++ 46 ∷ p → are_digits d ≡ true → Takes text (Token.Decimal word) rest
@@ -114,7 +129,12 @@ decimal_taken text word rest gap e h o = subst (λ l. Takes text (Token.Decimal 
         longer : is_digit b ≡ true → (c : ℕ) (cs back : List ℕ) → rest ≡ c ∷ cs ++ back → IsSome (token_of ((b ∷ d ++ 46 ∷ p) ++ c ∷ cs)) → ⊥
         longer digit c cs back f k =
             let no : is_digit c ≡ false = subst (BeginsOutside Digit) f o in
-            none_some _ (digit_alone b (d ++ (46 ∷ p ++ c ∷ cs)) digit ∙ (rw (no_dot_inside (b ∷ d) (p ++ c ∷ cs), decimal_more (b ∷ d) p c cs a no) refl)) (subst (λ l. IsSome (token_of (b ∷ l))) (append_assoc d (46 ∷ p) (c ∷ cs)) k)
+            none_some _ (digit_alone b (d ++ (46 ∷ p ++ c
+            ∷ cs)) digit ∙ (rw (
+              no_dot_inside (b ∷ d) (p ++ c ∷ cs),
+              decimal_more (b ∷ d) p c cs a no,
+            ) refl)) (subst (λ l. IsSome (token_of (b
+            ∷ l))) (append_assoc d (46 ∷ p) (c ∷ cs)) k)
 
     by : IsDecimal word → Takes text (Token.Decimal word) rest
     by i = whole i.whole i.part i.split i.digits
@@ -168,7 +188,11 @@ zero_taken text rest e none = record { word = 48 ∷ []; split = e; is = refl; l
       | inr d ↦ absurd (clash d (none (48 ∷ c ∷ cs) back (e ∙ ap (λ l. 48 ∷ l) f)))
     ]
 
-pub digits_taken : (text front rest : List ℕ) → starts_number text ≡ true → ((rest : List ℕ) → text ≡ 48 ∷ rest → ⊥) → text ≡ front ++ rest → list_all is_digit front ≡ true → BeginsOutside Digit rest → ((word back : List ℕ) → text ≡ word ++ back → is_hex_integer word ≡ false) → TakesPlain text rest
+pub digits_taken : (text front rest : List ℕ) → starts_number text ≡ true
+    → ((rest : List ℕ) → text ≡ 48 ∷ rest → ⊥) → text ≡ front ++ rest
+    → list_all is_digit front ≡ true → BeginsOutside Digit rest
+    → ((word back : List ℕ) → text ≡ word ++ back → is_hex_integer word ≡ false)
+    → TakesPlain text rest
 digits_taken text [] [] h zero e a o none = absurd (clash (sym (ap starts_number e) ∙ h) refl)
 digits_taken text [] (y ∷ rest) h zero e a o none = absurd (clash (sym (ap starts_number e) ∙ h) o)
 digits_taken text (b ∷ bs) rest h zero e a o none = record { word = b ∷ bs; split = e; is = or_left _ _ is; longest = longest }
@@ -276,7 +300,9 @@ number_of w v e u s i =
 
 pub whole_taken : (text rest : List ℕ) → BeginsNoGap text → LacksDecimal text → TakesPlain text rest → BeginsNoSuffix rest → Takes text (Token.Whole (take (length text - length rest) text)) rest
 whole_taken text rest gap lacks p none =
-    subst (λ l. Takes text (Token.Whole l) rest) (sym (front_is text p.word rest p.split)) (taken p.word rest p.split gap (number_of p.word p.word p.is [] (sym (nil p.word)) (plain_integer p.word p.is)) longer tt)
+    subst (λ l. Takes text (Token.Whole l) rest) (sym (front_is text p.word rest p.split))
+    (taken p.word rest p.split gap (number_of p.word p.word p.is [] (sym (nil p.word))
+    (plain_integer p.word p.is)) longer tt)
   where
     nil : (xs : List ℕ) → xs ++ [] ≡ xs
     nil [] = refl
@@ -295,7 +321,9 @@ whole_taken text rest gap lacks p none =
         ]) in
         none_some _ (no_number p.word c cs p.is integer (lacks (p.word ++ c ∷ cs) back (p.split ∙ ap (λ l. p.word ++ l) f ∙ sym (append_assoc p.word (c ∷ cs) back)))) s
 
-pub suffix_taken : (text mid rest : List ℕ) (x : ℕ) → BeginsNoGap text → LacksDecimal text → TakesPlain text mid → mid ≡ x ∷ rest → is_suffix x ≡ true → Takes text (Token.Whole (take (length text - length rest) text)) rest
+pub suffix_taken : (text mid rest : List ℕ) (x : ℕ) → BeginsNoGap text → LacksDecimal text
+    → TakesPlain text mid → mid ≡ x ∷ rest → is_suffix x ≡ true
+    → Takes text (Token.Whole (take (length text - length rest) text)) rest
 suffix_taken text mid rest x gap lacks p m h =
     let whole : text ≡ (p.word ++ x ∷ []) ++ rest = p.split ∙ ap (λ l. p.word ++ l) m ∙ sym (append_assoc p.word (x ∷ []) rest) in
     subst (λ l. Takes text (Token.Whole l) rest) (sym (front_is text (p.word ++ x ∷ []) rest whole))

@@ -25,7 +25,9 @@ faulty : {k : ℕ} {rest left : List ℕ} {vs : List PlacedToken} → ReadsAt k 
 faulty places.ReadsAt.end (IsFault.stuck s) = s.some refl
 faulty (places.ReadsAt.skip {rest = rest} gap g r) (IsFault.stuck s) = s.no_gap gap rest refl g
 faulty (places.ReadsAt.token {rest = rest} {t = t} word n r) (IsFault.stuck s) = s.no_token word rest t refl (opened n)
-faulty places.ReadsAt.end (IsFault.followed {rest = left} number f) = let e = nil_front number left f.split in let is = f.next.is in let g : token_of [] ≡ Some f.token = ap token_of (sym e) ∙ is in absurd (cc)
+faulty places.ReadsAt.end (IsFault.followed
+    {rest = left} number f) = let e = nil_front number left f.split in let is = f.next.is in let
+    g : token_of [] ≡ Some f.token = ap token_of (sym e) ∙ is in absurd (cc)
 faulty (places.ReadsAt.skip {rest = rest} gap g r) (IsFault.followed number f) = f.next.begins gap rest (sym f.split) g
 faulty (places.ReadsAt.token {rest = rest} {t = t} word n r) (IsFault.followed number f) =
     let same = same_next Gaps token_of OpensNone (opened n) f.next f.split in
@@ -54,7 +56,9 @@ at_one_place {behind = behind} e (IsFault.stuck s) (IsFault.followed number f) =
 at_one_place {left = left} e (IsFault.followed number f) (IsFault.stuck t) = absurd (t.no_token number left f.token (sym e ∙ f.split) f.next)
 at_one_place e (IsFault.followed number f) (IsFault.followed other g) = sym (same_next Gaps token_of OpensNone f.next g.next (sym f.split ∙ e ∙ g.split)).1
 
-one_fault_behind : {xs ys rest back left behind : List ℕ} {ts us : List Token} → Reads Gaps token_of Apart xs ts rest → Reads Gaps token_of Apart ys us back → xs ≡ ys → IsFault rest left → IsFault back behind → behind ≡ left
+one_fault_behind : {xs ys rest back left behind : List ℕ} {ts us : List Token}
+    → Reads Gaps token_of Apart xs ts rest → Reads Gaps token_of Apart ys us back → xs ≡ ys
+    → IsFault rest left → IsFault back behind → behind ≡ left
 one_fault_behind Reads.end Reads.end e f g = at_one_place e f g
 one_fault_behind Reads.end (Reads.skip {rest = rest} gap k s) e f g = absurd (fault_gap f gap rest e k)
 one_fault_behind Reads.end (Reads.token {rest = rest} {t = t} word n s) e f g = absurd (fault_token f word rest t e n)

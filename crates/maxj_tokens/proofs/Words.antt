@@ -4,8 +4,13 @@ use Rattle.std.specs.List.{list_all, list_any, before_first, after_first}
 use Rattle.std.specs.Str.{bytes_eq}
 use Rattle.std.proofs.lemmas.Bool.Decides.{nat_tests}
 use Rattle.grammar.specs.Bytes.{is_digit, is_letter, is_hex}
-use Rattle.maxj_tokens.specs.Tokens.{Token, is_name_start, is_name_byte, is_word, are_digits, is_decimal_integer, is_hex_integer, is_suffix, is_integer, is_dot, is_decimal, is_quote, is_string_byte, is_string, signs, is_sign, token_of}
-use Rattle.text_scan.proofs.ByteTests.{and_true, both_true, or_true, or_left, or_right, clash, not_true, true_or_false, eq_same, bytes_same, before_here, before_later, after_here, after_later, parts_at}
+use Rattle.maxj_tokens.specs.Tokens.{Token, is_name_start, is_name_byte, is_word, are_digits}
+use Rattle.maxj_tokens.specs.Tokens.{is_decimal_integer, is_hex_integer, is_suffix, is_integer}
+use Rattle.maxj_tokens.specs.Tokens.{is_dot, is_decimal, is_quote, is_string_byte, is_string, signs}
+use Rattle.maxj_tokens.specs.Tokens.{is_sign, token_of}
+use Rattle.text_scan.proofs.ByteTests.{and_true, both_true, or_true, or_left, or_right, clash}
+use Rattle.text_scan.proofs.ByteTests.{not_true, true_or_false, eq_same, bytes_same, before_here}
+use Rattle.text_scan.proofs.ByteTests.{before_later, after_here, after_later, parts_at}
 
 -- classes of bytes
 

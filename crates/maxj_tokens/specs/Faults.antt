@@ -17,15 +17,19 @@ pub record IsFirst (Faulty : List PlacedToken → PlacedToken → Type 0) (token
 
 -- no token is
 abbrev pub HasNone : (List PlacedToken → PlacedToken → Type 0) → List PlacedToken → Type 0
-HasNone Faulty tokens = (before : List PlacedToken) (token : PlacedToken) (behind : List PlacedToken) → tokens ≡ before ++ token ∷ behind → Faulty before token → ⊥
+HasNone Faulty tokens = (before : List PlacedToken) (token : PlacedToken)
+    (behind : List PlacedToken) → tokens ≡ before ++ token ∷ behind → Faulty before token → ⊥
 
 -- tokens out of profile
 
 -- the words of Java that no source uses
 abbrev pub foreign_words : List (List ℕ)
 foreign_words =
-    codes "break" ∷ codes "continue" ∷ codes "do" ∷ codes "switch" ∷ codes "case" ∷ codes "default" ∷ codes "try" ∷ codes "catch" ∷ codes "finally" ∷ codes "throw" ∷ codes "throws"
-    ∷ codes "interface" ∷ codes "enum" ∷ codes "implements" ∷ codes "abstract" ∷ codes "synchronized" ∷ codes "instanceof" ∷ codes "double" ∷ codes "float" ∷ codes "long"
+    codes "break" ∷ codes "continue" ∷ codes "do" ∷ codes "switch" ∷ codes "case"
+    ∷ codes "default" ∷ codes "try" ∷ codes "catch" ∷ codes "finally" ∷ codes "throw"
+    ∷ codes "throws"
+    ∷ codes "interface" ∷ codes "enum" ∷ codes "implements" ∷ codes "abstract"
+    ∷ codes "synchronized" ∷ codes "instanceof" ∷ codes "double" ∷ codes "float" ∷ codes "long"
     ∷ codes "byte" ∷ codes "short" ∷ codes "char" ∷ codes "null" ∷ codes "volatile" ∷ codes "native" ∷ codes "assert" ∷ codes "goto" ∷ []
 
 -- the number that an integer says

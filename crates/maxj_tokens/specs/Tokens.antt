@@ -54,7 +54,9 @@ is_suffix b = b == 76 || b == 108
 abbrev pub is_integer : List ℕ → Bool
 is_integer word =
     is_decimal_integer word || (is_hex_integer word
-    || ((is_decimal_integer (before_first is_suffix word) || is_hex_integer (before_first is_suffix word)) && (list_any is_suffix word && bytes_eq (after_first is_suffix word) [])))
+    || ((is_decimal_integer (before_first is_suffix word) || is_hex_integer
+    (before_first is_suffix word)) && (list_any is_suffix word
+    && bytes_eq (after_first is_suffix word) [])))
 
 abbrev pub is_dot : ℕ → Bool
 is_dot b = b == 46

@@ -45,32 +45,57 @@ abbrev pub outcome : Bool → ℕ → Outcome
 outcome done edges = record { done = done; edges = edges }
 
 -- the run that ended, in the words of the files
-run_to : {names : RunNames} {stalls : Answers} {held now : Held} {d : Design} {p : Plan} (o : Outcome) (said_before said_now : Option (List ℕ)) (line : List ℕ) → IsMade names held d p → IsSimulated stalls d p held now (Ok o) → IsSome held → said_now ≡ said_more said_before line → IsRunTo stalls names held now said_before said_now (end_of o) line
+run_to : {names : RunNames} {stalls : Answers} {held now : Held} {d : Design} {p : Plan}
+    (o : Outcome) (said_before said_now : Option (List ℕ)) (line : List ℕ)
+    → IsMade names held d p → IsSimulated stalls d p held now (Ok o) → IsSome held
+    → said_now ≡ said_more said_before line
+    → IsRunTo stalls names held now said_before said_now (end_of o) line
 run_to {stalls = stalls} {now = now} o before after line made sim told said =
     let l = loaded_of (made.loaded told) in
     record {
       loaded = l;
       small = small_ok l made sim;
-      finishes = of_loaded l made (λ (s : Setup) (outputs : List (Name × ℕ)). Finishes stalls s outputs now (end_of o)) (sim.tells made.can.is.top made.can.is.shape made.can.is.is_top made.can.is.is_run.has told);
+      finishes = of_loaded l made (λ (s : Setup) (outputs : List (Name
+          × ℕ)). Finishes stalls s outputs now (end_of o))
+          (sim.tells made.can.is.top made.can.is.shape made.can.is.is_top made.can.is.is_run.has
+          told);
       said = said;
     }
 
-done_so : {names : RunNames} {stalls : Answers} {held now : Held} {d : Design} {p : Plan} (done : Bool) (edges : ℕ) (r : Status) (before after : Option (List ℕ)) → IsMade names held d p → IsSimulated stalls d p held now (Ok (outcome done edges)) → IsEnded (outcome done edges) r → (r ≡ end_status (outcome done edges) → after ≡ said_more before (end_line (outcome done edges))) → r ≡ Done → IsSome held → IsRunDone stalls names held now before after
+done_so : {names : RunNames} {stalls : Answers} {held now : Held} {d : Design} {p : Plan}
+    (done : Bool) (edges : ℕ) (r : Status) (before after : Option (List ℕ))
+    → IsMade names held d p → IsSimulated stalls d p held now (Ok (outcome done edges))
+    → IsEnded (outcome done edges) r → (r ≡ end_status (outcome done edges)
+    → after ≡ said_more before (end_line (outcome done edges))) → r ≡ Done → IsSome held
+    → IsRunDone stalls names held now before after
 done_so true edges r before after made sim ended said e told = (edges, run_to (outcome true edges) before after _ made sim told (said e))
 done_so false edges r before after made sim (inl x) said e told = absurd (cc)
 done_so false edges r before after made sim (inr (inl x)) said e told = absurd (cc)
 done_so false edges r before after made sim (inr (inr x)) said e told = absurd (cc)
 
-pub run_done : {names : RunNames} {stalls : Answers} {held now : Held} {d : Design} {p : Plan} (o : Outcome) (r : Status) (before after : Option (List ℕ)) → IsMade names held d p → IsSimulated stalls d p held now (Ok o) → IsEnded o r → (r ≡ end_status o → after ≡ said_more before (end_line o)) → r ≡ Done → IsSome held → IsRunDone stalls names held now before after
+pub run_done : {names : RunNames} {stalls : Answers} {held now : Held} {d : Design} {p : Plan}
+    (o : Outcome) (r : Status) (before after : Option (List ℕ)) → IsMade names held d p
+    → IsSimulated stalls d p held now (Ok o) → IsEnded o r
+    → (r ≡ end_status o → after ≡ said_more before (end_line o)) → r ≡ Done → IsSome held
+    → IsRunDone stalls names held now before after
 run_done o r before after made sim ended said e told = done_so o.done o.edges r before after made sim ended said e told
 
-limited_so : {names : RunNames} {stalls : Answers} {held now : Held} {d : Design} {p : Plan} (done : Bool) (edges : ℕ) (r : Status) (before after : Option (List ℕ)) → IsMade names held d p → IsSimulated stalls d p held now (Ok (outcome done edges)) → IsEnded (outcome done edges) r → (r ≡ end_status (outcome done edges) → after ≡ said_more before (end_line (outcome done edges))) → r ≡ EdgeLimit → IsSome held → IsRunLimited stalls names held now before after
+limited_so : {names : RunNames} {stalls : Answers} {held now : Held} {d : Design} {p : Plan}
+    (done : Bool) (edges : ℕ) (r : Status) (before after : Option (List ℕ))
+    → IsMade names held d p → IsSimulated stalls d p held now (Ok (outcome done edges))
+    → IsEnded (outcome done edges) r → (r ≡ end_status (outcome done edges)
+    → after ≡ said_more before (end_line (outcome done edges))) → r ≡ EdgeLimit → IsSome held
+    → IsRunLimited stalls names held now before after
 limited_so false edges r before after made sim ended said e told = (edges, run_to (outcome false edges) before after _ made sim told (said e))
 limited_so true edges r before after made sim (inl x) said e told = absurd (cc)
 limited_so true edges r before after made sim (inr (inl x)) said e told = absurd (cc)
 limited_so true edges r before after made sim (inr (inr x)) said e told = absurd (cc)
 
-pub run_limited : {names : RunNames} {stalls : Answers} {held now : Held} {d : Design} {p : Plan} (o : Outcome) (r : Status) (before after : Option (List ℕ)) → IsMade names held d p → IsSimulated stalls d p held now (Ok o) → IsEnded o r → (r ≡ end_status o → after ≡ said_more before (end_line o)) → r ≡ EdgeLimit → IsSome held → IsRunLimited stalls names held now before after
+pub run_limited : {names : RunNames} {stalls : Answers} {held now : Held} {d : Design}
+    {p : Plan} (o : Outcome) (r : Status) (before after : Option (List ℕ))
+    → IsMade names held d p → IsSimulated stalls d p held now (Ok o) → IsEnded o r
+    → (r ≡ end_status o → after ≡ said_more before (end_line o)) → r ≡ EdgeLimit → IsSome held
+    → IsRunLimited stalls names held now before after
 run_limited o r before after made sim ended said e told = limited_so o.done o.edges r before after made sim ended said e told
 
 -- a run that ends at an edge answers so
@@ -123,7 +148,10 @@ fails_missing : (stop : Stop) (r : Status) → IsOrFails (Stopped lines.Missing)
 fails_missing stop r = fails_so (Stopped lines.Missing) stop r (λ file line. (missing_unlike _ (λ e. cc), missing_unlike _ (λ e. cc)))
 
 -- no cause stands where the run ended
-pub stands_not : {names : RunNames} {stalls : Answers} {held now : Held} {d : Design} {p : Plan} {o : Outcome} → IsMade names held d p → IsSimulated stalls d p held now (Ok o) → ((cause : Cause) → IsFaulty names held cause → ⊥) → (cause : Cause) → StandsIn stalls names held cause → ⊥
+pub stands_not : {names : RunNames} {stalls : Answers} {held now : Held} {d : Design} {p : Plan}
+    {o : Outcome} → IsMade names held d p → IsSimulated stalls d p held now (Ok o)
+    → ((cause : Cause) → IsFaulty names held cause → ⊥) → (cause : Cause)
+    → StandsIn stalls names held cause → ⊥
 stands_not made sim faulty cause (StandsIn.before c f) = faulty c f
 stands_not made sim faulty cause (StandsIn.vast l vast) =
     (sim.too_many (subst (λ (e : Design). 2 ^ 26 < all_cells e) (same_run l made).designs vast)).2
@@ -131,17 +159,25 @@ stands_not {o = o} made sim faulty cause (StandsIn.bad_line l restart vs file li
 stands_not {o = o} made sim faulty cause (StandsIn.word_range l restart vs file line small run) = unlike_end o.done o.edges _ (ends_so l made sim small restart vs _ run)
 
 -- nor lacks an input
-pub lacks_not : {names : RunNames} {stalls : Answers} {held now : Held} {d : Design} {p : Plan} {o : Outcome} → IsMade names held d p → IsSimulated stalls d p held now (Ok o) → (LacksFile names held → ⊥) → LacksInput stalls names held → ⊥
+pub lacks_not : {names : RunNames} {stalls : Answers} {held now : Held} {d : Design} {p : Plan}
+    {o : Outcome} → IsMade names held d p → IsSimulated stalls d p held now (Ok o)
+    → (LacksFile names held → ⊥) → LacksInput stalls names held → ⊥
 lacks_not made sim never (inl file) = never file
 lacks_not {o = o} made sim never (inr (l, small, missing)) = unlike_end o.done o.edges _ (ends_so l made sim small missing.restart missing.vs _ missing.ends)
 
 -- where a run was stopped, an input that is lacking is a failure
-pub lacks_cut_off : {names : RunNames} {stalls : Answers} {held now : Held} {d : Design} {p : Plan} {stop : Stop} (r : Status) → IsMade names held d p → IsSimulated stalls d p held now (Err stop) → IsStopped stop r → (LacksFile names held → ⊥) → LacksInput stalls names held → IsCutOff r
+pub lacks_cut_off : {names : RunNames} {stalls : Answers} {held now : Held} {d : Design}
+    {p : Plan} {stop : Stop} (r : Status) → IsMade names held d p
+    → IsSimulated stalls d p held now (Err stop) → IsStopped stop r → (LacksFile names held → ⊥)
+    → LacksInput stalls names held → IsCutOff r
 lacks_cut_off r made sim stopped never (inl file) = absurd (never file)
 lacks_cut_off {stop = stop} r made sim stopped never (inr (l, small, missing)) = fails_missing stop r (ends_so l made sim small missing.restart missing.vs _ missing.ends) stopped
 
 -- the outputs alone change, and these where the design is small
-pub others_so : {names : RunNames} {stalls : Answers} {held now : Held} {d : Design} {p : Plan} {result : Result Outcome Stop} → IsMade names held d p → IsSimulated stalls d p held now result → ChangesOnlyOutputs p.outputs held now → IsSome held → ChangesOutputs names held now
+pub others_so : {names : RunNames} {stalls : Answers} {held now : Held} {d : Design} {p : Plan}
+    {result : Result Outcome Stop} → IsMade names held d p
+    → IsSimulated stalls d p held now result → ChangesOnlyOutputs p.outputs held now
+    → IsSome held → ChangesOutputs names held now
 others_so {held = held} {now = now} {d = d} made sim changes told =
     let l = loaded_of (made.loaded told) in
     ⊎_elim (λ large. inl (sim.too_many large).1)
@@ -149,12 +185,27 @@ others_so {held = held} {now = now} {d = d} made sim changes told =
     (cases_lt (2 ^ 26) (all_cells d))
 
 -- what a run leaves, that ended or that was stopped
-pub leaves_ended : {names : RunNames} {stalls : Answers} {held now : Held} {d : Design} {p : Plan} (o : Outcome) → IsMade names held d p → IsSimulated stalls d p held now (Ok o) → IsSome held → LeavesOutputs stalls names held now
+pub leaves_ended : {names : RunNames} {stalls : Answers} {held now : Held} {d : Design}
+    {p : Plan} (o : Outcome) → IsMade names held d p → IsSimulated stalls d p held now (Ok o)
+    → IsSome held → LeavesOutputs stalls names held now
 leaves_ended {stalls = stalls} {now = now} o made sim told =
     let l = loaded_of (made.loaded told) in
-    inr (l, small_ok l made sim, inr (end_of o, of_loaded l made (λ (s : Setup) (outputs : List (Name × ℕ)). Finishes stalls s outputs now (end_of o)) (sim.tells made.can.is.top made.can.is.shape made.can.is.is_top made.can.is.is_run.has told)))
+    inr (
+      l,
+      small_ok l made sim,
+      inr (
+        end_of o,
+        of_loaded l made (λ (s : Setup) (outputs : List (Name
+            × ℕ)). Finishes stalls s outputs now (end_of o))
+            (sim.tells made.can.is.top made.can.is.shape made.can.is.is_top made.can.is.is_run.has
+            told),
+      ),
+    )
 
-pub leaves_stopped : {names : RunNames} {stalls : Answers} {held now : Held} {d : Design} {p : Plan} {result : Result Outcome Stop} → IsMade names held d p → IsSimulated stalls d p held now result → (IsSome held → Leaves p.outputs held now) → IsSome held → LeavesOutputs stalls names held now
+pub leaves_stopped : {names : RunNames} {stalls : Answers} {held now : Held} {d : Design}
+    {p : Plan} {result : Result Outcome Stop} → IsMade names held d p
+    → IsSimulated stalls d p held now result → (IsSome held → Leaves p.outputs held now)
+    → IsSome held → LeavesOutputs stalls names held now
 leaves_stopped {held = held} {now = now} {d = d} made sim leaves told =
     let l = loaded_of (made.loaded told) in
     ⊎_elim (λ large. inl (sim.too_many large).1)
@@ -162,7 +213,10 @@ leaves_stopped {held = held} {now = now} {d = d} made sim leaves told =
     (cases_lt (2 ^ 26) (all_cells d))
 
 -- a refusal of a run has a cause that stands, and what it leaves in the files
-refused_so : {names : RunNames} {stalls : Answers} {held now : Held} {d : Design} {p : Plan} (stop : Stop) → IsMade names held d p → IsSimulated stalls d p held now (Err stop) → stop_status stop ≡ Refused → IfCause (stop_cause stop) (λ cause. IsSome held → RefusesRun stalls names held now cause)
+refused_so : {names : RunNames} {stalls : Answers} {held now : Held} {d : Design} {p : Plan}
+    (stop : Stop) → IsMade names held d p → IsSimulated stalls d p held now (Err stop)
+    → stop_status stop ≡ Refused → IfCause (stop_cause stop) (λ cause. IsSome held
+    → RefusesRun stalls names held now cause)
 refused_so {names} {stalls} {held} {now} (stops.TooManyCells n) made sim e = λ told.
     let l = loaded_of (made.loaded told) in
     let many = sim.cells n refl in
@@ -172,11 +226,17 @@ refused_so {names} {stalls} {held} {now} (stops.TooManyCells n) made sim e = λ 
 refused_so {stalls = stalls} {now = now} (stops.BadLine file line) made sim e = λ told.
     let l = loaded_of (made.loaded told) in
     RefusesRun.bad_line l file line (small_err l made sim (λ n x. cc) (λ x. cc))
-    (of_loaded l made (λ (s : Setup) (outputs : List (Name × ℕ)). Breaks stalls s outputs now (Stopped (lines.BadLine file line))) (sim.tells made.can.is.top made.can.is.shape made.can.is.is_top made.can.is.is_run.has told))
+    (of_loaded l made (λ (s : Setup) (outputs : List (Name
+    × ℕ)). Breaks stalls s outputs now (Stopped (lines.BadLine file line)))
+    (sim.tells made.can.is.top made.can.is.shape made.can.is.is_top made.can.is.is_run.has
+    told))
 refused_so {stalls = stalls} {now = now} (stops.WordRange file line) made sim e = λ told.
     let l = loaded_of (made.loaded told) in
     RefusesRun.word_range l file line (small_err l made sim (λ n x. cc) (λ x. cc))
-    (of_loaded l made (λ (s : Setup) (outputs : List (Name × ℕ)). Breaks stalls s outputs now (Stopped (lines.WordRange file line))) (sim.tells made.can.is.top made.can.is.shape made.can.is.is_top made.can.is.is_run.has told))
+    (of_loaded l made (λ (s : Setup) (outputs : List (Name
+    × ℕ)). Breaks stalls s outputs now (Stopped (lines.WordRange file line)))
+    (sim.tells made.can.is.top made.can.is.shape made.can.is.is_top made.can.is.is_run.has
+    told))
 refused_so stops.ReadFault made sim e = absurd (cc)
 refused_so stops.WriteFault made sim e = absurd (cc)
 refused_so stops.NoMemory made sim e = absurd (cc)
@@ -185,7 +245,10 @@ status_refused : (stop : Stop) (r : Status) → IsStopped stop r → r ≡ Refus
 status_refused stop r (inl e) x = sym e ∙ x
 status_refused stop r (inr e) x = e.0
 
-pub refused_stands : {names : RunNames} {stalls : Answers} {held now : Held} {d : Design} {p : Plan} (stop : Stop) (r : Status) → IsMade names held d p → IsSimulated stalls d p held now (Err stop) → IsStopped stop r → r ≡ Refused → IfCause (stop_cause stop) (λ cause. IsSome held → RefusesRun stalls names held now cause)
+pub refused_stands : {names : RunNames} {stalls : Answers} {held now : Held} {d : Design}
+    {p : Plan} (stop : Stop) (r : Status) → IsMade names held d p
+    → IsSimulated stalls d p held now (Err stop) → IsStopped stop r → r ≡ Refused
+    → IfCause (stop_cause stop) (λ cause. IsSome held → RefusesRun stalls names held now cause)
 refused_stands stop r made sim stopped e = refused_so stop made sim (status_refused stop r stopped e)
 
 -- a read fault is the run's own
@@ -215,24 +278,40 @@ writes_no_other stop r (inl e) never x = (let same : stop ≡ stops.WriteFault =
 writes_no_other stop r (inr e) never x = (let same : stop ≡ stops.WriteFault = cc in let f = subst (λ (z : Stop). stop_status z ≡ Refused) same e.0 in absurd (cc))
 
 -- a read fault comes where a count rose, or an input is lacking
-missing_so : {names : RunNames} {stalls : Answers} {held now : Held} {d : Design} {p : Plan} (made : IsMade names held d p) → IsSimulated stalls d p held now (Err stops.ReadFault) → IsSome held → IsMissing stalls (setup_of d made.can.is.top made.can.is.shape p held) → LacksInput stalls names held
+missing_so : {names : RunNames} {stalls : Answers} {held now : Held} {d : Design} {p : Plan}
+    (made : IsMade names held d p) → IsSimulated stalls d p held now (Err stops.ReadFault)
+    → IsSome held → IsMissing stalls (setup_of d made.can.is.top made.can.is.shape p held)
+    → LacksInput stalls names held
 missing_so {stalls = stalls} made sim told missing =
     let l = loaded_of (made.loaded told) in
     inr (l, small_err l made sim (λ n x. cc) (λ x. cc), of_loaded l made (λ (s : Setup) (outputs : List (Name × ℕ)). IsMissing stalls s) missing)
 
-pub read_fault_so : {names : RunNames} {stalls : Answers} {held now : Held} {d : Design} {p : Plan} {Rises : Type 0} (stop : Stop) (r : Status) (made : IsMade names held d p) → IsSimulated stalls d p held now (Err stop) → IsStopped stop r → (stop ≡ stops.ReadFault → Rises ⊎ (IsSome held × IsMissing stalls (setup_of d made.can.is.top made.can.is.shape p held))) → r ≡ ReadFault → Rises ⊎ LacksInput stalls names held
+pub read_fault_so : {names : RunNames} {stalls : Answers} {held now : Held} {d : Design}
+    {p : Plan} {Rises : Type 0} (stop : Stop) (r : Status) (made : IsMade names held d p)
+    → IsSimulated stalls d p held now (Err stop) → IsStopped stop r
+    → (stop ≡ stops.ReadFault → Rises ⊎ (IsSome held
+    × IsMissing stalls (setup_of d made.can.is.top made.can.is.shape p held))) → r ≡ ReadFault
+    → Rises ⊎ LacksInput stalls names held
 read_fault_so {stalls = stalls} {held = held} {now = now} {d = d} {p = p} stop r made sim stopped fault e =
     let same = stop_reads stop r stopped e in
     ⊎_elim (λ rose. inl rose) (λ missing. inr (missing_so made (subst (λ (z : Stop). IsSimulated stalls d p held now (Err z)) same sim) missing.0 missing.1)) (fault same)
 
 -- what a read fault in a run leaves in the files
-pub cut_off_so : {names : RunNames} {stalls : Answers} {held now : Held} {d : Design} {p : Plan} {count_before count_now : ℕ} (stop : Stop) (r : Status) (made : IsMade names held d p) → IsSimulated stalls d p held now (Err stop) → IsStopped stop r → (stop ≡ stops.ReadFault → Rose count_before count_now ⊎ (IsSome held × IsMissing stalls (setup_of d made.can.is.top made.can.is.shape p held))) → r ≡ ReadFault → IsSome held → ReadFails stalls names held now count_before count_now
+pub cut_off_so : {names : RunNames} {stalls : Answers} {held now : Held} {d : Design} {p : Plan}
+    {count_before count_now : ℕ} (stop : Stop) (r : Status) (made : IsMade names held d p)
+    → IsSimulated stalls d p held now (Err stop) → IsStopped stop r
+    → (stop ≡ stops.ReadFault → Rose count_before count_now
+    ⊎ (IsSome held × IsMissing stalls (setup_of d made.can.is.top made.can.is.shape p held)))
+    → r ≡ ReadFault → IsSome held → ReadFails stalls names held now count_before count_now
 cut_off_so {stalls = stalls} {held = held} {now = now} {d = d} {p = p} stop r made sim stopped fault e told =
     let same = stop_reads stop r stopped e in
     let reads = subst (λ (z : Stop). IsSimulated stalls d p held now (Err z)) same sim in
     let l = loaded_of (made.loaded told) in
     ReadFails.in_run l (small_err l made reads (λ n x. cc) (λ x. cc))
-    (of_loaded l made (λ (s : Setup) (outputs : List (Name × ℕ)). answers.IsInterrupted stalls s outputs now) (reads.tells made.can.is.top made.can.is.shape made.can.is.is_top made.can.is.is_run.has told))
+    (of_loaded l made (λ (s : Setup) (outputs : List (Name
+    × ℕ)). answers.IsInterrupted stalls s outputs now)
+    (reads.tells made.can.is.top made.can.is.shape made.can.is.is_top made.can.is.is_run.has
+    told))
     (⊎_elim (λ rose. inl rose) (λ missing. inr (of_loaded l made (λ (s : Setup) (outputs : List (Name × ℕ)). IsMissing stalls s) missing.1)) (fault same))
 
 -- no call of the outside failed

@@ -77,7 +77,10 @@ same_run {names} {held} {d} {p} l made =
     record { designs = designs; tops = tops; setups = setups _ _ _ _ _ _ _ _ held designs tops shapes plans; plans = plans }
 
 -- what is known of the run that was made holds of the run of what is loaded
-pub of_loaded : {names : RunNames} {held : Held} {d : Design} {p : Plan} (l : IsLoaded names held) (made : IsMade names held d p) (P : Setup → List (Name × ℕ) → Type 0) → P (setup_of d made.can.is.top made.can.is.shape p held) p.outputs → P (setup l) l.fit.plan.outputs
+pub of_loaded : {names : RunNames} {held : Held} {d : Design} {p : Plan}
+    (l : IsLoaded names held) (made : IsMade names held d p) (P : Setup → List (Name × ℕ)
+    → Type 0) → P (setup_of d made.can.is.top made.can.is.shape p held) p.outputs
+    → P (setup l) l.fit.plan.outputs
 of_loaded {names} {held} {d} {p} l made P h =
     let same = same_run l made in
     subst (λ (q : Plan). P (setup l) q.outputs) (sym same.plans) (subst (λ (s : Setup). P s p.outputs) (sym same.setups) h)
@@ -90,15 +93,24 @@ small_of l made small = subst (λ (e : Design). all_cells e ≤ 2 ^ 26) (sym (sa
 fits : (d : Design) → (2 ^ 26 < all_cells d → ⊥) → all_cells d ≤ 2 ^ 26
 fits d never = ⊎_elim (λ large. absurd (never large)) (λ small. small) (cases_lt (2 ^ 26) (all_cells d))
 
-pub small_ok : {names : RunNames} {stalls : Answers} {held now : Held} {d : Design} {p : Plan} {o : Outcome} (l : IsLoaded names held) (made : IsMade names held d p) → IsSimulated stalls d p held now (Ok o) → IsSmall l
+pub small_ok : {names : RunNames} {stalls : Answers} {held now : Held} {d : Design} {p : Plan}
+    {o : Outcome} (l : IsLoaded names held) (made : IsMade names held d p)
+    → IsSimulated stalls d p held now (Ok o) → IsSmall l
 small_ok {d = d} l made sim = small_of l made (fits d (λ large. (sim.too_many large).2))
 
-pub small_err : {names : RunNames} {stalls : Answers} {held now : Held} {d : Design} {p : Plan} {stop : Stop} (l : IsLoaded names held) (made : IsMade names held d p) → IsSimulated stalls d p held now (Err stop) → ((n : ℕ) → stop ≡ stops.TooManyCells n → ⊥) → (stop ≡ stops.NoMemory → ⊥) → IsSmall l
+pub small_err : {names : RunNames} {stalls : Answers} {held now : Held} {d : Design} {p : Plan}
+    {stop : Stop} (l : IsLoaded names held) (made : IsMade names held d p)
+    → IsSimulated stalls d p held now (Err stop) → ((n : ℕ) → stop ≡ stops.TooManyCells n → ⊥)
+    → (stop ≡ stops.NoMemory → ⊥) → IsSmall l
 small_err {d = d} l made sim many memory =
     small_of l made (fits d (λ large. ⊎_elim (λ e. many _ e) (λ e. memory e) (sim.too_many large).0))
 
 -- how a run of what is loaded ends is the answer, or the call failed
-pub ends_so : {names : RunNames} {stalls : Answers} {held now : Held} {d : Design} {p : Plan} {result : Result Outcome Stop} (l : IsLoaded names held) (made : IsMade names held d p) → IsSimulated stalls d p held now result → IsSmall l → (restart : Families) (vs : List Families) (end : End) → Ends stalls (setup l) restart vs end → IsOrFails end result
+pub ends_so : {names : RunNames} {stalls : Answers} {held now : Held} {d : Design} {p : Plan}
+    {result : Result Outcome Stop} (l : IsLoaded names held) (made : IsMade names held d p)
+    → IsSimulated stalls d p held now result → IsSmall l
+    → (restart : Families) (vs : List Families) (end : End)
+    → Ends stalls (setup l) restart vs end → IsOrFails end result
 ends_so {stalls = stalls} l made sim small restart vs end ends =
     let same = same_run l made in
     sim.exact made.can.is.top made.can.is.shape made.can.is.is_top made.can.is.is_run.has (told_loaded l)
@@ -109,7 +121,9 @@ ends_so {stalls = stalls} l made sim small restart vs end ends =
 pub simulated : {stalls : Answers} {d : Design} {p : Plan} {other held now : Held} {result : Result Outcome Stop}
     → other ≡ held
     → ((m : Module) (s : Shape) → top_of d ≡ Some m → HasShape m s → IsSome other → Tells stalls (setup_of d m s p other) p.outputs now result)
-    → ((m : Module) (s : Shape) → top_of d ≡ Some m → HasShape m s → IsSome other → all_cells d ≤ 2 ^ 26 → (restart : Families) (vs : List Families) (end : End) → Ends stalls (setup_of d m s p other) restart vs end → IsOrFails end result)
+    → ((m : Module) (s : Shape) → top_of d ≡ Some m → HasShape m s → IsSome other
+    → all_cells d ≤ 2 ^ 26 → (restart : Families) (vs : List Families) (end : End)
+    → Ends stalls (setup_of d m s p other) restart vs end → IsOrFails end result)
     → ((n : ℕ) → result ≡ Err (stops.TooManyCells n) → (2 ^ 26 < all_cells d) × (n ≡ min (all_cells d) (2 ^ 64 - 1)))
     → (2 ^ 26 < all_cells d → IfErr result (λ e. (e ≡ stops.TooManyCells (min (all_cells d) (2 ^ 64 - 1))) ⊎ (e ≡ stops.NoMemory)) × (now ≡ other) × OnOk result ⊥)
     → IsSimulated stalls d p held now result

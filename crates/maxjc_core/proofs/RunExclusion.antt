@@ -73,7 +73,9 @@ somes_once (x ∷ xs) (y ∷ ys) e =
     cc
 
 -- pairs are told by their parts
-pairs_once : (xs ys : List (Name × ℕ)) → map {B = Option Name} (λ (x : Name × ℕ). Some x.0) xs ≡ map (λ (y : Name × ℕ). Some y.0) ys → map {B = ℕ} (λ (x : Name × ℕ). x.1) xs ≡ map (λ (y : Name × ℕ). y.1) ys → xs ≡ ys
+pairs_once : (xs ys : List (Name × ℕ)) → map {B = Option Name} (λ (x : Name
+    × ℕ). Some x.0) xs ≡ map (λ (y : Name × ℕ). Some y.0) ys
+    → map {B = ℕ} (λ (x : Name × ℕ). x.1) xs ≡ map (λ (y : Name × ℕ). y.1) ys → xs ≡ ys
 pairs_once [] [] e f = refl
 pairs_once [] (y ∷ ys) e f = absurd (cc)
 pairs_once (x ∷ xs) [] e f = absurd (cc)
@@ -151,7 +153,9 @@ run_fits run a cause x (IsRunFault.not_json h) = no_text run a x h
 run_fits run a cause x (IsRunFault.shape key h) = no_error run a key x h
 
 -- and one that fits the ports of the text's one design has none there
-unfit_apart : (text run : List ℕ) (f : FitTogether text run) (d : Design) → IsOnlyDesign text d → (e : Design) (is : IsReadAs text e) (r : RunFile) (ports : Interface) (key : List ℕ) → Reads run (Ok r) → shape_of ports ≡ is.shape → Fits r ports (Err (run_errors.Shape key)) → ⊥
+unfit_apart : (text run : List ℕ) (f : FitTogether text run) (d : Design) → IsOnlyDesign text d
+    → (e : Design) (is : IsReadAs text e) (r : RunFile) (ports : Interface) (key : List ℕ)
+    → Reads run (Ok r) → shape_of ports ≡ is.shape → Fits r ports (Err (run_errors.Shape key)) → ⊥
 unfit_apart text run f d only e is r ports key says are fits =
     let designs : e ≡ f.design = only e is.reads ∙ sym (only f.design f.is.reads) in
     let tops = top_once text text e f.design is f.is designs in
@@ -170,10 +174,14 @@ fit_apart text run cause d only exact f (BreaksForm.unfit e is r ports key says 
 pub run_not_refused : (text run : List ℕ) (f : FitTogether text run) (stop : Stop) → IfRefused stop (IsRunFault run) → IfRefused stop (λ _. ⊥)
 run_not_refused text run f stop h = refused_so stop (IsRunFault run) (λ _. ⊥) (λ cause x. run_fits run f.run_file cause f.says x) h
 
-unfit_for : (text run : List ℕ) (f : FitTogether text run) (d : Design) → IsOnlyDesign text d → (is : IsReadAs text d) (r : RunFile) → Reads run (Ok r) → (ports : Interface) → shape_of ports ≡ is.shape → (cause : Cause) → IsUnfitFor r ports cause → ⊥
+unfit_for : (text run : List ℕ) (f : FitTogether text run) (d : Design) → IsOnlyDesign text d
+    → (is : IsReadAs text d) (r : RunFile) → Reads run (Ok r) → (ports : Interface)
+    → shape_of ports ≡ is.shape → (cause : Cause) → IsUnfitFor r ports cause → ⊥
 unfit_for text run f d only is r says ports are cause (IsUnfitFor.at_key key fits) = unfit_apart text run f d only d is r ports key says are fits
 
-pub plan_not_refused : (text run : List ℕ) (f : FitTogether text run) (d : Design) → IsOnlyDesign text d → (is : IsReadAs text d) (r : RunFile) → Reads run (Ok r) → (stop : Stop) → IfRefused stop (IsUnfit r is.shape) → IfRefused stop (λ _. ⊥)
+pub plan_not_refused : (text run : List ℕ) (f : FitTogether text run) (d : Design)
+    → IsOnlyDesign text d → (is : IsReadAs text d) (r : RunFile) → Reads run (Ok r)
+    → (stop : Stop) → IfRefused stop (IsUnfit r is.shape) → IfRefused stop (λ _. ⊥)
 plan_not_refused text run f d only is r says stop h = refused_so stop (IsUnfit r is.shape) (λ _. ⊥) (λ cause u. unfit_for text run f d only is r says u.ports u.are cause u.unfit) h
 
 -- the files that are read are read once

@@ -40,7 +40,9 @@ top_is text d is m top =
     let same : is.top ≡ m = cc in
     subst (λ (x : Module). IsTop x is.shape) same is.is_run
 
-plan_unfit : (text run : List ℕ) (d : Design) (is : IsReadAs text d) (r : RunFile) → Reads run (Ok r) → (ports : Interface) → shape_of ports ≡ is.shape → (cause : Cause) → IsUnfitFor r ports cause → BreaksForm text run cause
+plan_unfit : (text run : List ℕ) (d : Design) (is : IsReadAs text d) (r : RunFile)
+    → Reads run (Ok r) → (ports : Interface) → shape_of ports ≡ is.shape → (cause : Cause)
+    → IsUnfitFor r ports cause → BreaksForm text run cause
 plan_unfit text run d is r says ports are cause (IsUnfitFor.at_key key fits) = BreaksForm.unfit d is r ports key says are fits
 
 pub plan_breaks : (text run : List ℕ) (d : Design) (is : IsReadAs text d) (r : RunFile) → Reads run (Ok r) → (cause : Cause) → IsUnfit r is.shape cause → BreaksForm text run cause

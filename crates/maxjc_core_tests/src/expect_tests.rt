@@ -225,7 +225,9 @@ fn each_kernel_has_its_own_ticks_and_scalars(rt: HostRuntime) -> Result<(), Fail
     let row = Row {
         source: TWO_SCALARS,
         compiled: b"kernel A fifo 0\nkernel B fifo 0\n",
-        run: b"{\"ticks\":{\"A\":1,\"B\":2},\"scalars\":{\"A.a\":\"10\",\"B.a\":\"02\"},\"inputs\":{\"x\":\"x.txt\",\"z\":\"z.txt\"},\"outputs\":{\"p\":\"p.txt\",\"q\":\"q.txt\"},\"edges\":100}",
+        run: b"{\"ticks\":{\"A\":1,\"B\":2},\"scalars\":{\"A.a\":\"10\",\"B.a\":\"02\"}\
+            ,\"inputs\":{\"x\":\"x.txt\",\"z\":\"z.txt\"},\"outputs\":{\"p\":\"p.txt\",\
+            \"q\":\"q.txt\"},\"edges\":100}",
         inputs: &[(b"x.txt", b"01\n1g\n"), (b"z.txt", b"03\n04\n1g\n")],
         status: Status::Done,
         said: b"guarded\nbalanced\n",

@@ -264,7 +264,9 @@ fn texts_of_several_modules_are_refused(rt: HostRuntime) -> Result<(), Fail> {
         // two updates of a memory
         refused(
             PASS,
-            b"reg [0:0] m [0:1]; assign w0 = 1'h0; assign w1 = 1'h0; assign w2 = 2'h0; always @(posedge clk) begin if (w0) m[w0] <= w1; if (w1) m[w0] <= w1; end endmodule",
+            b"reg [0:0] m [0:1]; assign w0 = 1'h0; assign w1 = 1'h0; assign w2 \
+                = 2'h0; always @(posedge clk) begin if (w0) m[w0] <= w1; if (w1) \
+                m[w0] <= w1; end endmodule",
             TWO_EDGES,
             b"refused V3 3 m\n",
         ),

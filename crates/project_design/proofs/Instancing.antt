@@ -151,6 +151,8 @@ all_instances project first next start a b c d made f g =
     let a' : a ≡ one = made.inputs ∙ ap (λ (l : List Instance). l ++ input_instances project (length l) first ins) made.none ∙ ap (λ k. input_instances project 0 k ins) f in
     let b' : b ≡ one ++ two = made.outputs ∙ ap (λ l. l ++ output_instances project (length a) next outs) a' ∙ ap (λ k. one ++ output_instances project k next outs) la
     ∙ ap (λ k. one ++ output_instances project (length ins) k outs) g in
-    let c' : c ≡ (one ++ two) ++ three = made.links ∙ ap (λ l. l ++ link_instances project (length b) 0 project.joints.links) b' ∙ ap (λ k. (one ++ two) ++ link_instances project k 0 project.joints.links) lb in
+    let c' : c ≡ (one ++ two) ++ three = made.links ∙ ap (λ l. l
+    ++ link_instances project (length b) 0 project.joints.links) b' ∙ ap (λ k. (one ++ two)
+    ++ link_instances project k 0 project.joints.links) lb in
     made.kernels ∙ ap (λ l. l ++ kernel_instances project (length c) 0 project.kernels) c' ∙ ap (λ k. ((one ++ two) ++ three) ++ kernel_instances project k 0 project.kernels) lc
     ∙ append_assoc (one ++ two) three four ∙ append_assoc one two (three ++ four)

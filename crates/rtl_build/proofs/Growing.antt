@@ -197,7 +197,9 @@ open_net m nets x is_open nets_are =
     }
 
 -- an assignment more, over nets of the module
-pub open_assign : (m : Module) (assigns : List Assign) (x : Assign) → IsOpen m → x.target < length m.nets → IsIn (length m.nets) (length m.mems) x.expr → assigns ≡ m.assigns ++ x ∷ [] → IsOpen (larger m m.nets assigns)
+pub open_assign : (m : Module) (assigns : List Assign) (x : Assign) → IsOpen m
+    → x.target < length m.nets → IsIn (length m.nets) (length m.mems) x.expr
+    → assigns ≡ m.assigns ++ x ∷ [] → IsOpen (larger m m.nets assigns)
 open_assign m assigns x is_open target expr assigns_are =
     let P : List Assign → Type 0 = λ l. AllIn (length m.nets) (length m.mems) l in
     record {
@@ -206,14 +208,19 @@ open_assign m assigns x is_open target expr assigns_are =
     }
 
 -- a wire more
-pub open_wire : (m : Module) (nets : List Net) (assigns : List Assign) (name : List ℕ) (w n : ℕ) (e : Expr) → IsOpen m → MayBeWire m w e → n ≡ length m.nets → nets ≡ m.nets ++ wire name w ∷ [] → assigns ≡ m.assigns ++ gets n e ∷ [] → IsOpen (larger m nets assigns)
+pub open_wire : (m : Module) (nets : List Net) (assigns : List Assign) (name : List ℕ) (w n : ℕ)
+    (e : Expr) → IsOpen m → MayBeWire m w e → n ≡ length m.nets → nets ≡ m.nets ++ wire name w
+    ∷ [] → assigns ≡ m.assigns ++ gets n e ∷ [] → IsOpen (larger m nets assigns)
 open_wire m nets assigns name w n e is_open may at nets_are assigns_are =
     let len : length nets ≡ length m.nets + 1 = ap length nets_are ∙ length-append m.nets (wire name w ∷ []) in
     open_assign (larger m nets m.assigns) assigns (gets n e) (open_net m nets (wire name w) is_open nets_are) (omega arith)
     (in_more (length m.nets) (length nets) 0 (length m.mems) e (omega arith) (omega arith) may.within) assigns_are
 
 -- one wire more
-pub one_wire : (m : Module) (nets : List Net) (assigns : List Assign) (name : List ℕ) (w n : ℕ) (e : Expr) → IsOpen m → MayBeWire m w e → n ≡ length m.nets → name ≡ wire_name n → nets ≡ m.nets ++ wire name w ∷ [] → assigns ≡ m.assigns ++ gets n e ∷ [] → Makes m (larger m nets assigns) 1 w (λ v. value m no_contents v w e) (signal n w)
+pub one_wire : (m : Module) (nets : List Net) (assigns : List Assign) (name : List ℕ) (w n : ℕ)
+    (e : Expr) → IsOpen m → MayBeWire m w e → n ≡ length m.nets → name ≡ wire_name n
+    → nets ≡ m.nets ++ wire name w ∷ [] → assigns ≡ m.assigns ++ gets n e ∷ []
+    → Makes m (larger m nets assigns) 1 w (λ v. value m no_contents v w e) (signal n w)
 one_wire m nets assigns name w n e is_open may at named nets_are assigns_are =
     let read = may.within in
     let new : Module = larger m nets assigns in
@@ -230,7 +237,9 @@ one_wire m nets assigns name w n e is_open may at named nets_are assigns_are =
       ports = refl;
       instances = refl;
     } in
-    let width : width_of new n ≡ w = ap (λ (l : List Net). net_width (slice_get l n)) nets_are ∙ ap (λ k. net_width (slice_get (m.nets ++ wire name w ∷ []) k)) at ∙ ap net_width (get_last m.nets (wire name w)) in
+    let width : width_of new n ≡ w = ap (λ (l : List Net). net_width
+    (slice_get l n)) nets_are ∙ ap (λ k. net_width (slice_get (m.nets ++ wire name w
+    ∷ []) k)) at ∙ ap net_width (get_last m.nets (wire name w)) in
     record {
       adds = record {
         grows = grows;

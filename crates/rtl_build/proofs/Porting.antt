@@ -29,7 +29,9 @@ ports_and : (n : ℕ) (ps : List Port) (p : Port) → ArePortsIn n ps → p.net 
 ports_and n [] p h lt = (lt, tt)
 ports_and n (q ∷ ps) p h lt = (h.0, ports_and n ps p h.1 lt)
 
-pub open_port : (m : Module) (nets : List Net) (ps : List Port) (x : Net) (n : ℕ) (output : Bool) → IsOpen m → n ≡ length m.nets → nets ≡ m.nets ++ x ∷ [] → ps ≡ m.ports ++ port n output ∷ [] → IsOpen (ported m nets ps)
+pub open_port : (m : Module) (nets : List Net) (ps : List Port) (x : Net) (n : ℕ)
+    (output : Bool) → IsOpen m → n ≡ length m.nets → nets ≡ m.nets ++ x ∷ [] → ps ≡ m.ports
+    ++ port n output ∷ [] → IsOpen (ported m nets ps)
 open_port m nets ps x n output is_open at nets_are ports_are =
     let more = open_net m nets x is_open nets_are in
     let len : length nets ≡ length m.nets + 1 = ap length nets_are ∙ length-append m.nets (x ∷ []) in
@@ -85,7 +87,9 @@ last_port (q ∷ ps) n output h =
     ap (λ b. (b && q.output) || is_output (ps ++ port n output ∷ []) n) other ∙ last_port ps n output h.1
 
 -- one port more
-pub adds_port : (m : Module) (nets : List Net) (ps : List Port) (name : List ℕ) (w n : ℕ) (output : Bool) → IsOpen m → n ≡ length m.nets → nets ≡ m.nets ++ wire name w ∷ [] → ps ≡ m.ports ++ port n output ∷ [] → AddsPort m (ported m nets ps) name w output (signal n w)
+pub adds_port : (m : Module) (nets : List Net) (ps : List Port) (name : List ℕ) (w n : ℕ)
+    (output : Bool) → IsOpen m → n ≡ length m.nets → nets ≡ m.nets ++ wire name w ∷ []
+    → ps ≡ m.ports ++ port n output ∷ [] → AddsPort m (ported m nets ps) name w output (signal n w)
 adds_port m nets ps name w n output is_open at nets_are ports_are =
     let len : length nets ≡ length m.nets + 1 = ap length nets_are ∙ length-append m.nets (wire name w ∷ []) in
     let grows = net_grows m nets (wire name w) nets_are in
@@ -120,7 +124,9 @@ adds_port m nets ps name w n output is_open at nets_are ports_are =
     }
 
 -- one assignment more
-pub drives : (m : Module) (assigns : List Assign) (output source : Signal) → IsOpen m → assigns ≡ m.assigns ++ gets output.net (Plain source.net) ∷ [] → Drives m (larger m m.nets assigns) output source
+pub drives : (m : Module) (assigns : List Assign) (output source : Signal) → IsOpen m
+    → assigns ≡ m.assigns ++ gets output.net (Plain source.net) ∷ []
+    → Drives m (larger m m.nets assigns) output source
 drives m assigns output source is_open assigns_are =
     let new = larger m m.nets assigns in
     let grows : Grows m new = record {

@@ -29,7 +29,9 @@ keeps_of m n g is_open = record { grows = g; signals = λ t h. signal_kept m n g
 abbrev pub register : List ℕ → ℕ → Net
 register name w = record { name = name; width = w; reg = true }
 
-pub adds_register : (m : Module) (nets : List Net) (name : List ℕ) (w n : ℕ) → IsOpen m → 1 ≤ w → w ≤ 128 → n ≡ length m.nets → nets ≡ m.nets ++ register name w ∷ [] → AddsRegister m (larger m nets m.assigns) name w (signal n w)
+pub adds_register : (m : Module) (nets : List Net) (name : List ℕ) (w n : ℕ) → IsOpen m → 1 ≤ w
+    → w ≤ 128 → n ≡ length m.nets → nets ≡ m.nets ++ register name w ∷ []
+    → AddsRegister m (larger m nets m.assigns) name w (signal n w)
 adds_register m nets name w n is_open some most at nets_are =
     let new = larger m nets m.assigns in
     let x = register name w in
@@ -52,7 +54,13 @@ adds_register m nets name w n is_open some most at nets_are =
       is = ap (λ l. larger m l m.assigns) nets_are;
       net = at;
       width = refl;
-      signal = record { net = omega arith; inner = subst (λ k. is_output m.ports k ≡ false) (sym at) (no_output (length m.nets) m.ports is_open.ports); width = ap net_width last; some = some; at_most = most };
+      signal = record {
+        net = omega arith;
+        inner = subst (λ k. is_output m.ports k ≡ false) (sym at) (no_output (length m.nets) m.ports is_open.ports);
+        width = ap net_width last;
+        some = some;
+        at_most = most;
+      };
       register = record { net = omega arith; register = kept; width = ap net_width last };
       value = λ c v h. h.kept n kept;
       keeps = keeps_of m new grows is_open;
@@ -89,7 +97,9 @@ open_memory m mems x is_open mems_are =
     let len : length mems ≡ length m.mems + 1 = ap length mems_are ∙ length-append m.mems (x ∷ []) in
     record { range = range_in_more (length m.nets) (length m.nets) (length m.mems) (length mems) m.assigns (omega arith) (omega arith) is_open.range; ports = is_open.ports }
 
-pub adds_memory : (m : Module) (mems : List Mem) (name : List ℕ) (w depth n : ℕ) → IsOpen m → n ≡ length m.mems → mems ≡ m.mems ++ memory name w depth ∷ [] → AddsMemory m (stored m mems m.updates) name w depth n
+pub adds_memory : (m : Module) (mems : List Mem) (name : List ℕ) (w depth n : ℕ) → IsOpen m
+    → n ≡ length m.mems → mems ≡ m.mems ++ memory name w depth ∷ []
+    → AddsMemory m (stored m mems m.updates) name w depth n
 adds_memory m mems name w depth n is_open at mems_are =
     let x = memory name w depth in
     let len : length mems ≡ length m.mems + 1 = ap length mems_are ∙ length-append m.mems (x ∷ []) in
@@ -151,7 +161,13 @@ reads_cell m nets assigns name w n k address is_open has wide at named nets_are 
           ap (λ l. larger m l assigns) (nets_are ∙ ap (λ t. m.nets ++ wire t w ∷ []) (named ∙ ap wire_name at) ∙ ap (λ x. m.nets ++ wire (wire_name (length m.nets)) x ∷ []) wide)
           ∙ ap (larger m (m.nets ++ wire (wire_name (length m.nets)) (word_width m k) ∷ [])) (assigns_are ∙ ap (λ j. m.assigns ++ gets j e ∷ []) at);
       net = at;
-      signal = record { net = omega arith; inner = subst (λ j. is_output m.ports j ≡ false) (sym at) (no_output (length m.nets) m.ports is_open.ports); width = ap net_width last; some = omega (arith, has.some); at_most = omega (arith, has.at_most) };
+      signal = record {
+        net = omega arith;
+        inner = subst (λ j. is_output m.ports j ≡ false) (sym at) (no_output (length m.nets) m.ports is_open.ports);
+        width = ap net_width last;
+        some = omega (arith, has.some);
+        at_most = omega (arith, has.at_most);
+      };
       width = wide;
       value = λ c v h. last_assigned new c v m.assigns (gets n e) (subst (Q c v) assigns_are h.assigned);
       keeps = keeps_of m new grows is_open;

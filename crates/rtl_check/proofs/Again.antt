@@ -1,5 +1,7 @@
 -- Names that stood before, and a set of those that were seen.
-use Rattle.std.proofs.Common.{Bor, ◌≡◌, ℕ, zero, suc, ◌+◌, ◌<◌, ◌≤◌, Bool, true, false, ◌||◌, cond, not, nat_eq, List, [], ◌∷◌, length, map, take, get_or, Some, refl, sym, ap, subst, ◌∙◌, arith, ◌⊎◌, inl, inr}
+use Rattle.std.proofs.Common.{Bor, ◌≡◌, ℕ, zero, suc, ◌+◌, ◌<◌, ◌≤◌, Bool, true, false, ◌||◌, cond}
+use Rattle.std.proofs.Common.{not, nat_eq, List, [], ◌∷◌, length, map, take, get_or, Some, refl}
+use Rattle.std.proofs.Common.{sym, ap, subst, ◌∙◌, arith, ◌⊎◌, inl, inr}
 use Rattle.std.specs.Prelude.{slice_get}
 use Rattle.std.specs.List.{list_any}
 use Rattle.std.specs.Cmp.Lexicographic.{pointwise, same_text, other_text}
@@ -27,7 +29,10 @@ seen_at [] q (suc i) e = absurd (false≢true e)
 seen_at (x ∷ xs) q zero e = absurd (false≢true e)
 seen_at (x ∷ xs) q (suc i) e = by_head (is q x) refl e (λ f. seen_at xs q i f)
   where
-    by_head : (b : Bool) → is q x ≡ b → (b || list_any (is q) (take i xs)) ≡ true → (list_any (is q) (take i xs) ≡ true → (k : ℕ) × (k < i) × (slice_get (texts xs) k ≡ Some q.now)) → (k : ℕ) × (k < suc i) × (slice_get (texts (x ∷ xs)) k ≡ Some q.now)
+    by_head : (b : Bool) → is q x ≡ b → (b || list_any (is q) (take i xs)) ≡ true
+        → (list_any (is q) (take i xs) ≡ true → (k : ℕ) × (k < i)
+        × (slice_get (texts xs) k ≡ Some q.now)) → (k : ℕ) × (k < suc i)
+        × (slice_get (texts (x ∷ xs)) k ≡ Some q.now)
     by_head true h f more = (0, omega arith, ap Some (sym (same_text q.now x.now (sym h))))
     by_head false h f more = let r = more f in (suc r.0, omega (arith, r.1), r.2)
 
@@ -36,7 +41,10 @@ unseen [] q i k e lt at = cc
 unseen (x ∷ xs) q zero k e lt at = omega arith
 unseen (x ∷ xs) q (suc i) k e lt at = by_head (is q x) refl e k lt at (λ j. unseen xs q i j)
   where
-    by_head : (b : Bool) → is q x ≡ b → (b || list_any (is q) (take i xs)) ≡ false → (k : ℕ) → k < suc i → slice_get (texts (x ∷ xs)) k ≡ Some q.now → ((j : ℕ) → list_any (is q) (take i xs) ≡ false → j < i → slice_get (texts xs) j ≡ Some q.now → ⊥) → ⊥
+    by_head : (b : Bool) → is q x ≡ b → (b || list_any (is q) (take i xs)) ≡ false → (k : ℕ)
+        → k < suc i → slice_get (texts (x ∷ xs)) k ≡ Some q.now
+        → ((j : ℕ) → list_any (is q) (take i xs) ≡ false → j < i
+        → slice_get (texts xs) j ≡ Some q.now → ⊥) → ⊥
     by_head true h f k lt at more = false≢true (sym f)
     by_head false h f zero lt at more = let p : q.now ≡ x.now = cc in other_text q.now x.now (sym h) p
     by_head false h f (suc k) lt at more = more k f (omega arith) at
@@ -51,10 +59,14 @@ turned p q = by_tests (is p q) (is q p) refl refl
     by_tests false true e f = absurd (other_text p.now q.now (sym e) (sym (same_text q.now p.now (sym f))))
 
 -- the set after one more name
-pub seen_more : (names : List (Bor (List ℕ))) (d q : Bor (List ℕ)) (i : ℕ) → i < length names → cond (is (get_or names i d) q) true (list_any (is q) (take i names)) ≡ list_any (is q) (take (i + 1) names)
+pub seen_more : (names : List (Bor (List ℕ))) (d q : Bor (List ℕ)) (i : ℕ) → i < length names
+    → cond (is (get_or names i d) q) true (list_any (is q) (take i names)) ≡ list_any (is q)
+    (take (i + 1) names)
 seen_more names d q i lt = by_test (is q (get_or names i d)) (list_any (is q) (take i names)) refl refl
   where
-    by_test : (a b : Bool) → is q (get_or names i d) ≡ a → list_any (is q) (take i names) ≡ b → cond (is (get_or names i d) q) true (list_any (is q) (take i names)) ≡ list_any (is q) (take (i + 1) names)
+    by_test : (a b : Bool) → is q (get_or names i d) ≡ a → list_any (is q) (take i names) ≡ b
+        → cond (is (get_or names i d) q) true (list_any (is q) (take i names)) ≡ list_any (is q)
+        (take (i + 1) names)
     by_test true true e f = rw (list_any_more (is q) names i d lt, turned (get_or names i d) q, e, f) refl
     by_test true false e f = rw (list_any_more (is q) names i d lt, turned (get_or names i d) q, e, f) refl
     by_test false true e f = rw (list_any_more (is q) names i d lt, turned (get_or names i d) q, e, f) refl
@@ -64,12 +76,16 @@ opposite : (b c : Bool) → c ≡ not b → (c ≡ false → b ≡ true) × (c �
 opposite true c e = (λ h. refl, λ h. absurd (false≢true (sym e ∙ h)))
 opposite false c e = (λ h. absurd (false≢true (sym h ∙ e)), λ h. refl)
 
-pub again_at : (names : List (Bor (List ℕ))) (d : Bor (List ℕ)) (i : ℕ) (has fresh : Bool) → i < length names → fresh ≡ not has → has ≡ list_any (is (get_or names i d)) (take i names) → fresh ≡ false → IsAgain (texts names) i
+pub again_at : (names : List (Bor (List ℕ))) (d : Bor (List ℕ)) (i : ℕ) (has fresh : Bool)
+    → i < length names → fresh ≡ not has → has ≡ list_any (is (get_or names i d)) (take i names)
+    → fresh ≡ false → IsAgain (texts names) i
 again_at names d i has fresh lt e h f =
     let r = seen_at names (get_or names i d) i (sym h ∙ (opposite has fresh e).0 f) in
     (r.0, r.1, (get_or names i d).now, r.2, text_at names d i lt)
 
-pub not_again : (names : List (Bor (List ℕ))) (d : Bor (List ℕ)) (i : ℕ) (has fresh : Bool) → i < length names → fresh ≡ not has → has ≡ list_any (is (get_or names i d)) (take i names) → fresh ≡ true → IsAgain (texts names) i → ⊥
+pub not_again : (names : List (Bor (List ℕ))) (d : Bor (List ℕ)) (i : ℕ) (has fresh : Bool)
+    → i < length names → fresh ≡ not has → has ≡ list_any (is (get_or names i d)) (take i names)
+    → fresh ≡ true → IsAgain (texts names) i → ⊥
 not_again names d i has fresh lt e h f a =
     let t = text_at names d i lt in
     let p : slice_get (texts names) a.0 ≡ Some ((get_or names i d).now) = a.3 ∙ sym a.4 ∙ t in

@@ -98,7 +98,9 @@ adds_more E F start g t old xs at s h =
     }
 
 -- the same for the list that is known to stand there now
-pub adds_now : (E F : ℕ → ℕ → Type 0) (start g : List (List ℕ)) (t : ℕ) (old xs now : List ℕ) → slice_get g t ≡ Some old → now ≡ old ++ xs → Steps E F t xs → Adds E start g → Adds F start (set g t now)
+pub adds_now : (E F : ℕ → ℕ → Type 0) (start g : List (List ℕ)) (t : ℕ) (old xs now : List ℕ)
+    → slice_get g t ≡ Some old → now ≡ old ++ xs → Steps E F t xs → Adds E start g
+    → Adds F start (set g t now)
 adds_now E F start g t old xs now at is s h = subst (λ (l : List ℕ). Adds F start (set g t l)) (sym is) (adds_more E F start g t old xs at s h)
 
 pub adds_none : (E : ℕ → ℕ → Type 0) (g : List (List ℕ)) → ((a b : ℕ) → E a b → ⊥) → Adds E g g
@@ -115,7 +117,9 @@ pub adds_same : (E F : ℕ → ℕ → Type 0) (start g : List (List ℕ)) → (
 adds_same E F start g to from h =
     record { size = h.size; kept = h.kept; added = λ a b f. h.added a b (from a b f); only = λ a b r. ⊎_elim (λ o. inl o) (λ e. inr (to a b e)) (h.only a b r) }
 
-pub adds_both : (E F G : ℕ → ℕ → Type 0) (start mid new : List (List ℕ)) → ((a b : ℕ) → E a b → G a b) → ((a b : ℕ) → F a b → G a b) → ((a b : ℕ) → G a b → E a b ⊎ F a b) → Adds E start mid → Adds F mid new → Adds G start new
+pub adds_both : (E F G : ℕ → ℕ → Type 0) (start mid new : List (List ℕ))
+    → ((a b : ℕ) → E a b → G a b) → ((a b : ℕ) → F a b → G a b)
+    → ((a b : ℕ) → G a b → E a b ⊎ F a b) → Adds E start mid → Adds F mid new → Adds G start new
 adds_both E F G start mid new left right either h k =
     record {
       size = k.size ∙ h.size;
@@ -144,7 +148,9 @@ pub none_assigned : (m : Module) (a b : ℕ) → IsAssigned m 0 a b → ⊥
 none_assigned m a b e = omega (arith, e.2)
 
 -- the nets of one port more
-pub joined_more : (i : Instance) (ports nets : List ℕ) (count p x : ℕ) → slice_get ports count ≡ Some p → slice_get i.nets p ≡ Some x → x < 2 ^ 32 → AreJoined i ports count nets → AreJoined i ports (count + 1) (nets ++ x ∷ [])
+pub joined_more : (i : Instance) (ports nets : List ℕ) (count p x : ℕ)
+    → slice_get ports count ≡ Some p → slice_get i.nets p ≡ Some x → x < 2 ^ 32
+    → AreJoined i ports count nets → AreJoined i ports (count + 1) (nets ++ x ∷ [])
 joined_more i ports nets count p x at joins small h =
     record {
       size = length_push nets x ∙ ap (λ (k : ℕ). k + 1) h.size;
@@ -168,7 +174,10 @@ pub none_joined : (i : Instance) (ports : List ℕ) → AreJoined i ports 0 []
 none_joined i ports = record { size = refl; small = λ n a is. absurd (cc); sound = λ n a is. absurd (cc); whole = λ n p a lt at is. absurd (omega (arith, lt)) }
 
 -- one more port, with all paths to it
-pub steps_row : (i : Instance) (table : List (List ℕ)) (n to : ℕ) (row nets : List ℕ) → slice_get table n ≡ Some row → slice_get i.nets n ≡ Some to → AreJoined i row (length row) nets → Steps (IsPassed i table n) (IsPassed i table (n + 1)) to nets
+pub steps_row : (i : Instance) (table : List (List ℕ)) (n to : ℕ) (row nets : List ℕ)
+    → slice_get table n ≡ Some row → slice_get i.nets n ≡ Some to
+    → AreJoined i row (length row) nets
+    → Steps (IsPassed i table n) (IsPassed i table (n + 1)) to nets
 steps_row i table n to row nets at out_at h =
     record {
       kept = λ a b e. (e.0, omega (arith, e.1), e.2, e.3, e.4);
@@ -188,7 +197,9 @@ pub none_passed : (i : Instance) (table : List (List ℕ)) (a b : ℕ) → IsPas
 none_passed i table a b e = omega (arith, e.1)
 
 -- a port without a path to it
-pub passed_same : (i : Instance) (table : List (List ℕ)) (n : ℕ) (row : List ℕ) (start g : List (List ℕ)) → slice_get table n ≡ Some row → length row ≡ 0 → Adds (IsPassed i table n) start g → Adds (IsPassed i table (n + 1)) start g
+pub passed_same : (i : Instance) (table : List (List ℕ)) (n : ℕ) (row : List ℕ)
+    (start g : List (List ℕ)) → slice_get table n ≡ Some row → length row ≡ 0
+    → Adds (IsPassed i table n) start g → Adds (IsPassed i table (n + 1)) start g
 passed_same i table n row start g at none h =
     adds_same (IsPassed i table n) (IsPassed i table (n + 1)) start g (λ a b e. (e.0, omega (arith, e.1), e.2, e.3, e.4)) (λ a b f. (f.0, by_place a b f (cases_lt f.0.output n), f.2, f.3, f.4)) h
   where
@@ -200,7 +211,10 @@ passed_same i table n row start g at none h =
         absurd (omega (arith, slice_get_within f.2.0 f.2.1 f.0.input f.2.3, ap length p, none))
 
 -- one more instance
-pub parted_more : (m : Module) (tables : List (List (List ℕ))) (k : ℕ) (i : Instance) (paths : List (List ℕ)) (start mid new : List (List ℕ)) → slice_get m.instances k ≡ Some i → slice_get tables i.module ≡ Some paths → Adds (IsParted m tables k) start mid → Adds (IsPassed i paths (length paths)) mid new → Adds (IsParted m tables (k + 1)) start new
+pub parted_more : (m : Module) (tables : List (List (List ℕ))) (k : ℕ) (i : Instance)
+    (paths : List (List ℕ)) (start mid new : List (List ℕ)) → slice_get m.instances k ≡ Some i
+    → slice_get tables i.module ≡ Some paths → Adds (IsParted m tables k) start mid
+    → Adds (IsPassed i paths (length paths)) mid new → Adds (IsParted m tables (k + 1)) start new
 parted_more m tables k i paths start mid new at table h g =
     adds_both (IsParted m tables k) (IsPassed i paths (length paths)) (IsParted m tables (k + 1)) start mid new
     (λ a b e. (e.0, e.1, e.2, omega (arith, e.3), e.4, e.5, e.6))

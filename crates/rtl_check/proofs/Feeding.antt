@@ -59,7 +59,9 @@ beside d m S T source net may n g ne s seen gives = by_source (g.fresh s n seen 
     by_source (inl h) = h
     by_source (inr e) = absurd (ne (g.alone n (subst (λ (x : Source). Gives d m x n) e gives)))
 
-fed_beside : (d : Design) (m : Module) (S T : Source → Type 0) (source : Source) (net : ℕ) (may : Bool) (n : ℕ) (mark : Fed) → Sees d m S T source net may → (n ≡ net → ⊥) → IsFed d m S n mark → IsFed d m T n mark
+fed_beside : (d : Design) (m : Module) (S T : Source
+    → Type 0) (source : Source) (net : ℕ) (may : Bool) (n : ℕ) (mark : Fed)
+    → Sees d m S T source net may → (n ≡ net → ⊥) → IsFed d m S n mark → IsFed d m T n mark
 fed_beside d m S T source net may n Never g ne h = (h.0, λ s seen gives. h.1 s (beside d m S T source net may n g ne s seen gives) gives)
 fed_beside d m S T source net may n Input g ne h = (h.0, λ s seen gives. h.1 s (beside d m S T source net may n g ne s seen gives) gives)
 fed_beside d m S T source net may n Once g ne h = (
@@ -75,7 +77,9 @@ fed_beside d m S T source net may n Once g ne h = (
 fed_beside d m S T source net may n Wrongly g ne h = h
 
 -- the mark of the net that has one source more
-fed_here : (d : Design) (m : Module) (S T : Source → Type 0) (source : Source) (net : ℕ) (may : Bool) (mark : Fed) → Sees d m S T source net may → IsFed d m S net mark → IsFed d m T net (after mark may)
+fed_here : (d : Design) (m : Module) (S T : Source
+    → Type 0) (source : Source) (net : ℕ) (may : Bool) (mark : Fed)
+    → Sees d m S T source net may → IsFed d m S net mark → IsFed d m T net (after mark may)
 fed_here d m S T source net true Never g h = (
   h.0,
   record {
@@ -93,7 +97,10 @@ fed_here d m S T source net may Once g h =
     inr (source, other.source, g.gives, other.gives, λ e. g.new (subst S (sym e) other.seen))
 fed_here d m S T source net may Wrongly g h = h
 
-pub all_grow : (d : Design) (m : Module) (S T : Source → Type 0) (source : Source) (net : ℕ) (may : Bool) (marks : List Fed) (mark : Fed) → Sees d m S T source net may → slice_get marks net ≡ Some mark → AreFed d m S marks → AreFed d m T (set marks net (after mark may))
+pub all_grow : (d : Design) (m : Module) (S T : Source
+    → Type 0) (source : Source) (net : ℕ) (may : Bool) (marks : List Fed) (mark : Fed)
+    → Sees d m S T source net may → slice_get marks net ≡ Some mark → AreFed d m S marks
+    → AreFed d m T (set marks net (after mark may))
 all_grow d m S T source net may marks mark g at h n x is = by_net (cases_eq n net)
   where
     by_net : (n ≡ net) ⊎ (n ≡ net → ⊥) → IsFed d m T n x
@@ -130,7 +137,10 @@ pub wired_input : (m : Module) (n : ℕ) → is_input m.ports n ≡ true → is_
 wired_input m n p g = false≢true (sym g ∙ ap (λ b. is_reg m n || b) p ∙ or_true (is_reg m n))
 
 -- one more assignment is seen
-pub sees_assign : (d : Design) (m : Module) (j : ℕ) (a : Assign) → slice_get m.assigns j ≡ Some a → Sees d m (IsSeen j 0 0 0) (IsSeen (j + 1) 0 0 0) (Wired (ByAssign j)) a.target (not (is_reg m a.target))
+pub sees_assign : (d : Design) (m : Module) (j : ℕ) (a : Assign)
+    → slice_get m.assigns j ≡ Some a
+    → Sees d m (IsSeen j 0 0 0) (IsSeen (j + 1) 0 0 0) (Wired (ByAssign j)) a.target
+    (not (is_reg m a.target))
 sees_assign d m j a at =
     record {
       kept = kept;
@@ -158,14 +168,19 @@ sees_assign d m j a at =
     fresh (Wired (ByPort k i)) h = inl h
     fresh (Updated i) h = inl h
 
-pub assign_fed : (d : Design) (m : Module) (marks : List Fed) (j : ℕ) (a : Assign) (reg : Bool) (old new : Fed) → slice_get m.assigns j ≡ Some a → reg ≡ is_reg m a.target → slice_get marks a.target ≡ Some old → new ≡ after old (not reg) → AreFed d m (IsSeen j 0 0 0) marks → AreFed d m (IsSeen (j + 1) 0 0 0) (set marks a.target new)
+pub assign_fed : (d : Design) (m : Module) (marks : List Fed) (j : ℕ) (a : Assign) (reg : Bool)
+    (old new : Fed) → slice_get m.assigns j ≡ Some a → reg ≡ is_reg m a.target
+    → slice_get marks a.target ≡ Some old → new ≡ after old (not reg)
+    → AreFed d m (IsSeen j 0 0 0) marks → AreFed d m (IsSeen (j + 1) 0 0 0) (set marks a.target new)
 assign_fed d m marks j a reg old new at r was now h =
     rw (now, r) (all_grow d m (IsSeen j 0 0 0) (IsSeen (j + 1) 0 0 0) (Wired (ByAssign j)) a.target (not (is_reg m a.target)) marks old (sees_assign d m j a at) was h)
 
 -- inputs among one port more
 pub input_more : (ports : List Port) (p : Port) (n : ℕ) → is_input (ports ++ p ∷ []) n ≡ (is_input ports n || (nat_eq p.net n && not p.output))
 input_more [] p n = or-false (nat_eq p.net n && not p.output)
-input_more (q ∷ ports) p n = ap (λ b. (nat_eq q.net n && not q.output) || b) (input_more ports p n) ∙ sym (or_assoc (nat_eq q.net n && not q.output) (is_input ports n) (nat_eq p.net n && not p.output))
+input_more (q ∷ ports) p n = ap (λ b. (nat_eq q.net n
+    && not q.output) || b) (input_more ports p n) ∙ sym (or_assoc (nat_eq q.net n
+    && not q.output) (is_input ports n) (nat_eq p.net n && not p.output))
 
 pub output_marked : (ports : List Port) (p : Port) (n : ℕ) (mark : Fed) → p.output ≡ true → mark ≡ cond (is_input ports n) Input Never → mark ≡ cond (is_input (ports ++ p ∷ []) n) Input Never
 output_marked ports p n mark o e = e ∙ ap (λ b. cond b Input Never) (sym (input_more ports p n ∙ none (nat_eq p.net n) (is_input ports n) p.output o))
@@ -176,7 +191,11 @@ output_marked ports p n mark o e = e ∙ ap (λ b. cond b Input Never) (sym (inp
     none false false true e = refl
     none a b false e = absurd (false≢true e)
 
-pub input_marked : (marks : List Fed) (ports : List Port) (p : Port) → p.output ≡ false → p.net < length marks → ((n : ℕ) (mark : Fed) → slice_get marks n ≡ Some mark → mark ≡ cond (is_input ports n) Input Never) → (n : ℕ) (mark : Fed) → slice_get (set marks p.net Input) n ≡ Some mark → mark ≡ cond (is_input (ports ++ p ∷ []) n) Input Never
+pub input_marked : (marks : List Fed) (ports : List Port) (p : Port) → p.output ≡ false
+    → p.net < length marks → ((n : ℕ) (mark : Fed) → slice_get marks n ≡ Some mark
+    → mark ≡ cond (is_input ports n) Input Never) → (n : ℕ) (mark : Fed)
+    → slice_get (set marks p.net Input) n ≡ Some mark → mark ≡ cond (is_input (ports ++ p
+    ∷ []) n) Input Never
 input_marked marks ports p o lt h n mark at = by_net (cases_eq n p.net)
   where
     here : (a b c : Bool) → a ≡ true → c ≡ false → cond (b || (a && not c)) Input Never ≡ Input
@@ -196,7 +215,9 @@ input_marked marks ports p o lt h n mark at = by_net (cases_eq n p.net)
         let r : Input ≡ mark = some_is (sym (at_set marks p.net Input lt) ∙ q) in
         sym r ∙ sym (ap (λ b. cond b Input Never) (input_more ports p n) ∙ here (nat_eq p.net n) (is_input ports n) p.output (eq-eqb p.net n (sym e)) o)
     by_net (inr ne) =
-        h n mark (sym (beside_set marks p.net n Input ne) ∙ at) ∙ ap (λ b. cond b Input Never) (sym (input_more ports p n ∙ other (nat_eq p.net n) (is_input ports n) p.output (ne_eqb p.net n (λ e. ne (sym e)))))
+        h n mark (sym (beside_set marks p.net n Input ne) ∙ at) ∙ ap (λ b. cond b Input Never)
+        (sym (input_more ports p n ∙ other (nat_eq p.net n) (is_input ports n) p.output
+        (ne_eqb p.net n (λ e. ne (sym e)))))
 
 -- the marks with no source seen
 pub none_seen : (d : Design) (m : Module) (marks : List Fed) → ((n : ℕ) (mark : Fed) → slice_get marks n ≡ Some mark → mark ≡ cond (is_input m.ports n) Input Never) → AreFed d m (IsSeen 0 0 0 0) marks

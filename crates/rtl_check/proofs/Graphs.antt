@@ -20,7 +20,14 @@ pub is_graph : (m : Module) (tables : List (List (List ℕ))) (g : List (List �
 is_graph m tables g r h b i lt =
     let a = get_or (get_or g b []) i 0 in
     let e : Reads g b a = (i, lt, refl) in
-    omega (arith, h.size, h.small a b e, ⊎_elim (λ (x : IsAssigned m (length m.assigns) a b). r.reads x.0 a x.1 x.3 x.4) (λ (x : IsParted m tables (length m.instances) a b). r.nets x.0 x.6.0.input a x.1 x.4 x.6.3) (h.only a b e))
+    omega (
+      arith,
+      h.size,
+      h.small a b e,
+      ⊎_elim (λ (x : IsAssigned m (length m.assigns) a b). r.reads x.0 a x.1 x.3 x.4)
+          (λ (x : IsParted m tables
+          (length m.instances) a b). r.nets x.0 x.6.0.input a x.1 x.4 x.6.3) (h.only a b e),
+    )
 
 pub graph_of : (d : Design) (m : Module) (tables : List (List (List ℕ))) (g : List (List ℕ)) → IsPart m tables d → HasEdges m tables g → IsGraphOf d m g
 graph_of d m tables g part h = record { fed = λ a b e. ⊎_elim (assigned a b) (parted a b) (h.only a b e); reads = λ a b f. reads a b f }
@@ -40,7 +47,9 @@ graph_of d m tables g part h = record { fed = λ a b e. ⊎_elim (assigned a b) 
         let e : Connection d m x.0 p.output = record { part = i; of = x.4; inner = inner.0; is = inner.1; port = path.output; at = path.output_at; net = b; joins = x.6.4 } in
         by_part x.0 p.input p.output c e path.is_input path.is_output path.leads
 
-    passes : (k j l : ℕ) (c : Connection d m k j) (e : Connection d m k l) → c.port.output ≡ false → e.port.output ≡ true → Way d e.inner c.port.net e.port.net → IsParted m tables (length m.instances) c.net e.net
+    passes : (k j l : ℕ) (c : Connection d m k j) (e : Connection d m k l)
+        → c.port.output ≡ false → e.port.output ≡ true → Way d e.inner c.port.net e.port.net
+        → IsParted m tables (length m.instances) c.net e.net
     passes k j l c e is_in is_out way =
         let i = c.part in
         let w = inner_is i c.inner c.of c.is e in
@@ -48,7 +57,15 @@ graph_of d m tables g part h = record { fed = λ a b e. ⊎_elim (assigned a b) 
         let at : slice_get c.inner.ports l ≡ Some e.port = ap (λ (x : Module). slice_get x.ports l) (sym w.1) ∙ e.at in
         let joins : slice_get i.nets l ≡ Some e.net = ap (λ (x : Instance). slice_get x.nets l) (sym w.0) ∙ e.joins in
         let x : PortPath = record { input = j; output = l } in
-        let path : IsPath (Way d c.inner) c.inner x = record { input = c.port; input_at = c.at; is_input = is_in; output = e.port; output_at = at; is_output = is_out; leads = subst (λ (y : Module). Way d y c.port.net e.port.net) w.1 way } in
+        let path : IsPath (Way d c.inner) c.inner x = record {
+          input = c.port;
+          input_at = c.at;
+          is_input = is_in;
+          output = e.port;
+          output_at = at;
+          is_output = is_out;
+          leads = subst (λ (y : Module). Way d y c.port.net e.port.net) w.1 way;
+        } in
         let found = table.2.whole x tt path in
         (k, i, table.0, slice_get_within m.instances k i c.of, c.of, table.1, (x, slice_get_within table.0 l found.0 found.2, found, c.joins, joins))
 
@@ -106,6 +123,22 @@ reaches d m g h a b w = goes_on h w begin
 pub paths_of : (d : Design) (m : Module) (g : List (List ℕ)) (paths : List (List ℕ)) → IsGraphOf d m g → ArePaths (Reaches g) m (λ i o. Unit {0}) paths → ArePathsOf d m paths
 paths_of d m g paths h p =
     record {
-      sound = λ x at. let q = p.sound x at in record { input = q.input; input_at = q.input_at; is_input = q.is_input; output = q.output; output_at = q.output_at; is_output = q.is_output; leads = way d m g h q.input.net q.output.net q.leads };
-      whole = λ x t q. p.whole x tt (record { input = q.input; input_at = q.input_at; is_input = q.is_input; output = q.output; output_at = q.output_at; is_output = q.is_output; leads = reaches d m g h q.input.net q.output.net q.leads });
+      sound = λ x at. let q = p.sound x at in record {
+        input = q.input;
+        input_at = q.input_at;
+        is_input = q.is_input;
+        output = q.output;
+        output_at = q.output_at;
+        is_output = q.is_output;
+        leads = way d m g h q.input.net q.output.net q.leads;
+      };
+      whole = λ x t q. p.whole x tt (record {
+        input = q.input;
+        input_at = q.input_at;
+        is_input = q.is_input;
+        output = q.output;
+        output_at = q.output_at;
+        is_output = q.is_output;
+        leads = reaches d m g h q.input.net q.output.net q.leads;
+      });
     }

@@ -148,7 +148,10 @@ record IsSource (d : Design) (m : Module) (n : ℕ) (s : Source) : Type 0 where
   may : May m s n
   only : (other : Source) → Gives d m other n → other ≡ s
 
-picked : (d : Design) (m : Module) (x : Drivers) (h : AllDriven d m x) (n : ℕ) (c : (n < length m.nets) ⊎ (length m.nets ≤ n)) (b : (is_input m.ports n ≡ true) ⊎ (is_input m.ports n ≡ false)) → n < length m.nets → is_input m.ports n ≡ false → IsSource d m n (pick d m x h n c b)
+picked : (d : Design) (m : Module) (x : Drivers) (h : AllDriven d m x) (n : ℕ)
+    (c : (n < length m.nets) ⊎ (length m.nets ≤ n)) (b : (is_input m.ports n ≡ true)
+    ⊎ (is_input m.ports n ≡ false)) → n < length m.nets → is_input m.ports n ≡ false
+    → IsSource d m n (pick d m x h n c b)
 picked d m x h n (inl lt) (inr dry) less out = let one = one_at d m x h n lt dry in record { gives = one.gives; may = one.may; only = λ s g. one.only s tt g }
 picked d m x h n (inl lt) (inl wet) less out = absurd (false≢true (sym out ∙ wet))
 picked d m x h n (inr ge) b less out = absurd (omega arith)
@@ -199,7 +202,9 @@ has_updates d m x h =
     }
   where
     no_input : (n : ℕ) → is_reg m n ≡ true → is_input m.ports n ≡ false
-    no_input n reg = ⊎_elim (λ wet. let p = input_port m.ports n wet in absurd (false≢true (sym (subst (λ (k : ℕ). is_reg m k ≡ false) p.3 ((h.formed.ports p.0 p.1 p.2).wire)) ∙ reg))) (λ dry. dry) (cases_Bool (is_input m.ports n))
+    no_input n reg = ⊎_elim (λ wet. let p = input_port m.ports n wet in absurd
+        (false≢true (sym (subst (λ (k : ℕ). is_reg m k ≡ false) p.3
+        ((h.formed.ports p.0 p.1 p.2).wire)) ∙ reg))) (λ dry. dry) (cases_Bool (is_input m.ports n))
 
     some : (n : ℕ) → is_reg m n ≡ true → (s : Source) → IsSource d m n s → (u : Update) × (slice_get m.updates (number_of s) ≡ Some u) × (u.target ≡ Reg n)
     some n reg (Wired w) i = absurd (false≢true (sym ((or_parts (is_reg m n) (is_input m.ports n) i.may).0) ∙ reg))

@@ -1,5 +1,7 @@
 -- The marks after the ports of instances, and after updates.
-use Rattle.std.proofs.Common.{◌≡◌, ℕ, zero, suc, replicate, ◌+◌, ◌<◌, ◌≤◌, Bool, true, false, not, ◌&&◌, nat_eq, List, [], ◌∷◌, length, set, Some, refl, sym, ◌∙◌, ap, subst, arith, ◌⊎◌, inl, inr, ⊎_elim}
+use Rattle.std.proofs.Common.{◌≡◌, ℕ, zero, suc, replicate, ◌+◌, ◌<◌, ◌≤◌, Bool, true, false, not}
+use Rattle.std.proofs.Common.{◌&&◌, nat_eq, List, [], ◌∷◌, length, set, Some, refl, sym, ◌∙◌, ap}
+use Rattle.std.proofs.Common.{subst, arith, ◌⊎◌, inl, inr, ⊎_elim}
 use Rattle.std.specs.Prelude.{slice_get}
 use Rattle.std.proofs.lemmas.Bool.{false≢true, cases_lt, cases_eq, eqb-true, and_parts, or_cases, not-true}
 use Rattle.std.proofs.lemmas.Option.{slice_get_within}
@@ -32,7 +34,9 @@ connection d m k j i inner p net h =
     record { part = i; of = h.of; inner = inner; is = h.is; port = p; at = h.at; net = net; joins = h.joins }
 
 -- the parts of a connection are those that stand there
-pub inner_is : {d : Design} {m : Module} {k j : ℕ} (i : Instance) (inner : Module) → slice_get m.instances k ≡ Some i → slice_get d.modules i.module ≡ Some inner → (e : Connection d m k j) → (e.part ≡ i) × (e.inner ≡ inner)
+pub inner_is : {d : Design} {m : Module} {k j : ℕ} (i : Instance) (inner : Module)
+    → slice_get m.instances k ≡ Some i → slice_get d.modules i.module ≡ Some inner
+    → (e : Connection d m k j) → (e.part ≡ i) × (e.inner ≡ inner)
 inner_is {d = d} i inner of is e =
     let p : e.part ≡ i = some_is (sym e.of ∙ of) in
     let q : slice_get d.modules e.part.module ≡ slice_get d.modules i.module = ap (λ (x : Instance). slice_get d.modules x.module) p in
@@ -61,7 +65,9 @@ port_fresh a k j (Wired (ByPort l i)) (inr h) = by_place (cases_lt i j)
     by_place (inr ge) = let e : i ≡ j = omega (arith, h.1) in let f : l ≡ k = h.0 in inr (rw (e, f) refl)
 port_fresh a k j (Updated i) lt = inl lt
 
-sees_port : (d : Design) (m : Module) (a k j : ℕ) (i : Instance) (inner : Module) (p : Port) (net : ℕ) → Joined d m k j i inner p net → p.output ≡ true → Sees d m (IsSeen a k j 0) (IsSeen a k (j + 1) 0) (Wired (ByPort k j)) net (not (is_reg m net))
+sees_port : (d : Design) (m : Module) (a k j : ℕ) (i : Instance) (inner : Module) (p : Port)
+    (net : ℕ) → Joined d m k j i inner p net → p.output ≡ true
+    → Sees d m (IsSeen a k j 0) (IsSeen a k (j + 1) 0) (Wired (ByPort k j)) net (not (is_reg m net))
 sees_port d m a k j i inner p net h out =
     record {
       kept = port_kept a k j;
@@ -75,12 +81,19 @@ sees_port d m a k j i inner p net h out =
       input = wired_input m net;
     }
 
-pub port_fed : (d : Design) (m : Module) (marks : List Fed) (a k j : ℕ) (i : Instance) (inner : Module) (p : Port) (net : ℕ) (reg : Bool) (old new : Fed) → Joined d m k j i inner p net → p.output ≡ true → reg ≡ is_reg m net → slice_get marks net ≡ Some old → new ≡ after old (not reg) → AreFed d m (IsSeen a k j 0) marks → AreFed d m (IsSeen a k (j + 1) 0) (set marks net new)
+pub port_fed : (d : Design) (m : Module) (marks : List Fed) (a k j : ℕ) (i : Instance)
+    (inner : Module) (p : Port) (net : ℕ) (reg : Bool) (old new : Fed)
+    → Joined d m k j i inner p net → p.output ≡ true → reg ≡ is_reg m net
+    → slice_get marks net ≡ Some old → new ≡ after old (not reg)
+    → AreFed d m (IsSeen a k j 0) marks → AreFed d m (IsSeen a k (j + 1) 0) (set marks net new)
 port_fed d m marks a k j i inner p net reg old new at out r was now h =
     rw (now, r) (all_grow d m (IsSeen a k j 0) (IsSeen a k (j + 1) 0) (Wired (ByPort k j)) net (not (is_reg m net)) marks old (sees_port d m a k j i inner p net at out) was h)
 
 -- an input of the inner module drives nothing
-pub port_skipped : (d : Design) (m : Module) (marks : List Fed) (a k j : ℕ) (i : Instance) (inner : Module) (p : Port) → slice_get m.instances k ≡ Some i → slice_get d.modules i.module ≡ Some inner → slice_get inner.ports j ≡ Some p → p.output ≡ false → AreFed d m (IsSeen a k j 0) marks → AreFed d m (IsSeen a k (j + 1) 0) marks
+pub port_skipped : (d : Design) (m : Module) (marks : List Fed) (a k j : ℕ) (i : Instance)
+    (inner : Module) (p : Port) → slice_get m.instances k ≡ Some i
+    → slice_get d.modules i.module ≡ Some inner → slice_get inner.ports j ≡ Some p
+    → p.output ≡ false → AreFed d m (IsSeen a k j 0) marks → AreFed d m (IsSeen a k (j + 1) 0) marks
 port_skipped d m marks a k j i inner p of is at out h =
     all_stay d m (IsSeen a k j 0) (IsSeen a k (j + 1) 0) marks (record { kept = port_kept a k j; fresh = λ s n seen gives. by_source s n gives (port_fresh a k j s seen) }) h
   where
@@ -96,7 +109,10 @@ port_skipped d m marks a k j i inner p of is at out h =
     by_source s n gives (inr e) = let g : Gives d m (Wired (ByPort k j)) n = subst (λ (x : Source). Gives d m x n) e gives in absurd (not_out g.0 g.1)
 
 -- all ports of an instance are seen
-pub instance_done : (d : Design) (m : Module) (marks : List Fed) (a k j : ℕ) (i : Instance) (inner : Module) → slice_get m.instances k ≡ Some i → slice_get d.modules i.module ≡ Some inner → length inner.ports ≤ j → AreFed d m (IsSeen a k j 0) marks → AreFed d m (IsSeen a (k + 1) 0 0) marks
+pub instance_done : (d : Design) (m : Module) (marks : List Fed) (a k j : ℕ) (i : Instance)
+    (inner : Module) → slice_get m.instances k ≡ Some i
+    → slice_get d.modules i.module ≡ Some inner → length inner.ports ≤ j
+    → AreFed d m (IsSeen a k j 0) marks → AreFed d m (IsSeen a (k + 1) 0 0) marks
 instance_done d m marks a k j i inner of is all h =
     all_stay d m (IsSeen a k j 0) (IsSeen a (k + 1) 0 0) marks (record { kept = kept; fresh = fresh }) h
   where
@@ -148,7 +164,10 @@ update_fresh a k j (Updated i) lt = by_place (cases_lt i j)
     by_place (inl less) = inl less
     by_place (inr ge) = let e : i ≡ j = omega arith in inr (ap (λ x. Updated x) e)
 
-sees_update : (d : Design) (m : Module) (a k j : ℕ) (u : Update) (net : ℕ) → slice_get m.updates j ≡ Some u → u.target ≡ Reg net → (is_input m.ports net ≡ true → is_reg m net ≡ false) → Sees d m (IsSeen a k 0 j) (IsSeen a k 0 (j + 1)) (Updated j) net (is_reg m net)
+sees_update : (d : Design) (m : Module) (a k j : ℕ) (u : Update) (net : ℕ)
+    → slice_get m.updates j ≡ Some u → u.target ≡ Reg net
+    → (is_input m.ports net ≡ true → is_reg m net ≡ false)
+    → Sees d m (IsSeen a k 0 j) (IsSeen a k 0 (j + 1)) (Updated j) net (is_reg m net)
 sees_update d m a k j u net at to wire =
     record {
       kept = update_kept a k j;
@@ -165,7 +184,11 @@ sees_update d m a k j u net at to wire =
     alone : (n : ℕ) → Gives d m (Updated j) n → n ≡ net
     alone n g = let p : g.0 ≡ u = some_is (sym g.1 ∙ at) in let q : Reg n ≡ Reg net = sym g.2 ∙ ap (λ (x : Update). x.target) p ∙ to in cc
 
-pub update_fed : (d : Design) (m : Module) (marks : List Fed) (a k j : ℕ) (u : Update) (net : ℕ) (reg : Bool) (old new : Fed) → slice_get m.updates j ≡ Some u → u.target ≡ Reg net → ((i : ℕ) (p : Port) → slice_get m.ports i ≡ Some p → is_reg m p.net ≡ false) → reg ≡ is_reg m net → slice_get marks net ≡ Some old → new ≡ after old reg → AreFed d m (IsSeen a k 0 j) marks → AreFed d m (IsSeen a k 0 (j + 1)) (set marks net new)
+pub update_fed : (d : Design) (m : Module) (marks : List Fed) (a k j : ℕ) (u : Update) (net : ℕ)
+    (reg : Bool) (old new : Fed) → slice_get m.updates j ≡ Some u → u.target ≡ Reg net
+    → ((i : ℕ) (p : Port) → slice_get m.ports i ≡ Some p → is_reg m p.net ≡ false)
+    → reg ≡ is_reg m net → slice_get marks net ≡ Some old → new ≡ after old reg
+    → AreFed d m (IsSeen a k 0 j) marks → AreFed d m (IsSeen a k 0 (j + 1)) (set marks net new)
 update_fed d m marks a k j u net reg old new at to wires r was now h =
     rw (now, r) (all_grow d m (IsSeen a k 0 j) (IsSeen a k 0 (j + 1)) (Updated j) net (is_reg m net) marks old (sees_update d m a k j u net at to wire) was h)
   where
@@ -173,7 +196,9 @@ update_fed d m marks a k j u net reg old new at to wires r was now h =
     wire t = let w = input_port m.ports net t in subst (λ (n : ℕ). is_reg m n ≡ false) w.3 (wires w.0 w.1 w.2)
 
 -- an update of a memory gives no net its value
-pub update_skipped : (d : Design) (m : Module) (marks : List Fed) (a k j : ℕ) (u : Update) (mem address : ℕ) → slice_get m.updates j ≡ Some u → u.target ≡ Cell mem address → AreFed d m (IsSeen a k 0 j) marks → AreFed d m (IsSeen a k 0 (j + 1)) marks
+pub update_skipped : (d : Design) (m : Module) (marks : List Fed) (a k j : ℕ) (u : Update)
+    (mem address : ℕ) → slice_get m.updates j ≡ Some u → u.target ≡ Cell mem address
+    → AreFed d m (IsSeen a k 0 j) marks → AreFed d m (IsSeen a k 0 (j + 1)) marks
 update_skipped d m marks a k j u mem address at to h =
     all_stay d m (IsSeen a k 0 j) (IsSeen a k 0 (j + 1)) marks (record { kept = update_kept a k j; fresh = λ s n seen gives. by_source s n gives (update_fresh a k j s seen) }) h
   where
@@ -233,7 +258,10 @@ written_here m j k Wrongly w h = h
 writes_one : (m : Module) (j k : ℕ) (u : Update) (t : Target) → slice_get m.updates j ≡ Some u → u.target ≡ t → Writes m j k → (address : ℕ) × (t ≡ Cell k address)
 writes_one m j k u t at to w = (w.1, sym to ∙ sym (ap (λ (x : Update). x.target) (some_is (sym w.2 ∙ at))) ∙ w.3)
 
-pub write_seen : (m : Module) (marks : List Fed) (j : ℕ) (u : Update) (mem address : ℕ) (old new : Fed) → slice_get m.updates j ≡ Some u → u.target ≡ Cell mem address → slice_get marks mem ≡ Some old → new ≡ after old true → AreWritten m j marks → AreWritten m (j + 1) (set marks mem new)
+pub write_seen : (m : Module) (marks : List Fed) (j : ℕ) (u : Update) (mem address : ℕ)
+    (old new : Fed) → slice_get m.updates j ≡ Some u → u.target ≡ Cell mem address
+    → slice_get marks mem ≡ Some old → new ≡ after old true → AreWritten m j marks
+    → AreWritten m (j + 1) (set marks mem new)
 write_seen m marks j u mem address old new at to was now h k mark is = by_mem (cases_eq k mem)
   where
     by_mem : (k ≡ mem) ⊎ (k ≡ mem → ⊥) → IsWritten m (j + 1) k mark
@@ -243,7 +271,9 @@ write_seen m marks j u mem address old new at to was now h k mark is = by_mem (c
         let here = written_here m j mem old (u, address, at, to) (h mem old was) in
         subst (λ (x : ℕ). IsWritten m (j + 1) x mark) (sym e) (subst (IsWritten m (j + 1) mem) q here)
     by_mem (inr ne) =
-        written_other m j k mark (λ w. let v = writes_one m j k u (Cell mem address) at to w in let q : Cell mem address ≡ Cell k v.0 = v.1 in ne (cc)) (h k mark (sym (beside_set marks mem k new ne) ∙ is))
+        written_other m j k mark (λ w. let v = writes_one m j k u
+        (Cell mem address) at to w in let q : Cell mem address ≡ Cell k v.0 = v.1 in ne
+        (cc)) (h k mark (sym (beside_set marks mem k new ne) ∙ is))
 
 -- an update of a register writes no memory
 pub write_skipped : (m : Module) (marks : List Fed) (j : ℕ) (u : Update) (net : ℕ) → slice_get m.updates j ≡ Some u → u.target ≡ Reg net → AreWritten m j marks → AreWritten m (j + 1) marks

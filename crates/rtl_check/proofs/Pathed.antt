@@ -17,7 +17,11 @@ row_cases table row x h =
     ⊎_elim (λ old. inl (h.0, h.1, old, h.3)) (λ new. inr (new.0, (h.1, ap (λ (l : List ℕ). slice_get l h.1) new.1 ∙ h.3))) (pushed_at table x.output row h.0 h.2)
 
 -- the paths to one output more
-pub row_more : (g : List (List ℕ)) (m : Module) (table : List (List ℕ)) (output : ℕ) (p : Port) (row nodes : List ℕ) (places : List (Option ℕ)) → slice_get m.ports output ≡ Some p → p.output ≡ true → ArePlaces m (length m.ports) places → IsFanIn g p.net nodes → AreAmong places nodes (length nodes) row → length table ≡ output → ArePaths (Reaches g) m (λ i o. o < output) table
+pub row_more : (g : List (List ℕ)) (m : Module) (table : List (List ℕ)) (output : ℕ) (p : Port)
+    (row nodes : List ℕ) (places : List (Option ℕ)) → slice_get m.ports output ≡ Some p
+    → p.output ≡ true → ArePlaces m (length m.ports) places → IsFanIn g p.net nodes
+    → AreAmong places nodes (length nodes) row → length table ≡ output
+    → ArePaths (Reaches g) m (λ i o. o < output) table
     → ArePaths (Reaches g) m (λ i o. o < output + 1) (table ++ row ∷ [])
 row_more g m table output p row nodes places at out are fan among size h =
     record {
@@ -29,7 +33,15 @@ row_more g m table output p row nodes places at out are fan among size h =
     here x e =
         let w = among.sound e.1.0 x.input e.1.1 in
         let q = are.sound (get_or nodes w.0 0) x.input w.2 in
-        record { input = q.0; input_at = q.1; is_input = q.2; output = p; output_at = ap (slice_get m.ports) (e.0 ∙ size) ∙ at; is_output = out; leads = subst (λ n. Reaches g n p.net) (sym q.3) (fan.sound w.0 w.1) }
+        record {
+          input = q.0;
+          input_at = q.1;
+          is_input = q.2;
+          output = p;
+          output_at = ap (slice_get m.ports) (e.0 ∙ size) ∙ at;
+          is_output = out;
+          leads = subst (λ n. Reaches g n p.net) (sym q.3) (fan.sound w.0 w.1);
+        }
 
     by_place : (x : PortPath) → IsPath (Reaches g) m x → x.output < output + 1 → (x.output < output) ⊎ (output ≤ x.output) → HasPath (table ++ row ∷ []) x
     by_place x path t (inl lt) = let w = h.whole x lt path in (w.0, w.1, in_front table (row ∷ []) x.output w.0 w.2, w.3)
@@ -42,7 +54,10 @@ row_more g m table output p row nodes places at out are fan among size h =
         (row, found.0, ap (slice_get (table ++ row ∷ [])) (e ∙ sym size) ∙ at_seam table row [], found.1)
 
 -- no path ends at an input
-pub row_skipped : (L : ℕ → ℕ → Type 0) (m : Module) (table : List (List ℕ)) (output : ℕ) (p : Port) → slice_get m.ports output ≡ Some p → p.output ≡ false → ArePaths L m (λ i o. o < output) table → ArePaths L m (λ i o. o < output + 1) (table ++ [] ∷ [])
+pub row_skipped : (L : ℕ → ℕ → Type 0) (m : Module) (table : List (List ℕ)) (output : ℕ)
+    (p : Port) → slice_get m.ports output ≡ Some p → p.output ≡ false
+    → ArePaths L m (λ i o. o < output) table → ArePaths L m (λ i o. o < output + 1) (table ++ []
+    ∷ [])
 row_skipped L m table output p at input h =
     record {
       sound = λ x has. ⊎_elim (λ old. h.sound x old) (λ new. absurd (none x new)) (row_cases table [] x has);
@@ -67,10 +82,20 @@ outputs_done L m output table past h =
     record { sound = h.sound; whole = λ x t path. h.whole x (omega (arith, slice_get_within m.ports x.output path.output path.output_at)) path }
 
 -- a net more, which is an input
-pub among_more : (places : List (Option ℕ)) (nodes inputs : List ℕ) (count input : ℕ) → slice_get places (get_or nodes count 0) ≡ Some (Some input) → AreAmong places nodes count inputs → AreAmong places nodes (count + 1) (inputs ++ input ∷ [])
+pub among_more : (places : List (Option ℕ)) (nodes inputs : List ℕ) (count input : ℕ)
+    → slice_get places (get_or nodes count 0) ≡ Some (Some input)
+    → AreAmong places nodes count inputs → AreAmong places nodes (count + 1) (inputs ++ input ∷ [])
 among_more places nodes inputs count input at h =
     record {
-      sound = λ n i is. ⊎_elim (λ old. let w = h.sound n i old in (w.0, omega (arith, w.1), w.2)) (λ new. (count, omega arith, at ∙ ap (λ (k : ℕ). Some (Some k)) new.1)) (pushed_at inputs n input i is);
+      sound = λ n i is. ⊎_elim (λ old. let w = h.sound n i old in (
+        w.0,
+        omega (arith, w.1),
+        w.2,
+      )) (λ new. (
+        count,
+        omega arith,
+        at ∙ ap (λ (k : ℕ). Some (Some k)) new.1,
+      )) (pushed_at inputs n input i is);
       whole = λ j i lt is. by_place j i lt is (cases_lt j count);
     }
   where
@@ -82,7 +107,9 @@ among_more places nodes inputs count input at h =
         (length inputs, at_seam inputs input [] ∙ ap (λ (k : ℕ). Some k) q)
 
 -- a net more, which is no input
-pub among_skipped : (places : List (Option ℕ)) (nodes inputs : List ℕ) (count : ℕ) → slice_get places (get_or nodes count 0) ≡ Some None → AreAmong places nodes count inputs → AreAmong places nodes (count + 1) inputs
+pub among_skipped : (places : List (Option ℕ)) (nodes inputs : List ℕ) (count : ℕ)
+    → slice_get places (get_or nodes count 0) ≡ Some None → AreAmong places nodes count inputs
+    → AreAmong places nodes (count + 1) inputs
 among_skipped places nodes inputs count at h =
     record {
       sound = λ n i is. let w = h.sound n i is in (w.0, omega (arith, w.1), w.2);
@@ -110,7 +137,10 @@ among_same places nodes found row count same h =
     }
 
 -- one input more has its place
-pub place_more : (m : Module) (input : ℕ) (places : List (Option ℕ)) (p : Port) → ArePortsApart m → slice_get m.ports input ≡ Some p → p.output ≡ false → p.net < length places → ArePlaces m input places → ArePlaces m (input + 1) (set places p.net (Some input))
+pub place_more : (m : Module) (input : ℕ) (places : List (Option ℕ)) (p : Port)
+    → ArePortsApart m → slice_get m.ports input ≡ Some p → p.output ≡ false
+    → p.net < length places → ArePlaces m input places
+    → ArePlaces m (input + 1) (set places p.net (Some input))
 place_more m input places p apart at is_in lt h =
     record { sound = λ n i is. sound n i is (cases_eq n p.net); whole = λ n i less is. whole n i less is (cases_eq n p.net) }
   where

@@ -26,7 +26,9 @@ clear_place words one end n lt clear = picked_other words (range_with_len 0 end)
 pub places_length : (words : List ℕ) (one end : ℕ) → length (picked_places words one end) ≡ end
 places_length words one end = picked_length words (range_with_len 0 end) one end
 
-pub same_places : (places words : List ℕ) (one end : ℕ) → AreMarked places words → slice_get places 0 ≡ Some one → ((i n : ℕ) → slice_get places i ≡ Some n → n < end) → HasSame places (picked_places words one end)
+pub same_places : (places words : List ℕ) (one end : ℕ) → AreMarked places words
+    → slice_get places 0 ≡ Some one → ((i n : ℕ) → slice_get places i ≡ Some n → n < end)
+    → HasSame places (picked_places words one end)
 same_places places words one end marked first within x = (λ w. into w, λ w. out w (cases_Bool (is_marked words w.0)))
   where
     into : ((i : ℕ) × (slice_get places i ≡ Some x)) → (i : ℕ) × (slice_get (picked_places words one end) i ≡ Some x)
@@ -49,7 +51,10 @@ pub record Stands (nets ports row : List ℕ) (n : ℕ) : Type 0 where
   pub there : slice_get nets place ≡ Some net
   pub in_row : slice_get row n ≡ Some net
 
-stands : (words nets : List ℕ) (one net end : ℕ) → ((n p : ℕ) → slice_get (picked_places words one end) n ≡ Some p → p < length nets) → slice_get nets one ≡ Some net → (n : ℕ) → n < end → Stands nets (picked_places words one end) (picked words nets net end) n
+stands : (words nets : List ℕ) (one net end : ℕ) → ((n p : ℕ)
+    → slice_get (picked_places words one end) n ≡ Some p → p < length nets)
+    → slice_get nets one ≡ Some net → (n : ℕ) → n < end
+    → Stands nets (picked_places words one end) (picked words nets net end) n
 stands words nets one net end within at n lt = by_mark (cases_Bool (is_marked words n))
   where
     by_mark : (is_marked words n ≡ true) ⊎ (is_marked words n ≡ false) → Stands nets (picked_places words one end) (picked words nets net end) n
@@ -59,7 +64,10 @@ stands words nets one net end within at n lt = by_mark (cases_Bool (is_marked wo
         record { place = n; port = port; net = get_or nets n 0; there = there; in_row = picked_one words nets net end n lt is (Some (get_or nets n 0)) (sym there) }
     by_mark (inr is) = record { place = one; port = clear_place words one end n lt is; net = net; there = at; in_row = picked_other words nets net end n lt is }
 
-pub picked_joined : (i : Instance) (words nets : List ℕ) (one net end : ℕ) → nets ≡ i.nets → ((n a : ℕ) → slice_get nets n ≡ Some a → a < 2 ^ 32) → ((n p : ℕ) → slice_get (picked_places words one end) n ≡ Some p → p < length i.nets) → slice_get nets one ≡ Some net
+pub picked_joined : (i : Instance) (words nets : List ℕ) (one net end : ℕ) → nets ≡ i.nets
+    → ((n a : ℕ) → slice_get nets n ≡ Some a → a < 2 ^ 32)
+    → ((n p : ℕ) → slice_get (picked_places words one end) n ≡ Some p → p < length i.nets)
+    → slice_get nets one ≡ Some net
     → AreJoined i (picked_places words one end) (length (picked_places words one end)) (picked words nets net end)
 picked_joined i words nets one net end are small within at =
     record {

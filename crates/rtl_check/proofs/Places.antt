@@ -49,7 +49,9 @@ take_more_at (z ∷ xs) zero x e = let p : z ≡ x = some_is e in rw p refl
 take_more_at (z ∷ xs) (suc i) x e = let q : suc i + 1 ≡ suc (i + 1) = omega arith in rw q (ap (λ l. z ∷ l) (take_more_at xs i x e))
 
 -- what holds of the items before a place and of the item there
-pub more_hold : {A : Type 0} (P : A → Type 0) (xs : List A) (i : ℕ) (x : A) → slice_get xs i ≡ Some x → P x → ((j : ℕ) (y : A) → j < i → slice_get xs j ≡ Some y → P y) → (j : ℕ) (y : A) → j < i + 1 → slice_get xs j ≡ Some y → P y
+pub more_hold : {A : Type 0} (P : A → Type 0) (xs : List A) (i : ℕ) (x : A)
+    → slice_get xs i ≡ Some x → P x → ((j : ℕ) (y : A) → j < i → slice_get xs j ≡ Some y → P y)
+    → (j : ℕ) (y : A) → j < i + 1 → slice_get xs j ≡ Some y → P y
 more_hold P xs i x at here before j y lt is = by_place (cases_lt j i)
   where
     by_place : (j < i) ⊎ (i ≤ j) → P y

@@ -15,7 +15,9 @@ use Rattle.rtl_ir.specs.Formed.{IsFormed, IsFormedModule}
 use Rattle.rtl_ir.specs.Rules.{AllDiffer, names_of, HasDrivers, HasUpdates, HasWidths, IsSound, IsAccepted}
 use Rattle.rtl_check.specs.FirstFault
 use Rattle.rtl_ir.specs.Faults.{Source, Wired, Updated, Gives, May, HasTwo, IsWrittenTwice}
-use Rattle.rtl_check.specs.FirstFault.{Lacks, IsNamedAgain, IsSameName, IsTwoDrivers, IsNoDriver, IsWidth, of_module, of_part, of_mem, of_assign, of_update, of_port, IsLoopOf, NoName, IsFaultOf, IsFirstFault}
+use Rattle.rtl_check.specs.FirstFault.{Lacks, IsNamedAgain, IsSameName, IsTwoDrivers, IsNoDriver}
+use Rattle.rtl_check.specs.FirstFault.{IsWidth, of_module, of_part, of_mem, of_assign, of_update}
+use Rattle.rtl_check.specs.FirstFault.{of_port, IsLoopOf, NoName, IsFaultOf, IsFirstFault}
 use Rattle.rtl_check.specs.Paths.{HasPath, IsInRange, ArePathsOf}
 use Rattle.rtl_check.specs.Checked.{IsPartFault, HasNoTwo, KeepsRules, IsPart}
 use Rattle.rtl_ir.proofs.Loops.{levelled_free}
@@ -128,7 +130,9 @@ pub earlier_at : (d : Design) → IsFormed d.modules → (number : ℕ) (m : Mod
 earlier_at d f number m at k i is = omega (arith, ((f.each number m at).instances k i is).is_earlier, length-take number d.modules)
 
 -- what a module names is there
-pub in_range : (d : Design) (m : Module) (tables : List (List (List ℕ))) → IsPart m tables d → ((k : ℕ) (i : Instance) → slice_get m.instances k ≡ Some i → i.module < length tables) → IsInRange m tables
+pub in_range : (d : Design) (m : Module) (tables : List (List (List ℕ))) → IsPart m tables d
+    → ((k : ℕ) (i : Instance) → slice_get m.instances k ≡ Some i → i.module < length tables)
+    → IsInRange m tables
 in_range d m tables part earlier =
     let f = part.0 in
     record {
@@ -167,12 +171,21 @@ first_fault d again number m e b f =
 pub named_fault : (d : Design) (again number : ℕ) (m : Module) (name : List ℕ) → Before d again number m → IsNamedAgain d number → name ≡ m.name → IsFirstFault d (SameName name)
 named_fault d again number m name b a is = first_fault d again number m (SameName name) b (subst (IsSameName d number m) (sym is) (of_module a))
 
-pub part_error : (d : Design) (again number : ℕ) (m : Module) (e : RtlError) → Before d again number m → (IsNamedAgain d number → ⊥) → (e ≡ NoMemory) ⊎ IsPartFault d m e → (e ≡ NoMemory) ⊎ IsFirstFault d e
+pub part_error : (d : Design) (again number : ℕ) (m : Module) (e : RtlError)
+    → Before d again number m → (IsNamedAgain d number → ⊥) → (e ≡ NoMemory) ⊎ IsPartFault d m e
+    → (e ≡ NoMemory) ⊎ IsFirstFault d e
 part_error d again number m e b fresh h = ⊎_elim (λ n. inl n) (λ f. inr (first_fault d again number m e b (part_fault d number m e fresh f))) h
 
-pub loop_error : (d : Design) (again number : ℕ) (m : Module) (tables : List (List (List ℕ))) (e : RtlError) → Before d again number m → (IsNamedAgain d number → ⊥) → KeepsRules d m → IsPart m tables d → (e ≡ NoMemory) ⊎ ((names : List (List ℕ)) × (e ≡ CombLoop names) × ((x : Design) → IsPart m tables x → IsLoopOf x m names)) → (e ≡ NoMemory) ⊎ IsFirstFault d e
+pub loop_error : (d : Design) (again number : ℕ) (m : Module) (tables : List (List (List ℕ)))
+    (e : RtlError) → Before d again number m → (IsNamedAgain d number → ⊥) → KeepsRules d m
+    → IsPart m tables d → (e ≡ NoMemory) ⊎ ((names : List (List ℕ)) × (e ≡ CombLoop names)
+    × ((x : Design) → IsPart m tables x → IsLoopOf x m names)) → (e ≡ NoMemory) ⊎ IsFirstFault d e
 loop_error d again number m tables e b fresh keeps part h =
-    ⊎_elim (λ n. inl n) (λ (w : (names : List (List ℕ)) × (e ≡ CombLoop names) × ((x : Design) → IsPart m tables x → IsLoopOf x m names)). inr (first_fault d again number m e b (subst (IsFaultOf d number m) (sym w.1) (loop_fault d number m w.0 fresh keeps (w.2 d part))))) h
+    ⊎_elim (λ n. inl n) (λ (w : (names : List (List ℕ)) × (e ≡ CombLoop names)
+    × ((x : Design) → IsPart m tables x
+    → IsLoopOf x m names)). inr (first_fault d again number m e b
+    (subst (IsFaultOf d number m) (sym w.1) (loop_fault d number m w.0 fresh keeps
+    (w.2 d part))))) h
 
 pub accepted_error : (d : Design) → IsAccepted d → (e : RtlError) → (e ≡ NoMemory) ⊎ IsFirstFault d e → e ≡ NoMemory
 accepted_error d h e f = ⊎_elim (λ n. n) (λ g. absurd (accepted_free d h e g)) f
@@ -190,14 +203,21 @@ AreWanted d wanted =
     → slice_get m.instances k ≡ Some i
     → slice_get wanted i.module ≡ Some true
 
-pub part_at : (d : Design) (number : ℕ) (m : Module) (wanted : List Bool) (tables : List (List (List ℕ))) → IsFormed d.modules → slice_get d.modules number ≡ Some m → AreWanted d wanted → HasPaths d wanted tables number → IsPart m tables d
+pub part_at : (d : Design) (number : ℕ) (m : Module) (wanted : List Bool)
+    (tables : List (List (List ℕ))) → IsFormed d.modules → slice_get d.modules number ≡ Some m
+    → AreWanted d wanted → HasPaths d wanted tables number → IsPart m tables d
 part_at d number m wanted tables f at marked paths =
     (formed_at d f number m at, λ k i inner at_i at_inner. paths i.module inner (earlier_at d f number m at k i at_i) at_inner (marked number k m i at at_i))
 
-pub range_at : (d : Design) (number : ℕ) (m : Module) (tables : List (List (List ℕ))) → IsFormed d.modules → slice_get d.modules number ≡ Some m → length tables ≡ number → IsPart m tables d → IsInRange m tables
+pub range_at : (d : Design) (number : ℕ) (m : Module) (tables : List (List (List ℕ)))
+    → IsFormed d.modules → slice_get d.modules number ≡ Some m → length tables ≡ number
+    → IsPart m tables d → IsInRange m tables
 range_at d number m tables f at count part = in_range d m tables part (λ k i at_i. omega (arith, count, earlier_at d f number m at k i at_i))
 
-pub tables_more : (d : Design) (wanted : List Bool) (tables : List (List (List ℕ))) (number : ℕ) (m : Module) (new : List (List ℕ)) → slice_get d.modules number ≡ Some m → length tables ≡ number → (slice_get wanted number ≡ Some true → ArePathsOf d m new) → HasPaths d wanted tables number → HasPaths d wanted (tables ++ new ∷ []) (number + 1)
+pub tables_more : (d : Design) (wanted : List Bool) (tables : List (List (List ℕ))) (number : ℕ)
+    (m : Module) (new : List (List ℕ)) → slice_get d.modules number ≡ Some m
+    → length tables ≡ number → (slice_get wanted number ≡ Some true → ArePathsOf d m new)
+    → HasPaths d wanted tables number → HasPaths d wanted (tables ++ new ∷ []) (number + 1)
 tables_more d wanted tables number m new at count here before k x lt is marked = by_place (cases_lt k number)
   where
     by_place : (k < number) ⊎ (number ≤ k) → (paths : List (List ℕ)) × (slice_get (tables ++ new ∷ []) k ≡ Some paths) × ArePathsOf d x paths
@@ -213,7 +233,10 @@ length_names : (modules : List Module) → length (map (λ (m : Module). m.name)
 length_names [] = refl
 length_names (m ∷ modules) = ap suc (length_names modules)
 
-pub accepted_at : (d : Design) (again : ℕ) → IsFormed d.modules → ((k : ℕ) → k < again → IsNamedAgain d k → ⊥) → length d.modules ≤ again → ((k : ℕ) (m : Module) → k < length d.modules → slice_get d.modules k ≡ Some m → IsSound d m) → IsAccepted d
+pub accepted_at : (d : Design) (again : ℕ) → IsFormed d.modules
+    → ((k : ℕ) → k < again → IsNamedAgain d k → ⊥) → length d.modules ≤ again
+    → ((k : ℕ) (m : Module) → k < length d.modules → slice_get d.modules k ≡ Some m
+    → IsSound d m) → IsAccepted d
 accepted_at d again f earlier past sound =
     record {
       formed = f;

@@ -20,17 +20,24 @@ use Rattle.rtl_check.proofs.Parted.{Joined, connection, inner_is, port_is}
 abbrev pub Fits : (d : Design) (m : Module) (k j : ℕ) → Connection d m k j → Type 0
 Fits d m k j e = width_of e.inner e.port.net ≡ width_of m e.net
 
-pub bad_here : (d : Design) (m : Module) (k j : ℕ) (i : Instance) (inner : Module) (p : Port) (net : ℕ) → Joined d m k j i inner p net → width_of inner p.net ≢ width_of m net → ((x : ℕ) (e : Connection d m k x) → x < j → Fits d m k x e) → IsFirst (IsBadPort d m k) j
+pub bad_here : (d : Design) (m : Module) (k j : ℕ) (i : Instance) (inner : Module) (p : Port)
+    (net : ℕ) → Joined d m k j i inner p net → width_of inner p.net ≢ width_of m net
+    → ((x : ℕ) (e : Connection d m k x) → x < j → Fits d m k x e) → IsFirst (IsBadPort d m k) j
 bad_here d m k j i inner p net h ne before =
     record { holds = (connection d m k j i inner p net h, ne); earlier = λ x lt bad. bad.1 (before x bad.0 lt) }
 
-fits_here : (d : Design) (m : Module) (k j : ℕ) (i : Instance) (inner : Module) (p : Port) (net : ℕ) → Joined d m k j i inner p net → width_of inner p.net ≡ width_of m net → (e : Connection d m k j) → Fits d m k j e
+fits_here : (d : Design) (m : Module) (k j : ℕ) (i : Instance) (inner : Module) (p : Port)
+    (net : ℕ) → Joined d m k j i inner p net → width_of inner p.net ≡ width_of m net
+    → (e : Connection d m k j) → Fits d m k j e
 fits_here d m k j i inner p net h same e =
     let w = inner_is i inner h.of h.is e in
     let q = port_is i inner p net h e in
     ap (λ (x : Module). width_of x e.port.net) w.1 ∙ ap (λ (x : Port). width_of inner x.net) q.0 ∙ same ∙ sym (ap (width_of m) q.1)
 
-pub more_fit : (d : Design) (m : Module) (k j : ℕ) (i : Instance) (inner : Module) (p : Port) (net : ℕ) → Joined d m k j i inner p net → width_of inner p.net ≡ width_of m net → ((x : ℕ) (e : Connection d m k x) → x < j → Fits d m k x e) → (x : ℕ) (e : Connection d m k x) → x < j + 1 → Fits d m k x e
+pub more_fit : (d : Design) (m : Module) (k j : ℕ) (i : Instance) (inner : Module) (p : Port)
+    (net : ℕ) → Joined d m k j i inner p net → width_of inner p.net ≡ width_of m net
+    → ((x : ℕ) (e : Connection d m k x) → x < j → Fits d m k x e)
+    → (x : ℕ) (e : Connection d m k x) → x < j + 1 → Fits d m k x e
 more_fit d m k j i inner p net h same before x e lt = by_place (cases_lt x j)
   where
     by_place : (x < j) ⊎ (j ≤ x) → Fits d m k x e
@@ -41,14 +48,19 @@ more_fit d m k j i inner p net h same before x e lt = by_place (cases_lt x j)
         λ y r. subst (λ (z : ℕ). (f : Connection d m k z) → Fits d m k z f) r (fits_here d m k j i inner p net h same) in
         all x q e
 
-pub all_fit : (d : Design) (m : Module) (k j : ℕ) (i : Instance) (inner : Module) → slice_get m.instances k ≡ Some i → slice_get d.modules i.module ≡ Some inner → length inner.ports ≤ j → ((x : ℕ) (e : Connection d m k x) → x < j → Fits d m k x e) → (x : ℕ) (e : Connection d m k x) → Fits d m k x e
+pub all_fit : (d : Design) (m : Module) (k j : ℕ) (i : Instance) (inner : Module)
+    → slice_get m.instances k ≡ Some i → slice_get d.modules i.module ≡ Some inner
+    → length inner.ports ≤ j → ((x : ℕ) (e : Connection d m k x) → x < j → Fits d m k x e)
+    → (x : ℕ) (e : Connection d m k x) → Fits d m k x e
 all_fit d m k j i inner of is past before x e =
     let w = inner_is i inner of is e in
     let q : slice_get inner.ports x ≡ Some e.port = ap (λ (y : Module). slice_get y.ports x) (sym w.1) ∙ e.at in
     before x e (omega (arith, slice_get_within inner.ports x e.port q))
 
 -- the instances before a number and one more
-pub more_parts : (d : Design) (m : Module) (n : ℕ) → ((j : ℕ) (e : Connection d m n j) → Fits d m n j e) → ((k j : ℕ) (e : Connection d m k j) → k < n → Fits d m k j e) → (k j : ℕ) (e : Connection d m k j) → k < n + 1 → Fits d m k j e
+pub more_parts : (d : Design) (m : Module) (n : ℕ) → ((j : ℕ) (e : Connection d m n j)
+    → Fits d m n j e) → ((k j : ℕ) (e : Connection d m k j) → k < n → Fits d m k j e)
+    → (k j : ℕ) (e : Connection d m k j) → k < n + 1 → Fits d m k j e
 more_parts d m n here before k j e lt = by_place (cases_lt k n)
   where
     by_place : (k < n) ⊎ (n ≤ k) → Fits d m k j e
@@ -66,7 +78,10 @@ pub record BadPort (d : Design) (m : Module) (k j net : ℕ) : Type 0 where
   pub port : IsFirst (IsBadPort d m k) j
   pub joins : connected.net ≡ net
 
-pub bad_part : (d : Design) (m : Module) (k j : ℕ) (i : Instance) (net : ℕ) → slice_get m.instances k ≡ Some i → slice_get i.nets j ≡ Some net → IsFirst (IsBadPort d m k) j → ((n x : ℕ) (e : Connection d m n x) → n < k → Fits d m n x e) → BadPort d m k j net
+pub bad_part : (d : Design) (m : Module) (k j : ℕ) (i : Instance) (net : ℕ)
+    → slice_get m.instances k ≡ Some i → slice_get i.nets j ≡ Some net
+    → IsFirst (IsBadPort d m k) j → ((n x : ℕ) (e : Connection d m n x) → n < k
+    → Fits d m n x e) → BadPort d m k j net
 bad_part d m k j i net of at first before =
     let e = first.holds.0 in
     let p : e.part ≡ i = some_is (sym e.of ∙ of) in

@@ -4,7 +4,9 @@ ghost use Rattle.rtl_ir.specs.declared.design.Assign.{Assign};
 ghost use Rattle.rtl_ir.specs.declared.design.Instance.{Instance};
 ghost use Rattle.rtl_ir.specs.declared.design.Port.{Port};
 ghost use Rattle.rtl_ir.specs.Operands.{reads};
-ghost use Rattle.rtl_check.specs.Paths.{PortPath, HasPath, AreJoined, AreAmong, Adds, IsSmall, IsAssigned, IsPassed, IsParted, IsInRange, HasEdges, ArePaths, ArePlaces, ArePortsApart};
+ghost use Rattle.rtl_check.specs.Paths.{PortPath, HasPath, AreJoined, AreAmong, Adds, IsSmall};
+ghost use Rattle.rtl_check.specs.Paths.{IsAssigned, IsPassed, IsParted, IsInRange, HasEdges};
+ghost use Rattle.rtl_check.specs.Paths.{ArePaths, ArePlaces, ArePortsApart};
 ghost use Rattle.digraph.specs.Graph.{Reads, IsGraph, Reaches};
 
 use crate::inputs::{Inputs, all_nets};

@@ -50,7 +50,9 @@ item_at (x ∷ l) zero h = (x, refl)
 item_at (x ∷ l) (suc k) h = item_at l k (omega (arith, h))
 
 -- no net that was added is named `position`, if none of these is
-others_named : (m n : Module) (g : Grows m n) → ((i : ℕ) (x : Net) → slice_get g.more_nets i ≡ Some x → x.name ≡ codes "position" → ⊥) → (k : ℕ) → length m.nets ≤ k → name_of n k ≡ codes "position" → ⊥
+others_named : (m n : Module) (g : Grows m n) → ((i : ℕ) (x : Net)
+    → slice_get g.more_nets i ≡ Some x → x.name ≡ codes "position" → ⊥) → (k : ℕ)
+    → length m.nets ≤ k → name_of n k ≡ codes "position" → ⊥
 others_named m n g none k le e =
     let it = item_at n.nets k (within_name n k e) in
     let named : it.0.name ≡ codes "position" = sym (ap net_name it.1) ∙ e in
@@ -130,7 +132,9 @@ small_at (y ∷ xs) h (suc i) x e = small_at xs h.1 i x e
 
 -- ---- wires
 
-pub wire_of_net : (m : Module) (k : ℕ) (nets : List Net) (assigns : List Assign) → AreWires m k nets assigns → (i : ℕ) (x : Net) → slice_get nets i ≡ Some x → (a : Assign) × ((slice_get assigns i ≡ Some a) × IsWire m (k + i) x a)
+pub wire_of_net : (m : Module) (k : ℕ) (nets : List Net) (assigns : List Assign)
+    → AreWires m k nets assigns → (i : ℕ) (x : Net) → slice_get nets i ≡ Some x → (a : Assign)
+    × ((slice_get assigns i ≡ Some a) × IsWire m (k + i) x a)
 wire_of_net m k [] assigns w i x e = cc
 wire_of_net m k (y ∷ nets) [] w i x e = absurd w
 wire_of_net m k (y ∷ nets) (b ∷ assigns) w zero x e =
@@ -142,7 +146,9 @@ wire_of_net m k (y ∷ nets) (b ∷ assigns) w (suc i) x e =
     let n : k + 1 + i ≡ k + suc i = omega arith in
     (r.0, (r.1.0, subst (λ j. IsWire m j x r.0) n r.1.1))
 
-wire_of_assign : (m : Module) (k : ℕ) (nets : List Net) (assigns : List Assign) → AreWires m k nets assigns → (i : ℕ) (a : Assign) → slice_get assigns i ≡ Some a → (x : Net) × ((slice_get nets i ≡ Some x) × IsWire m (k + i) x a)
+wire_of_assign : (m : Module) (k : ℕ) (nets : List Net) (assigns : List Assign)
+    → AreWires m k nets assigns → (i : ℕ) (a : Assign) → slice_get assigns i ≡ Some a
+    → (x : Net) × ((slice_get nets i ≡ Some x) × IsWire m (k + i) x a)
 wire_of_assign m k nets [] w i a e = cc
 wire_of_assign m k [] (b ∷ assigns) w i a e = absurd w
 wire_of_assign m k (y ∷ nets) (b ∷ assigns) w zero a e =
@@ -168,7 +174,10 @@ wires_more m n most p adds sound ordered = record {
         some = w.1.1.some;
         at_most = w.1.1.at_most;
         name = OfWire w.1.1.name;
-        wired = λ r. subst (λ t. is_driven t n.assigns ≡ true) w.1.1.target (driven_at n.assigns (length m.assigns + i) w.0 (ap (λ l. slice_get l (length m.assigns + i)) g.assigns ∙ get_right m.assigns g.more_assigns i ∙ w.1.0));
+        wired = λ r. subst (λ t. is_driven t n.assigns ≡ true) w.1.1.target
+            (driven_at n.assigns (length m.assigns + i) w.0
+            (ap (λ l. slice_get l
+            (length m.assigns + i)) g.assigns ∙ get_right m.assigns g.more_assigns i ∙ w.1.0));
       };
   position = inl (others_named m n g (λ i x e f. let w = wire_of_net n (length m.nets) g.more_nets g.more_assigns adds.wires i x e in wire_other (length m.nets + i) x.name w.1.1.name f));
   mems = λ i x e. absurd (no_mems i x e);
@@ -177,7 +186,9 @@ wires_more m n most p adds sound ordered = record {
       let at : slice_get n.nets (length m.nets + i) ≡ Some w.0 = ap (λ l. slice_get l (length m.nets + i)) g.nets ∙ get_right m.nets g.more_nets i ∙ w.1.0 in
       let t = w.1.1.target in
       record {
-        free = or_both (is_reg n a.target) (is_input n.ports a.target) (ap (is_reg n) t ∙ ap net_kept at ∙ w.1.1.wire) (ap (λ ps. is_input ps a.target) g.ports ∙ no_input m p a.target (omega (arith, t)));
+        free = or_both (is_reg n a.target) (is_input n.ports a.target)
+            (ap (is_reg n) t ∙ ap net_kept at ∙ w.1.1.wire)
+            (ap (λ ps. is_input ps a.target) g.ports ∙ no_input m p a.target (omega (arith, t)));
         typed = subst (λ v. IsTyped n v a.expr) (sym (ap (width_of n) t ∙ ap net_width at)) w.1.1.typed;
         numbers = small_at (bit_numbers a.expr) w.1.1.numbers;
       };
@@ -276,7 +287,13 @@ memory_more m name w depth named some most deep few g en em ea eu sound ordered 
   ordered = ordered;
   nets = λ i x e. no_item (λ i x. IsNewNet n (length m.nets + i) x) i x (sym (ap (λ l. slice_get l i) en) ∙ e);
   position = inl (others_named m n g (λ i x e. no_item (λ i (x : Net). x.name ≡ codes "position" → ⊥) i x (sym (ap (λ l. slice_get l i) en) ∙ e)));
-  mems = λ i x e. only_one (λ i x. IsPartialMem (length m.mems + i) x) y (record { name = named ∙ ap memory_name (at_zero (length m.mems)); some = some; at_most = most; words = deep; words_at_most = few }) i x (sym (ap (λ l. slice_get l i) em) ∙ e);
+  mems = λ i x e. only_one (λ i x. IsPartialMem (length m.mems + i) x) y (record {
+    name = named ∙ ap memory_name (at_zero (length m.mems));
+    some = some;
+    at_most = most;
+    words = deep;
+    words_at_most = few;
+  }) i x (sym (ap (λ l. slice_get l i) em) ∙ e);
   assigns = λ i x e. no_item (λ i x. IsPartialAssign n x) i x (sym (ap (λ l. slice_get l i) ea) ∙ e);
   fresh = λ i x e. no_item (λ i x. is_driven x.target m.assigns ≡ false) i x (sym (ap (λ l. slice_get l i) ea) ∙ e);
   single = λ i j a b e f same. no_item (λ i x. i ≡ j) i a (sym (ap (λ l. slice_get l i) ea) ∙ e);
@@ -290,16 +307,24 @@ memory_more m name w depth named some most deep few g en em ea eu sound ordered 
     y = record { name = name; width = w; depth = depth }
 
 pub cell_more : (m : Module) (k : ℕ) (address : ℕ) → IsPartial m → 1 ≤ word_width m k → word_width m k ≤ 128 → (g : Grows m (with_cell m k address))
-    → g.more_nets ≡ (record { name = wire_name (length m.nets); width = word_width m k; reg = false }) ∷ [] → g.more_mems ≡ [] → g.more_assigns ≡ (record { target = length m.nets; expr = Cell k address }) ∷ [] → g.more_updates ≡ []
+    → g.more_nets ≡ (record {
+      name = wire_name (length m.nets);
+      width = word_width m k;
+      reg = false;
+    }) ∷ [] → g.more_mems ≡ [] → g.more_assigns ≡ (record { target = length m.nets; expr = Cell k address }) ∷ [] → g.more_updates ≡ []
     → IsSound (with_cell m k address) → (IsOrdered m → IsOrdered (with_cell m k address)) → More m (with_cell m k address) g
 cell_more m k address p some most g en em ea eu sound ordered = record {
   sound = sound;
   ordered = ordered;
   nets = λ i x e. only_one (λ i x. IsNewNet n (length m.nets + i) x) y new i x (sym (ap (λ l. slice_get l i) en) ∙ e);
-  position = inl (others_named m n g (λ i x h f. let o = one_item y i x (sym (ap (λ l. slice_get l i) en) ∙ h) in wire_other (length m.nets) (wire_name (length m.nets)) refl (ap (λ (z : Net). z.name) o.1 ∙ f)));
+  position = inl (others_named m n g (λ i x h f. let o = one_item y i x
+      (sym (ap (λ l. slice_get l i) en) ∙ h) in wire_other (length m.nets)
+      (wire_name (length m.nets)) refl (ap (λ (z : Net). z.name) o.1 ∙ f)));
   mems = λ i x e. no_item (λ i x. IsPartialMem (length m.mems + i) x) i x (sym (ap (λ l. slice_get l i) em) ∙ e);
   assigns = λ i x e. only_one (λ i x. IsPartialAssign n x) a assigned i x (sym (ap (λ l. slice_get l i) ea) ∙ e);
-  fresh = λ i x e. only_one (λ i (x : Assign). is_driven x.target m.assigns ≡ false) a (past_undriven (length m.nets) (length m.mems) m.assigns (length m.nets) p.sound.range (omega arith)) i x (sym (ap (λ l. slice_get l i) ea) ∙ e);
+  fresh = λ i x e. only_one (λ i (x : Assign). is_driven x.target m.assigns ≡ false) a
+      (past_undriven (length m.nets) (length m.mems) m.assigns (length m.nets) p.sound.range
+      (omega arith)) i x (sym (ap (λ l. slice_get l i) ea) ∙ e);
   single = λ i j b c e f same. single_one a i j b c (sym (ap (λ l. slice_get l i) ea) ∙ e) (sym (ap (λ l. slice_get l j) ea) ∙ f) same;
   updates = λ i x e. no_item (λ i x. IsPartialUpdate n x) i x (sym (ap (λ l. slice_get l i) eu) ∙ e);
 }

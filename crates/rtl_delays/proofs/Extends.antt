@@ -175,10 +175,18 @@ register_extends {m} {n} {name} {w} sound named adds = subst (Extends m) (sym ad
           apart = sound.apart;
         } in
         let ordered : IsOrdered m → IsOrdered new = λ h. same_ordered m new refl refl (omega arith) h in
-        extends m new g sound holds ordered (λ p. grown m new g p (register_more m name w p (let q = adds.signal.some in let e = adds.width in omega (arith, q, e)) (let q = adds.signal.at_most in let e = adds.width in omega (arith, q, e)) named g refl refl refl refl holds ordered)) refl
+        extends m new g sound holds ordered (λ p. grown m new g p
+        (register_more m name w p (let q = adds.signal.some in let e = adds.width in omega
+        (arith, q, e)) (let q = adds.signal.at_most in let e = adds.width in omega (
+          arith,
+          q,
+          e,
+        )) named g refl refl refl refl holds ordered)) refl
 
 -- a memory, with the name of its number, of 1 to 128 bits and 1 to 2^28 words
-pub memory_extends : {m n : Module} {name : List ℕ} {w depth k : ℕ} → IsSound m → name ≡ memory_name (length m.mems) → 1 ≤ w → w ≤ 128 → 1 ≤ depth → depth ≤ 268435456 → AddsMemory m n name w depth k → Extends m n
+pub memory_extends : {m n : Module} {name : List ℕ} {w depth k : ℕ} → IsSound m
+    → name ≡ memory_name (length m.mems) → 1 ≤ w → w ≤ 128 → 1 ≤ depth → depth ≤ 268435456
+    → AddsMemory m n name w depth k → Extends m n
 memory_extends {m} {n} {name} {w} {depth} sound named some most deep few adds = subst (Extends m) (sym adds.is) all
   where
     new : Module
@@ -220,7 +228,9 @@ cell_extends {m} {n} {k} {address} sound memory has adds = subst (Extends m) (sy
         extends m new g sound holds ordered (λ p. grown m new g p (cell_more m k address.net p memory.some memory.at_most g refl refl refl refl holds ordered)) refl
 
 -- an output's value, which it didn't have yet
-pub drive_extends : {m n : Module} {output source : Signal} → IsSound m → HasOutput m output → HasSignal m source → source.width ≡ output.width → is_driven output.net m.assigns ≡ false → Drives m n output source → Extends m n
+pub drive_extends : {m n : Module} {output source : Signal} → IsSound m → HasOutput m output
+    → HasSignal m source → source.width ≡ output.width → is_driven output.net m.assigns ≡ false
+    → Drives m n output source → Extends m n
 drive_extends {m} {n} {output} {source} sound out has same undriven adds = subst (Extends m) (sym adds.is) all
   where
     a : Assign
@@ -259,7 +269,9 @@ update_extends {m} {n} {u} sound may adds = subst (Extends m) (sym adds.is) all
         extends m new g sound holds ordered (λ p. grown m new g p (update_more m u may g refl refl refl refl holds ordered)) refl
 
 -- by what `update` and `write` ask for
-pub may_update : (m : Module) (enable register value : Signal) → HasSignal m enable → HasRegister m register → HasSignal m value → enable.width ≡ 1 → value.width ≡ register.width → writes_reg register.net m.updates ≡ false
+pub may_update : (m : Module) (enable register value : Signal) → HasSignal m enable
+    → HasRegister m register → HasSignal m value → enable.width ≡ 1
+    → value.width ≡ register.width → writes_reg register.net m.updates ≡ false
     → MayUpdate m (record { enable = enable.net; target = Reg register.net; value = value.net })
 may_update m enable register value e r v one same free = record {
   free = free;
@@ -270,7 +282,9 @@ may_update m enable register value e r v one same free = record {
   typed = record { enable = e.width ∙ one; value = v.width ∙ same ∙ sym r.width };
 }
 
-pub may_write : (m : Module) (enable : Signal) (k : ℕ) (address value : Signal) → HasSignal m enable → k < length m.mems → HasSignal m address → HasSignal m value → enable.width ≡ 1 → value.width ≡ word_width m k → writes_mem k m.updates ≡ false
+pub may_write : (m : Module) (enable : Signal) (k : ℕ) (address value : Signal)
+    → HasSignal m enable → k < length m.mems → HasSignal m address → HasSignal m value
+    → enable.width ≡ 1 → value.width ≡ word_width m k → writes_mem k m.updates ≡ false
     → MayUpdate m (record { enable = enable.net; target = Cell k address.net; value = value.net })
 may_write m enable k address value e within a v one same free = record {
   free = free;
@@ -317,7 +331,9 @@ still_same m n run reset e c f h r s off = subst (AllOff f) (sym e) off
 pub still_on : (l m n : Module) (run reset : ℕ) → KeepsStill l m run reset → KeepsStill m n run reset → Extends m n → KeepsStill l n run reset
 still_on l m n run reset p q e c f h r s off = q c f h r s (p c f (e.before c f h) r s off)
 
-pub still_update : (m n : Module) (u : Update) (run reset : ℕ) → n.updates ≡ m.updates ++ u ∷ [] → ((c : Contents) (f : Family) → Holds n c f → f run ≡ 0 → f reset ≡ 0 → f u.enable ≡ 0) → KeepsStill m n run reset
+pub still_update : (m n : Module) (u : Update) (run reset : ℕ) → n.updates ≡ m.updates ++ u ∷ []
+    → ((c : Contents) (f : Family) → Holds n c f → f run ≡ 0 → f reset ≡ 0 → f u.enable ≡ 0)
+    → KeepsStill m n run reset
 still_update m n u run reset e zero' c f h r s off = subst (AllOff f) (sym e) (off_last f m.updates u off (ap (λ x. eqb x 1) (zero' c f h r s)))
 
 -- neither of two bits
@@ -332,7 +348,9 @@ register_leaves m n r e x h = record {
   mems = λ k f d. ap (writes_mem k) h ∙ last_mem k m.updates _ f refl;
 }
 
-pub ring_leaves : (m l n : Module) (r e x k a f y : ℕ) → l.updates ≡ m.updates ++ (record { enable = e; target = Reg r; value = x }) ∷ [] → n.updates ≡ l.updates ++ (record { enable = f; target = Cell k a; value = y }) ∷ [] → LeavesFree m n r (Some k)
+pub ring_leaves : (m l n : Module) (r e x k a f y : ℕ) → l.updates ≡ m.updates
+    ++ (record { enable = e; target = Reg r; value = x }) ∷ [] → n.updates ≡ l.updates
+    ++ (record { enable = f; target = Cell k a; value = y }) ∷ [] → LeavesFree m n r (Some k)
 ring_leaves m l n r e x k a f y h g = record {
   regs = λ j w d. ap (writes_reg j) g ∙ last_reg j l.updates _ (ap (writes_reg j) h ∙ last_reg j m.updates _ w d) refl;
   mems = λ j w d. ap (writes_mem j) g ∙ last_mem j l.updates _ (ap (writes_mem j) h ∙ last_mem j m.updates _ w refl) d;

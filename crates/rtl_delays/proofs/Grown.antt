@@ -30,7 +30,9 @@ reg_within (x ∷ l) zero h = omega arith
 reg_within (x ∷ l) (suc k) h = let q = reg_within l k h in omega arith
 
 -- an item of two lists is one of the first or one of the second
-pub parted : {A : Type 0} (xs ys : List A) (j : ℕ) (a : A) → slice_get (xs ++ ys) j ≡ Some a → ((slice_get xs j ≡ Some a) × (j < length xs)) ⊎ ((i : ℕ) × (j ≡ length xs + i) × (slice_get ys i ≡ Some a))
+pub parted : {A : Type 0} (xs ys : List A) (j : ℕ) (a : A) → slice_get (xs ++ ys) j ≡ Some a
+    → ((slice_get xs j ≡ Some a) × (j < length xs)) ⊎ ((i : ℕ) × (j ≡ length xs + i)
+    × (slice_get ys i ≡ Some a))
 parted [] ys j a e = inr (j, omega arith, e)
 parted (x ∷ xs) ys zero a e = inl (e, omega arith)
 parted (x ∷ xs) ys (suc j) a e = elim (parted xs ys j a e) [ inl h ↦ inl (h.0, let l = h.1 in omega (arith, l)) | inr h ↦ inr (h.0, (let l = h.1 in omega (arith, l)), h.2) ]
@@ -115,7 +117,10 @@ kept_on : (m n : Module) → Grows m n → length m.mems ≤ length n.mems → (
 kept_on m n g le (targets.Reg k) i h = same_reg m n g k i ∙ h
 kept_on m n g le (targets.Cell k a) i h = let lt = i.0 in omega (arith, lt, le)
 
-update_on : (m n : Module) → Grows m n → length m.nets ≤ length n.nets → length m.mems ≤ length n.mems → (u : Update) → IsTargetIn (length m.nets) (length m.mems) u.target → IsPartialUpdate m u → IsPartialUpdate n u
+update_on : (m n : Module) → Grows m n → length m.nets ≤ length n.nets
+    → length m.mems ≤ length n.mems → (u : Update)
+    → IsTargetIn (length m.nets) (length m.mems) u.target → IsPartialUpdate m u
+    → IsPartialUpdate n u
 update_on m n g le few u i h = record {
   enable = let e = h.enable in omega (arith, e, le);
   value = let e = h.value in omega (arith, e, le);
@@ -181,8 +186,10 @@ grown m n g p more = record {
   assigns = λ j a e. elim (at_assign j a e)
       [ inl h ↦ (let r = in_at (length m.nets) (length m.mems) m.assigns p.sound.range j a h.0 in assign_on m n g a r.0 r.1 (p.assigns j a h.0)) | inr h ↦ more.assigns h.0 a h.2 ];
   single = λ i j a b e f same. one_driver i j a b same (at_assign i a e) (at_assign j b f);
-  updates = λ j u e. elim (parted m.updates g.more_updates j u (sym (ap (λ l. slice_get l j) g.updates) ∙ e))
-      [ inl h ↦ update_on m n g (omega (arith, len)) (omega (arith, mems)) u (target_at (length m.nets) (length m.mems) m.updates p.sound.updates j u h.0) (p.updates j u h.0) | inr h ↦ more.updates h.0 u h.2 ];
+  updates = λ j u e. elim (parted m.updates g.more_updates j u (sym (ap (λ l. slice_get l j) g.updates) ∙ e)) [
+    | inl h ↦ update_on m n g (omega (arith, len)) (omega (arith, mems)) u (target_at (length m.nets) (length m.mems) m.updates p.sound.updates j u h.0) (p.updates j u h.0)
+    | inr h ↦ more.updates h.0 u h.2
+  ];
 }
   where
     ports : length n.ports ≡ length m.ports
@@ -197,10 +204,14 @@ grown m n g p more = record {
     at_net : (k : ℕ) (x : Net) → slice_get n.nets k ≡ Some x → ((slice_get m.nets k ≡ Some x) × (k < length m.nets)) ⊎ ((i : ℕ) × (k ≡ length m.nets + i) × (slice_get g.more_nets i ≡ Some x))
     at_net k x e = parted m.nets g.more_nets k x (sym (ap (λ l. slice_get l k) g.nets) ∙ e)
 
-    at_assign : (k : ℕ) (x : Assign) → slice_get n.assigns k ≡ Some x → ((slice_get m.assigns k ≡ Some x) × (k < length m.assigns)) ⊎ ((i : ℕ) × (k ≡ length m.assigns + i) × (slice_get g.more_assigns i ≡ Some x))
+    at_assign : (k : ℕ) (x : Assign) → slice_get n.assigns k ≡ Some x
+        → ((slice_get m.assigns k ≡ Some x) × (k < length m.assigns))
+        ⊎ ((i : ℕ) × (k ≡ length m.assigns + i) × (slice_get g.more_assigns i ≡ Some x))
     at_assign k x e = parted m.assigns g.more_assigns k x (sym (ap (λ l. slice_get l k) g.assigns) ∙ e)
 
-    one_driver : (i j : ℕ) (a b : Assign) → a.target ≡ b.target → ((slice_get m.assigns i ≡ Some a) × (i < length m.assigns)) ⊎ ((k : ℕ) × (i ≡ length m.assigns + k) × (slice_get g.more_assigns k ≡ Some a))
+    one_driver : (i j : ℕ) (a b : Assign) → a.target ≡ b.target
+        → ((slice_get m.assigns i ≡ Some a) × (i < length m.assigns))
+        ⊎ ((k : ℕ) × (i ≡ length m.assigns + k) × (slice_get g.more_assigns k ≡ Some a))
         → ((slice_get m.assigns j ≡ Some b) × (j < length m.assigns)) ⊎ ((k : ℕ) × (j ≡ length m.assigns + k) × (slice_get g.more_assigns k ≡ Some b)) → i ≡ j
     one_driver i j a b same (inl h) (inl k) = p.single i j a b h.0 k.0 same
     one_driver i j a b same (inl h) (inr k) = two_drivers m i j a b h.0 (more.fresh k.0 b k.2) same

@@ -46,7 +46,9 @@ ordered_kept m n a p le h = record {
   earlier = λ k r o. h.earlier k r (sym (ap (λ ps. is_output ps a.target) p) ∙ o);
 }
 
-wires_at : (m : Module) (n : ℕ) (nets : List Net) (assigns : List Assign) → n + length nets ≤ length m.nets → AreWires m n nets assigns → (j : ℕ) (a : Assign) → slice_get assigns j ≡ Some a → IsOrderedAssign m a
+wires_at : (m : Module) (n : ℕ) (nets : List Net) (assigns : List Assign)
+    → n + length nets ≤ length m.nets → AreWires m n nets assigns → (j : ℕ) (a : Assign)
+    → slice_get assigns j ≡ Some a → IsOrderedAssign m a
 wires_at m n [] [] le w j a e = cc
 wires_at m n [] (x ∷ assigns) le w j a e = absurd w
 wires_at m n (x ∷ nets) [] le w j a e = absurd w

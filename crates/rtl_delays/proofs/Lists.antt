@@ -30,7 +30,10 @@ or_both true b h k = absurd (false≢true (sym h))
 or_both false b h k = k
 
 -- an item of two lists
-pub of_two : {A : Type 0} (P : A → Type 0) (xs ys : List A) → ((j : ℕ) (a : A) → slice_get xs j ≡ Some a → P a) → ((j : ℕ) (a : A) → slice_get ys j ≡ Some a → P a) → (j : ℕ) (a : A) → slice_get (xs ++ ys) j ≡ Some a → P a
+pub of_two : {A : Type 0} (P : A → Type 0) (xs ys : List A)
+    → ((j : ℕ) (a : A) → slice_get xs j ≡ Some a → P a)
+    → ((j : ℕ) (a : A) → slice_get ys j ≡ Some a → P a) → (j : ℕ) (a : A)
+    → slice_get (xs ++ ys) j ≡ Some a → P a
 of_two P [] ys f g j a e = g j a e
 of_two P (x ∷ xs) ys f g zero a e = f 0 a e
 of_two P (x ∷ xs) ys f g (suc j) a e = of_two P xs ys (λ i b q. f (suc i) b q) g j a e

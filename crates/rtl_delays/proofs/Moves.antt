@@ -64,7 +64,9 @@ all_cells_left m v (u ∷ us) c j i h =
     all_cells_left m v us (updated m v u c) j i q.1 ∙ cells_left m v u c j i q.0
 
 -- what an update writes, whatever is written elsewhere
-here : (m : Module) (v : Family) (u : Update) (us : List Update) (c : Contents) (t : Target) → u.target ≡ t → IsFree us t → MovedTo m c v (updated_all m v us (updated m v u c)) (eqb (v u.enable) 1) (v u.value) t
+here : (m : Module) (v : Family) (u : Update) (us : List Update) (c : Contents) (t : Target)
+    → u.target ≡ t → IsFree us t → MovedTo m c v (updated_all m v us (updated m v u c))
+    (eqb (v u.enable) 1) (v u.value) t
 here m v u us c (Reg n) e free =
     let x = v u.value in
     all_regs_left m v us (updated m v u c) n free
@@ -145,11 +147,16 @@ get_left (x ∷ xs) ys (suc n) h = get_left xs ys n (omega arith)
 depth_kept : (m n : Module) → Grows m n → (k : ℕ) → k < length m.mems → depth_of n k ≡ depth_of m k
 depth_kept m n g k h = ap (λ (l : List Mem). mem_depth (slice_get l k)) g.mems ∙ ap mem_depth (get_left m.mems g.more_mems k h)
 
-moved_before : (m n : Module) → Grows m n → (c : Contents) (v : Family) (d : Contents) (on : Bool) (x : ℕ) (t : Target) → IsTargetIn (length m.nets) (length m.mems) t → MovedTo n c v d on x t → MovedTo m c v d on x t
+moved_before : (m n : Module) → Grows m n
+    → (c : Contents) (v : Family) (d : Contents) (on : Bool) (x : ℕ) (t : Target)
+    → IsTargetIn (length m.nets) (length m.mems) t → MovedTo n c v d on x t → MovedTo m c v d on x t
 moved_before m n g c v d on x (Reg k) i h = h
 moved_before m n g c v d on x (Cell k a) i h = λ below. h (subst (λ w. v a < w) (sym (depth_kept m n g k i.0)) below)
 
-moves_before : (m n : Module) → Grows m n → (c : Contents) (v : Family) (d : Contents) (us more : List Update) → UpdatesIn (length m.nets) (length m.mems) us → MovesAll n c v d (us ++ more) → MovesAll m c v d us
+moves_before : (m n : Module) → Grows m n
+    → (c : Contents) (v : Family) (d : Contents) (us more : List Update)
+    → UpdatesIn (length m.nets) (length m.mems) us → MovesAll n c v d (us ++ more)
+    → MovesAll m c v d us
 moves_before m n g c v d [] more i h = tt
 moves_before m n g c v d (u ∷ us) more i h = (moved_before m n g c v d (eqb (v u.enable) 1) (v u.value) u.target i.0 h.0, moves_before m n g c v d us more i.1 h.1)
 

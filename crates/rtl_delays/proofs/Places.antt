@@ -59,7 +59,9 @@ or_false : (a : Bool) → a || false ≡ a
 or_false true = refl
 or_false false = refl
 
-pub pointer_cleared : (new step next run reset rest old : ℕ) → new ≡ cond (eqb step 1) next old → run < 2 ^ 1 → reset < 2 ^ 1 → step ≡ bit_or run reset → next ≡ cond (eqb reset 1) 0 rest → reset ≡ 1 → new ≡ 0
+pub pointer_cleared : (new step next run reset rest old : ℕ) → new ≡ cond (eqb step 1) next old
+    → run < 2 ^ 1 → reset < 2 ^ 1 → step ≡ bit_or run reset → next ≡ cond (eqb reset 1) 0 rest
+    → reset ≡ 1 → new ≡ 0
 pointer_cleared new step next run reset rest old e h k s n r =
     let on : eqb reset 1 ≡ true = ap (λ x. eqb x 1) r in
     let t : eqb step 1 ≡ true = step_is step run reset h k s ∙ ap (λ b. eqb run 1 || b) on ∙ or_true (eqb run 1) in

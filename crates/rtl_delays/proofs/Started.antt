@@ -56,7 +56,9 @@ frees_more m a b (d ∷ es) nets mems e h r p has free n k le ke = (h.0, h.1, h.
 other_reg : (r a s : ℕ) → r < a → a ≤ s → eqb r s ≡ false
 other_reg r a s h k = grind (arith, h, k)
 
-free_left : (m n : Module) (r : ℕ) (k : Option ℕ) (a b : ℕ) → LeavesFree m n r k → r < a → ((j : ℕ) → b ≤ j → is_number k j ≡ false) → (e : Element) → a ≤ reg_of e → IsPast b (mem_of e) → IsFreeElement m e → IsFreeElement n e
+free_left : (m n : Module) (r : ℕ) (k : Option ℕ) (a b : ℕ) → LeavesFree m n r k → r < a
+    → ((j : ℕ) → b ≤ j → is_number k j ≡ false) → (e : Element) → a ≤ reg_of e
+    → IsPast b (mem_of e) → IsFreeElement m e → IsFreeElement n e
 free_left m n r k a b l lt mem (Register s) x y h = l.regs s.net h (other_reg r a s.net lt x)
 free_left m n r k a b l lt mem (Ring q) x y h = record { pointer = l.regs q.pointer.net h.pointer (other_reg r a q.pointer.net lt x); memory = l.mems q.memory h.memory (mem q.memory y) }
 
@@ -64,7 +66,9 @@ past_more : (b : ℕ) (o : Option ℕ) → IsPast b o → b ≤ past b o
 past_more b None h = omega arith
 past_more b (Some j) h = omega (arith, h)
 
-pub frees_left : (m n : Module) (r : ℕ) (k : Option ℕ) → Extends m n → LeavesFree m n r k → (a b : ℕ) → r < a → ((j : ℕ) → b ≤ j → is_number k j ≡ false) → (es : List Element) (nets mems : ℕ) → AreFree m a b es nets mems → AreFree n a b es nets mems
+pub frees_left : (m n : Module) (r : ℕ) (k : Option ℕ) → Extends m n → LeavesFree m n r k
+    → (a b : ℕ) → r < a → ((j : ℕ) → b ≤ j → is_number k j ≡ false)
+    → (es : List Element) (nets mems : ℕ) → AreFree m a b es nets mems → AreFree n a b es nets mems
 frees_left m n r k x l a b lt mem [] nets mems h = h
 frees_left m n r k x l a b lt mem (e ∷ es) nets mems h = (
   h.0,

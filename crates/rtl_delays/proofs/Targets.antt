@@ -38,11 +38,15 @@ free_mem a k n (u ∷ us) h le = ap (λ b. b || writes_mem n us) (other u.target
 -- one update more leaves what it doesn't write
 pub last_reg : (n : ℕ) (us : List Update) (u : Update) → writes_reg n us ≡ false → is_target n u.target ≡ false → writes_reg n (us ++ u ∷ []) ≡ false
 last_reg n [] u h k = or_both (is_target n u.target) false k refl
-last_reg n (w ∷ us) u h k = or_both (is_target n w.target) (writes_reg n (us ++ u ∷ [])) (or_first (is_target n w.target) (writes_reg n us) h) (last_reg n us u (or_second (is_target n w.target) (writes_reg n us) h) k)
+last_reg n (w ∷ us) u h k = or_both (is_target n w.target) (writes_reg n (us ++ u
+    ∷ [])) (or_first (is_target n w.target) (writes_reg n us) h)
+    (last_reg n us u (or_second (is_target n w.target) (writes_reg n us) h) k)
 
 pub last_mem : (n : ℕ) (us : List Update) (u : Update) → writes_mem n us ≡ false → is_mem_target n u.target ≡ false → writes_mem n (us ++ u ∷ []) ≡ false
 last_mem n [] u h k = or_both (is_mem_target n u.target) false k refl
-last_mem n (w ∷ us) u h k = or_both (is_mem_target n w.target) (writes_mem n (us ++ u ∷ [])) (or_first (is_mem_target n w.target) (writes_mem n us) h) (last_mem n us u (or_second (is_mem_target n w.target) (writes_mem n us) h) k)
+last_mem n (w ∷ us) u h k = or_both (is_mem_target n w.target) (writes_mem n (us ++ u
+    ∷ [])) (or_first (is_mem_target n w.target) (writes_mem n us) h)
+    (last_mem n us u (or_second (is_mem_target n w.target) (writes_mem n us) h) k)
 
 -- an update of what is free
 pub apart_last : (us : List Update) (u : Update) → Apart us → IsFree us u.target → Apart (us ++ u ∷ [])
@@ -65,9 +69,14 @@ apart_last (w ∷ us) u h f = (more w.target h.0 (λ n e. by_reg n u.target f e)
     rest (Reg n) f = or_second (is_target n w.target) (writes_reg n us) f
     rest (Cell k a) f = or_second (is_mem_target k w.target) (writes_mem k us) f
 
-    with_target : (t : Target) → w.target ≡ t → IsFree us t → ((n : ℕ) → t ≡ Reg n → is_target n u.target ≡ false) → ((k : ℕ) (a : ℕ) → t ≡ Cell k a → is_mem_target k u.target ≡ false) → IsFree (us ++ u ∷ []) t
+    with_target : (t : Target) → w.target ≡ t → IsFree us t
+        → ((n : ℕ) → t ≡ Reg n → is_target n u.target ≡ false)
+        → ((k : ℕ) (a : ℕ) → t ≡ Cell k a → is_mem_target k u.target ≡ false)
+        → IsFree (us ++ u ∷ []) t
     with_target (Reg n) e g r s = last_reg n us u g (r n refl)
     with_target (Cell k a) e g r s = last_mem k us u g (s k a refl)
 
-    more : (t : Target) → IsFree us t → ((n : ℕ) → w.target ≡ Reg n → is_target n u.target ≡ false) → ((k : ℕ) → ((a : ℕ) → w.target ≡ Cell k a → is_mem_target k u.target ≡ false)) → IsFree (us ++ u ∷ []) w.target
+    more : (t : Target) → IsFree us t → ((n : ℕ) → w.target ≡ Reg n
+        → is_target n u.target ≡ false) → ((k : ℕ) → ((a : ℕ) → w.target ≡ Cell k a
+        → is_mem_target k u.target ≡ false)) → IsFree (us ++ u ∷ []) w.target
     more t g r s = with_target w.target refl h.0 (λ n e. r n e) (λ k a e. s k a e)

@@ -18,10 +18,17 @@ abbrev sample : Module
 sample = record {
   name = codes "sample";
   ports = [];
-  nets = record { name = codes "a"; width = 8; reg = true } ∷ record { name = codes "b"; width = 8; reg = true } ∷ record { name = codes "t"; width = 1; reg = false } ∷ record { name = codes "z"; width = 8; reg = false } ∷ [];
+  nets = record { name = codes "a"; width = 8; reg = true }
+      ∷ record { name = codes "b"; width = 8; reg = true }
+      ∷ record { name = codes "t"; width = 1; reg = false }
+      ∷ record { name = codes "z"; width = 8; reg = false } ∷ [];
   mems = record { name = codes "m"; width = 8; depth = 2 } ∷ [];
   assigns = [];
-  updates = record { enable = 2; target = Reg 0; value = 1 } ∷ record { enable = 2; target = Reg 1; value = 0 } ∷ record { enable = 2; target = Place 0 2; value = 0 } ∷ record { enable = 2; target = Place 0 1; value = 0 } ∷ record { enable = 3; target = Reg 0; value = 3 } ∷ [];
+  updates = record { enable = 2; target = Reg 0; value = 1 }
+      ∷ record { enable = 2; target = Reg 1; value = 0 }
+      ∷ record { enable = 2; target = Place 0 2; value = 0 }
+      ∷ record { enable = 2; target = Place 0 1; value = 0 }
+      ∷ record { enable = 3; target = Reg 0; value = 3 } ∷ [];
   instances = [];
 }
 
@@ -140,7 +147,10 @@ abbrev double_top : Module
 double_top = record {
   name = codes "top$project";
   ports = port 10 false ∷ port 9 false ∷ port 8 false ∷ port 7 false ∷ port 6 false ∷ port 5 false ∷ port 4 true ∷ port 3 true ∷ port 2 true ∷ port 1 false ∷ port 0 true ∷ [];
-  nets = wire (codes "done") 1 ∷ wire (codes "out$y$ready") 1 ∷ wire (codes "out$y$valid") 1 ∷ wire (codes "out$y$data") 8 ∷ wire (codes "in$x$ready") 1 ∷ wire (codes "in$x$valid") 1 ∷ wire (codes "in$x$data") 8 ∷ wire (codes "ticks$Double") 48 ∷ wire (codes "hold$Double") 1 ∷ wire (codes "reset") 1 ∷ wire (codes "clk") 1 ∷ [];
+  nets = wire (codes "done") 1 ∷ wire (codes "out$y$ready") 1 ∷ wire (codes "out$y$valid") 1
+      ∷ wire (codes "out$y$data") 8 ∷ wire (codes "in$x$ready") 1 ∷ wire (codes "in$x$valid") 1
+      ∷ wire (codes "in$x$data") 8 ∷ wire (codes "ticks$Double") 48
+      ∷ wire (codes "hold$Double") 1 ∷ wire (codes "reset") 1 ∷ wire (codes "clk") 1 ∷ [];
   mems = [];
   assigns = [];
   updates = [];

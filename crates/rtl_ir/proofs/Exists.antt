@@ -1,5 +1,7 @@
 -- There is a family: nets take their values in rounds, and each instance is solved anew in each round.
-use Rattle.std.proofs.Common.{◌≡◌, ℕ, zero, suc, ◌+◌, ◌<◌, ◌≤◌, ◌^◌, Bool, true, false, cond, not, ◌&&◌, ◌||◌, eqb, ltb, List, [], ◌∷◌, ◌⊎◌, inl, inr, length, Some, None, Option, refl, sym, ap, ◌∙◌, subst, arith}
+use Rattle.std.proofs.Common.{◌≡◌, ℕ, zero, suc, ◌+◌, ◌<◌, ◌≤◌, ◌^◌, Bool, true, false, cond, not}
+use Rattle.std.proofs.Common.{◌&&◌, ◌||◌, eqb, ltb, List, [], ◌∷◌, ◌⊎◌, inl, inr, length, Some}
+use Rattle.std.proofs.Common.{None, Option, refl, sym, ap, ◌∙◌, subst, arith}
 use Rattle.std.specs.Prelude.{slice_get}
 use Rattle.std.proofs.lemmas.Bool.{cases_lt, false≢true, eq-eqb, eqb-true, ltb-true, lt-ltb}
 use Rattle.std.proofs.lemmas.Nat.{pow_pos}
@@ -36,7 +38,10 @@ outer_values [] ns g n = 0
 outer_values (p ∷ ps) [] g n = 0
 outer_values (p ∷ ps) (o ∷ ns) g n = cond (eqb p.net n) (g o) (outer_values ps ns g n)
 
-outer_at : (ps : List Port) (ns : List ℕ) (g : Family) (j : ℕ) (p : Port) (o : ℕ) → ((i l : ℕ) (p q : Port) → slice_get ps i ≡ Some p → slice_get ps l ≡ Some q → p.net ≡ q.net → i ≡ l) → slice_get ps j ≡ Some p → slice_get ns j ≡ Some o → outer_values ps ns g p.net ≡ g o
+outer_at : (ps : List Port) (ns : List ℕ) (g : Family) (j : ℕ) (p : Port) (o : ℕ)
+    → ((i l : ℕ) (p q : Port) → slice_get ps i ≡ Some p → slice_get ps l ≡ Some q
+    → p.net ≡ q.net → i ≡ l) → slice_get ps j ≡ Some p → slice_get ns j ≡ Some o
+    → outer_values ps ns g p.net ≡ g o
 outer_at [] ns g j p o h e f = absurd (cc)
 outer_at (q ∷ ps) [] g j p o h e f = absurd (cc)
 outer_at (q ∷ ps) (u ∷ ns) g zero p o h e f =
@@ -136,7 +141,10 @@ module _ (d : Design) (accepted : IsAccepted d) (number : ℕ) (m : Module) (s :
   families (k ∷ p) = solve_at k (rounds top) p
 
   module _ (held : AllHold d m c) (fit : InputsFit m x) where
-    inner_solves : (k : ℕ) (i : Instance) (lt : i.module < number) (g : Family) (inner : Module) (o : Option Module) (e : slice_get d.modules i.module ≡ o) → o ≡ Some inner → AllHold d inner (below k c) → InputsFit inner (outer_values inner.ports i.nets g) → Solves d inner (below k c) (outer_values inner.ports i.nets g) (at_inner k i lt o e g)
+    inner_solves : (k : ℕ) (i : Instance) (lt : i.module < number) (g : Family) (inner : Module)
+        (o : Option Module) (e : slice_get d.modules i.module ≡ o) → o ≡ Some inner
+        → AllHold d inner (below k c) → InputsFit inner (outer_values inner.ports i.nets g)
+        → Solves d inner (below k c) (outer_values inner.ports i.nets g) (at_inner k i lt o e g)
     inner_solves k i lt g inner None e q hold fits = absurd (cc)
     inner_solves k i lt g inner (Some other) e q hold fits =
         let is : other ≡ inner = cc in
@@ -144,29 +152,52 @@ module _ (d : Design) (accepted : IsAccepted d) (number : ℕ) (m : Module) (s :
         let P : Module → Type 0 = λ z. AllHold d z (below k c) → InputsFit z (outer_values z.ports i.nets g) → Solves d z (below k c) (outer_values z.ports i.nets g) v in
         subst P is (λ a b. (ih i.module lt other e).solves (below k c) a (outer_values other.ports i.nets g) b) hold fits
 
-    part_solves : (k : ℕ) (i : Instance) (g : Family) (inner : Module) (o : Option Instance) (e : slice_get m.instances k ≡ o) → o ≡ Some i → slice_get d.modules i.module ≡ Some inner → AllHold d inner (below k c) → InputsFit inner (outer_values inner.ports i.nets g) → Solves d inner (below k c) (outer_values inner.ports i.nets g) (at_part k o e g)
+    part_solves : (k : ℕ) (i : Instance) (g : Family) (inner : Module) (o : Option Instance)
+        (e : slice_get m.instances k ≡ o) → o ≡ Some i
+        → slice_get d.modules i.module ≡ Some inner → AllHold d inner (below k c)
+        → InputsFit inner (outer_values inner.ports i.nets g)
+        → Solves d inner (below k c) (outer_values inner.ports i.nets g) (at_part k o e g)
     part_solves k i g inner None e q f hold fits = absurd (cc)
     part_solves k i g inner (Some other) e q f hold fits =
         let is : other ≡ i = cc in
         let v = at_part k (Some other) e g in
-        let P : Instance → Type 0 = λ z. slice_get d.modules z.module ≡ Some inner → InputsFit inner (outer_values inner.ports z.nets g) → Solves d inner (below k c) (outer_values inner.ports z.nets g) v in
+        let P : Instance → Type 0 = λ z. slice_get d.modules z.module ≡ Some inner
+        → InputsFit inner (outer_values inner.ports z.nets g)
+        → Solves d inner (below k c) (outer_values inner.ports z.nets g) v in
         subst P is (λ a b. inner_solves k other (s.earlier k other e) g inner (slice_get d.modules other.module) refl a hold b) f fits
 
     hold_below : (k : ℕ) (i : Instance) (inner : Module) → slice_get m.instances k ≡ Some i → slice_get d.modules i.module ≡ Some inner → AllHold d inner (below k c)
     hold_below k i inner e f = λ p part at. held (k ∷ p) part (below_is d m k inner p (part_is d m k i inner e f) ∙ at)
 
     -- an input of an instance and its net outside
-    input_is : (k : ℕ) (i : Instance) (inner : Module) (e : slice_get m.instances k ≡ Some i) (f : slice_get d.modules i.module ≡ Some inner) (a : ℕ) → (q : InputAt inner.ports a) → (o : Connection d m k q.place) × ((g : Family) → outer_values inner.ports i.nets g a ≡ g o.net) × (width_of inner a ≡ width_of m o.net) × (o.port.output ≡ false) × (o.port.net ≡ a)
+    input_is : (k : ℕ) (i : Instance) (inner : Module) (e : slice_get m.instances k ≡ Some i)
+        (f : slice_get d.modules i.module ≡ Some inner) (a : ℕ) → (q : InputAt inner.ports a)
+        → (o : Connection d m k q.place) × ((g : Family)
+        → outer_values inner.ports i.nets g a ≡ g o.net) × (width_of inner a ≡ width_of m o.net)
+        × (o.port.output ≡ false) × (o.port.net ≡ a)
     input_is k i inner e f a q =
         let o = net_at inner.ports i.nets q.place q.port (s.ports k i inner e f) q.at in
-        let con : Connection d m k q.place = record { part = i; of = e; inner = inner; is = f; port = q.port; at = q.at; net = o.0; joins = o.1 } in
-        (con, λ g. ap (outer_values inner.ports i.nets g) (sym q.net) ∙ outer_at inner.ports i.nets g q.place q.port o.0 ((sound_at accepted i.module inner f).apart) q.at o.1, ap (width_of inner) (sym q.net) ∙ s.widths.joined k q.place con, q.input, q.net)
+        let con : Connection d m k q.place = record { part = i; of = e; inner = inner; is = f; port = q.port; at = q.at; net = o.0; joins = o.1 } in (
+          con,
+          λ g. ap (outer_values inner.ports i.nets g)
+              (sym q.net) ∙ outer_at inner.ports i.nets g q.place q.port o.0
+              ((sound_at accepted i.module inner f).apart) q.at o.1,
+          ap (width_of inner) (sym q.net) ∙ s.widths.joined k q.place con,
+          q.input,
+          q.net,
+        )
 
-    solves : (k : ℕ) (i : Instance) (inner : Module) (e : slice_get m.instances k ≡ Some i) (f : slice_get d.modules i.module ≡ Some inner) (g : Family) → ((n : ℕ) → g n < 2 ^ width_of m n) → Solves d inner (below k c) (outer_values inner.ports i.nets g) (solve_at k g)
+    solves : (k : ℕ) (i : Instance) (inner : Module) (e : slice_get m.instances k ≡ Some i)
+        (f : slice_get d.modules i.module ≡ Some inner) (g : Family)
+        → ((n : ℕ) → g n < 2 ^ width_of m n)
+        → Solves d inner (below k c) (outer_values inner.ports i.nets g) (solve_at k g)
     solves k i inner e f g range =
         part_solves k i g inner (slice_get m.instances k) refl e f (hold_below k i inner e f) (λ a t. fits a (input_is k i inner e f a (input_at inner.ports a t)))
       where
-        fits : (a : ℕ) {l : ℕ} → (o : Connection d m k l) × ((g : Family) → outer_values inner.ports i.nets g a ≡ g o.net) × (width_of inner a ≡ width_of m o.net) × (o.port.output ≡ false) × (o.port.net ≡ a) → outer_values inner.ports i.nets g a < 2 ^ width_of inner a
+        fits : (a : ℕ) {l : ℕ} → (o : Connection d m k l)
+            × ((g : Family) → outer_values inner.ports i.nets g a ≡ g o.net)
+            × (width_of inner a ≡ width_of m o.net) × (o.port.output ≡ false) × (o.port.net ≡ a)
+            → outer_values inner.ports i.nets g a < 2 ^ width_of inner a
         fits a q = rw (q.1 g, q.2) (range q.0.net)
 
     port_is : (k j : ℕ) (e : Connection d m k j) (g : Family) (n : ℕ) → by_value (ByPort k j) g n ≡ solve_at k g [] e.port.net
@@ -182,16 +213,29 @@ module _ (d : Design) (accepted : IsAccepted d) (number : ℕ) (m : Module) (s :
         let w : width_of e.inner e.port.net ≡ width_of m n = s.widths.joined k j e ∙ ap (width_of m) h.2 in
         rw (port_is k j e g n, sym w) ((f.fits.each [] e.inner refl).words e.port.net)
 
-    by_same : (g g' : Family) → ((n : ℕ) → g n < 2 ^ width_of m n) → ((n : ℕ) → g' n < 2 ^ width_of m n) → (n : ℕ) → ((a : ℕ) → Feeds d m a n → g a ≡ g' a) → (y : Driver) → Drives d m y n → by_value y g n ≡ by_value y g' n
+    by_same : (g g' : Family) → ((n : ℕ) → g n < 2 ^ width_of m n)
+        → ((n : ℕ) → g' n < 2 ^ width_of m n) → (n : ℕ) → ((a : ℕ) → Feeds d m a n → g a ≡ g' a)
+        → (y : Driver) → Drives d m y n → by_value y g n ≡ by_value y g' n
     by_same g g' range range' n fed (ByAssign j) h =
-        ap (λ o. assign_value m (c []) o g n) h.1 ∙ value_agrees m (c []) g g' (width_of m n) h.0.expr (λ i q. fed i (subst (λ (t : ℕ). Feeds d m i t) h.2 (by_assign j i h.0 h.1 q))) ∙ sym (ap (λ o. assign_value m (c []) o g' n) h.1)
+        ap (λ o. assign_value m (c []) o g n) h.1 ∙ value_agrees m (c []) g g'
+        (width_of m n) h.0.expr (λ i q. fed i (subst (λ (t : ℕ). Feeds d m i t) h.2
+        (by_assign j i h.0 h.1 q))) ∙ sym (ap (λ o. assign_value m (c []) o g' n) h.1)
     by_same g g' range range' n fed (ByPort k j) h =
         let e = h.0 in
         let f = solves k e.part e.inner e.of e.is g range in
         let f' = solves k e.part e.inner e.of e.is g' range' in
-        port_is k j e g n ∙ independent d accepted e.part.module e.inner e.is (below k c) (solve_at k g) (solve_at k g') f.fits f'.fits e.port.net (λ a i way. f.given a i ∙ same e h.1 h.2 a way (input_is k e.part e.inner e.of e.is a (input_at e.inner.ports a i)) ∙ sym (f'.given a i)) ∙ sym (port_is k j e g' n)
+        port_is k j e g n ∙ independent d accepted e.part.module e.inner e.is (below k c)
+        (solve_at k g) (solve_at k g') f.fits f'.fits e.port.net
+        (λ a i way. f.given a i ∙ same e h.1 h.2 a way
+        (input_is k e.part e.inner e.of e.is a (input_at e.inner.ports a i)) ∙ sym
+        (f'.given a i)) ∙ sym (port_is k j e g' n)
       where
-        same : (e : Connection d m k j) → e.port.output ≡ true → e.net ≡ n → (a : ℕ) {l : ℕ} → Way d e.inner a e.port.net → (o : Connection d m k l) × ((g : Family) → outer_values e.inner.ports e.part.nets g a ≡ g o.net) × (width_of e.inner a ≡ width_of m o.net) × (o.port.output ≡ false) × (o.port.net ≡ a) → outer_values e.inner.ports e.part.nets g a ≡ outer_values e.inner.ports e.part.nets g' a
+        same : (e : Connection d m k j) → e.port.output ≡ true → e.net ≡ n → (a : ℕ) {l : ℕ}
+            → Way d e.inner a e.port.net → (o : Connection d m k l)
+            × ((g : Family) → outer_values e.inner.ports e.part.nets g a ≡ g o.net)
+            × (width_of e.inner a ≡ width_of m o.net) × (o.port.output ≡ false)
+            × (o.port.net ≡ a) → outer_values e.inner.ports e.part.nets g a
+            ≡ outer_values e.inner.ports e.part.nets g' a
         same e out is a {l} way q =
             let feeds : Feeds d m q.0.net e.net = by_part k l j q.0 e q.3 out (subst (λ (t : ℕ). Way d e.inner t e.port.net) (sym q.4) way) in
             q.1 g ∙ fed q.0.net (subst (λ (t : ℕ). Feeds d m q.0.net t) is feeds) ∙ sym (q.1 g')
@@ -202,7 +246,9 @@ module _ (d : Design) (accepted : IsAccepted d) (number : ℕ) (m : Module) (s :
     next_fits : (g : Family) → ((n : ℕ) → g n < 2 ^ width_of m n) → (n : ℕ) → next g n < 2 ^ width_of m n
     next_fits g range n = by_tests (is_reg m n) (is_input m.ports n) (ltb n (length m.nets)) refl refl refl
       where
-        by_tests : (a b l : Bool) → is_reg m n ≡ a → is_input m.ports n ≡ b → ltb n (length m.nets) ≡ l → cond a ((c []).regs n) (cond b (x n) (cond l (by_value (s.driven.driver n) g n) 0)) < 2 ^ width_of m n
+        by_tests : (a b l : Bool) → is_reg m n ≡ a → is_input m.ports n ≡ b
+            → ltb n (length m.nets) ≡ l → cond a ((c []).regs n)
+            (cond b (x n) (cond l (by_value (s.driven.driver n) g n) 0)) < 2 ^ width_of m n
         by_tests true b l ea eb el = (held [] m refl).regs n ea
         by_tests false true l ea eb el = fit n eb
         by_tests false false true ea eb el = by_fits g range (s.driven.driver n) n (s.driven.some n (ltb-true n (length m.nets) el) (given_is n ea eb))
@@ -215,7 +261,10 @@ module _ (d : Design) (accepted : IsAccepted d) (number : ℕ) (m : Module) (s :
     next_same : (g g' : Family) → ((n : ℕ) → g n < 2 ^ width_of m n) → ((n : ℕ) → g' n < 2 ^ width_of m n) → (n : ℕ) → ((a : ℕ) → Feeds d m a n → g a ≡ g' a) → next g n ≡ next g' n
     next_same g g' range range' n fed = by_tests (is_reg m n) (is_input m.ports n) (ltb n (length m.nets)) refl refl refl
       where
-        by_tests : (a b l : Bool) → is_reg m n ≡ a → is_input m.ports n ≡ b → ltb n (length m.nets) ≡ l → cond a ((c []).regs n) (cond b (x n) (cond l (by_value (s.driven.driver n) g n) 0)) ≡ cond a ((c []).regs n) (cond b (x n) (cond l (by_value (s.driven.driver n) g' n) 0))
+        by_tests : (a b l : Bool) → is_reg m n ≡ a → is_input m.ports n ≡ b
+            → ltb n (length m.nets) ≡ l → cond a ((c []).regs n)
+            (cond b (x n) (cond l (by_value (s.driven.driver n) g n) 0)) ≡ cond a
+            ((c []).regs n) (cond b (x n) (cond l (by_value (s.driven.driver n) g' n) 0))
         by_tests true b l ea eb el = refl
         by_tests false true l ea eb el = refl
         by_tests false false true ea eb el = by_same g g' range range' n fed (s.driven.driver n) (s.driven.some n (ltb-true n (length m.nets) el) (given_is n ea eb))
@@ -260,7 +309,11 @@ module _ (d : Design) (accepted : IsAccepted d) (number : ℕ) (m : Module) (s :
         let a : x n < 2 ^ 0 = subst (λ (t : ℕ). x n < 2 ^ t) w (fit n e) in
         zero_past m (rounds top) n (rounds_fit top) ge ∙ sym (let z : x n ≡ 0 = omega arith in z)
 
-    port_value_is : (k : ℕ) (i : Instance) (inner : Module) (e : slice_get m.instances k ≡ Some i) (f : slice_get d.modules i.module ≡ Some inner) (j : ℕ) (p : Port) (n : ℕ) (at : slice_get inner.ports j ≡ Some p) (joins : slice_get i.nets j ≡ Some n) (o : Bool) → p.output ≡ o → solve_at k (rounds top) [] p.net ≡ rounds top n
+    port_value_is : (k : ℕ) (i : Instance) (inner : Module)
+        (e : slice_get m.instances k ≡ Some i) (f : slice_get d.modules i.module ≡ Some inner)
+        (j : ℕ) (p : Port) (n : ℕ) (at : slice_get inner.ports j ≡ Some p)
+        (joins : slice_get i.nets j ≡ Some n) (o : Bool) → p.output ≡ o
+        → solve_at k (rounds top) [] p.net ≡ rounds top n
     port_value_is k i inner e f j p n at joins false out =
         (solves k i inner e f (rounds top) (rounds_fit top)).given p.net (is_input_of inner.ports j p at out)
         ∙ outer_at inner.ports i.nets (rounds top) j p n ((sound_at accepted i.module inner f).apart) at joins

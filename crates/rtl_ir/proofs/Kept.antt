@@ -38,10 +38,14 @@ written_words m v (Cell k a) x c lt h = by_depth (ltb (v a) (depth_of m k))
     by_depth true =
         record {
           regs = h.regs;
-          cells = λ j i. either (eqb j k && eqb i (v a)) (word_width m j) x (c.cells j i) (λ e. subst (λ (n : ℕ). x < 2 ^ word_width m n) (sym (eqb-true j k (both_true (eqb j k) (eqb i (v a)) e))) lt) (h.cells j i);
+          cells = λ j i. either (eqb j k && eqb i (v a)) (word_width m j) x (c.cells j i)
+              (λ e. subst (λ (n : ℕ). x < 2 ^ word_width m n)
+              (sym (eqb-true j k (both_true (eqb j k) (eqb i (v a)) e))) lt) (h.cells j i);
         }
 
-pub updated_words : (m : Module) (v : Family) → ((n : ℕ) → v n < 2 ^ width_of m n) → (us : List Update) → ((j : ℕ) (u : Update) → slice_get us j ≡ Some u → IsUpdateTyped m u) → (c : Contents) → HoldsWords m c → HoldsWords m (updated_all m v us c)
+pub updated_words : (m : Module) (v : Family) → ((n : ℕ) → v n < 2 ^ width_of m n)
+    → (us : List Update) → ((j : ℕ) (u : Update) → slice_get us j ≡ Some u → IsUpdateTyped m u)
+    → (c : Contents) → HoldsWords m c → HoldsWords m (updated_all m v us c)
 updated_words m v words [] typed c h = h
 updated_words m v words (u ∷ us) typed c h =
     updated_words m v words us (λ j w e. typed (suc j) w e) (updated m v u c) (by_enable (eqb (v u.enable) 1))
@@ -59,7 +63,9 @@ part_number d m number e (k ∷ p) part at =
     let b : From (λ (i : Instance). slice_get d.modules i.module) (slice_get m.instances k) a.item = from_some (λ i. slice_get d.modules i.module) (slice_get m.instances k) a.item a.was in
     part_number d a.item b.item.module b.gives p part a.gives
 
-pub words_kept : (d : Design) → IsAccepted d → (number : ℕ) (m : Module) → slice_get d.modules number ≡ Some m → (c : AllContents) → AllHold d m c → (v : Families) → FitsFlat d m c v → AllHold d m (after_flat d m c v)
+pub words_kept : (d : Design) → IsAccepted d → (number : ℕ) (m : Module)
+    → slice_get d.modules number ≡ Some m → (c : AllContents) → AllHold d m c → (v : Families)
+    → FitsFlat d m c v → AllHold d m (after_flat d m c v)
 words_kept d h number m e c held v f p part at =
     let n = part_number d m number e p part at in
     let s = sound_at h n.0 part n.1 in

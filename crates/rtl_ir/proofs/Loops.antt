@@ -27,7 +27,9 @@ Stands d m [] a b = Way d m a b
 Stands d m (k ∷ p) a b = (j : ℕ) × (e : Connection d m k j) × (e.port.output ≡ true) × FlatWay d e.inner p a [] e.port.net × Way d m e.net b
 
 -- the module of an instance is one
-same_inner : (d : Design) (m : Module) (k j : ℕ) (i : Instance) (inner : Module) (e : Connection d m k j) → slice_get m.instances k ≡ Some i → slice_get d.modules i.module ≡ Some inner → inner ≡ e.inner
+same_inner : (d : Design) (m : Module) (k j : ℕ) (i : Instance) (inner : Module)
+    (e : Connection d m k j) → slice_get m.instances k ≡ Some i
+    → slice_get d.modules i.module ≡ Some inner → inner ≡ e.inner
 same_inner d m k j i inner e of is =
     let f = e.of in
     let g = e.is in
@@ -82,7 +84,10 @@ no_loop_at_top d h number m at a q b f w = at_first f w refl
     at_first (inside k i inner p q x y of is g) w r = absurd (cc)
 
 -- a way between nets of one instance stays in it, or goes by a net of the module itself
-visits : {d : Design} {m : Module} {x y : Path} {b a : ℕ} (k : ℕ) (i : Instance) (inner : Module) → slice_get m.instances k ≡ Some i → slice_get d.modules i.module ≡ Some inner → FlatWay d m x b y a → (q p : Path) → x ≡ k ∷ q → y ≡ k ∷ p → FlatWay d inner q b p a ⊎ ByTop d m x b y a
+visits : {d : Design} {m : Module} {x y : Path} {b a : ℕ} (k : ℕ) (i : Instance)
+    (inner : Module) → slice_get m.instances k ≡ Some i
+    → slice_get d.modules i.module ≡ Some inner → FlatWay d m x b y a → (q p : Path) → x ≡ k ∷ q
+    → y ≡ k ∷ p → FlatWay d inner q b p a ⊎ ByTop d m x b y a
 visits {d = d} {a = a} k i inner of is done q p e f =
     let r : q ≡ p = cc in
     inl (subst (λ (z : Path). FlatWay d inner q a z a) r done)
@@ -114,7 +119,9 @@ close {d = d} {m = m} {c = c} h number at (then' {q = q} {b = b} g w) e ne v =
 abbrev pub HasNoLoop : Design → ℕ → Type 0
 HasNoLoop d number = (m : Module) → slice_get d.modules number ≡ Some m → (p : Path) (a : ℕ) (q : Path) (b : ℕ) → FlatFeeds d m p a q b → FlatWay d m q b p a → ⊥
 
-loop : {d : Design} {m : Module} {p q : Path} {a b : ℕ} → IsAccepted d → (number : ℕ) → slice_get d.modules number ≡ Some m → ((i : ℕ) → i < number → HasNoLoop d i) → FlatFeeds d m p a q b → FlatWay d m q b p a → ⊥
+loop : {d : Design} {m : Module} {p q : Path} {a b : ℕ} → IsAccepted d → (number : ℕ)
+    → slice_get d.modules number ≡ Some m → ((i : ℕ) → i < number → HasNoLoop d i)
+    → FlatFeeds d m p a q b → FlatWay d m q b p a → ⊥
 loop {d = d} {m = m} h number at ih (own j n z g i) w = no_loop_at_top d h number m at n [] z.target (own j n z g i) w
 loop {d = d} {m = m} h number at ih (enter k j c out) w = no_loop_at_top d h number m at c.net (k ∷ []) c.port.net (enter k j c out) w
 loop h number at ih (leave k j c out) w = close h number at w refl (λ e. cc) (then' (leave k j c out) done)
@@ -128,7 +135,9 @@ pub no_loop : (d : Design) → IsAccepted d → (number : ℕ) → HasNoLoop d n
 no_loop d h = by_lesser (HasNoLoop d) (λ number ih m at p a q b f w. loop h number at ih f w)
 
 -- from the first net of a walk to a later one there is a way
-walk_way : (d : Design) (m : Module) (walk : List ℕ) → ((i a b : ℕ) → slice_get walk i ≡ Some a → slice_get walk (i + 1) ≡ Some b → Feeds d m a b) → (i a b : ℕ) → slice_get walk 0 ≡ Some a → slice_get walk i ≡ Some b → Way d m a b
+walk_way : (d : Design) (m : Module) (walk : List ℕ) → ((i a b : ℕ) → slice_get walk i ≡ Some a
+    → slice_get walk (i + 1) ≡ Some b → Feeds d m a b) → (i a b : ℕ) → slice_get walk 0 ≡ Some a
+    → slice_get walk i ≡ Some b → Way d m a b
 walk_way d m walk each zero a b e f = let q : a ≡ b = cc in subst (λ (n : ℕ). Way d m a n) q stay
 walk_way d m walk each (suc i) a b e f =
     let lt = slice_get_within walk (suc i) b f in

@@ -43,7 +43,9 @@ goes_on d m c x xs one rest = record {
         let same = one.only v (record { fits = h.0; given = g.0 }) in
         (same, rest.only vs (edges_along d m (after_flat d m c v) (after_flat d m c one.family) vs (λ p part at. ap (λ (f : Family). after_part (module_at d m p) (c p) f) (same p part at)) h.1) g.1)
 
-pub one_run : (d : Design) → IsAccepted d → (number : ℕ) (m : Module) → slice_get d.modules number ≡ Some m → (c : AllContents) → AllHold d m c → (inputs : List Family) → InputsFit m inputs → HasOneRun d m c inputs
+pub one_run : (d : Design) → IsAccepted d → (number : ℕ) (m : Module)
+    → slice_get d.modules number ≡ Some m → (c : AllContents) → AllHold d m c
+    → (inputs : List Family) → InputsFit m inputs → HasOneRun d m c inputs
 one_run d h number m e c held [] fit = record { run = []; edges = tt; given = tt; only = λ vs f g. none_else d m vs g }
 one_run d h number m e c held (x ∷ xs) fit =
     let one = one_family d h number m e c held x fit.0 in

@@ -35,8 +35,12 @@ pub joins : {d : Design} {m : Module} {a b z : ℕ} → Way d m a b → Feeds d 
 joins stay f = step f stay
 joins (step g w) f = step g (joins w f)
 
-module _ (d : Design) (number : ℕ) (m : Module) (s : Sound d number m) (ih : (i : ℕ) → i < number → AllIndependent d i) (c : AllContents) (v v' : Families) (b : ByParts d m c v) (b' : ByParts d m c v') where
-  at_input : (n k j : ℕ) (e : Connection d m k j) → e.port.output ≡ true → e.net ≡ n → ((a : ℕ) → Feeds d m a n → v [] a ≡ v' [] a) → (a : ℕ) → InputAt e.inner.ports a → Way d e.inner a e.port.net → v (k ∷ []) a ≡ v' (k ∷ []) a
+module _ (d : Design) (number : ℕ) (m : Module) (s : Sound d number m) (ih : (i : ℕ)
+    → i < number → AllIndependent d i) (c : AllContents) (v v' : Families) (b : ByParts d m c v)
+    (b' : ByParts d m c v') where
+  at_input : (n k j : ℕ) (e : Connection d m k j) → e.port.output ≡ true → e.net ≡ n
+      → ((a : ℕ) → Feeds d m a n → v [] a ≡ v' [] a) → (a : ℕ) → InputAt e.inner.ports a
+      → Way d e.inner a e.port.net → v (k ∷ []) a ≡ v' (k ∷ []) a
   at_input n k j e out is fed a i way =
       let size = s.ports k e.part e.inner e.of e.is in
       let o = net_at e.inner.ports e.part.nets i.place i.port size i.at in
@@ -53,7 +57,10 @@ module _ (d : Design) (number : ℕ) (m : Module) (s : Sound d number m) (ih : (
       let a = h.0 in
       let P : ℕ → Type 0 = λ i. v [] i ≡ v' [] i in
       let w = width_of m a.target in
-      subst P h.2 (assigned_at m (c []) (v []) m.assigns j a b.own.assigned h.1 ∙ value_agrees m (c []) (v []) (v' []) w a.expr (λ i q. fed i (subst (λ (t : ℕ). Feeds d m i t) h.2 (by_assign j i a h.1 q))) ∙ sym (assigned_at m (c []) (v' []) m.assigns j a b'.own.assigned h.1))
+      subst P h.2 (assigned_at m (c []) (v []) m.assigns j a b.own.assigned h.1 ∙ value_agrees m
+      (c []) (v []) (v' []) w a.expr (λ i q. fed i (subst (λ (t : ℕ). Feeds d m i t) h.2
+      (by_assign j i a h.1 q))) ∙ sym (assigned_at m (c [])
+      (v' []) m.assigns j a b'.own.assigned h.1))
   by_driver n fed (ByPort k j) h =
       let e = h.0 in
       let g = b.parts k e.part e.inner e.of e.is in
@@ -61,11 +68,17 @@ module _ (d : Design) (number : ℕ) (m : Module) (s : Sound d number m) (ih : (
       let lt = s.earlier k e.part e.of in
       let out : v [] e.net ≡ v (k ∷ []) e.port.net = sym (joined_at (v []) (v (k ∷ [])) e.inner.ports e.part.nets j e.port e.net g.0 e.at e.joins) in
       let out' : v' [] e.net ≡ v' (k ∷ []) e.port.net = sym (joined_at (v' []) (v' (k ∷ [])) e.inner.ports e.part.nets j e.port e.net g'.0 e.at e.joins) in
-      let inside : v (k ∷ []) e.port.net ≡ v' (k ∷ []) e.port.net = ih e.part.module lt e.inner e.is (below k c) (below k v) (below k v') g.1 g'.1 e.port.net (λ a i way. at_input n k j e h.1 h.2 fed a (input_at e.inner.ports a i) way) in
+      let inside : v (k ∷ []) e.port.net ≡ v' (k
+      ∷ []) e.port.net = ih e.part.module lt e.inner e.is (below k c) (below k v)
+      (below k v') g.1 g'.1 e.port.net (λ a i way. at_input n k j e h.1 h.2 fed a
+      (input_at e.inner.ports a i) way) in
       let P : ℕ → Type 0 = λ i. v [] i ≡ v' [] i in
       subst P h.2 (out ∙ inside ∙ sym out')
 
-  at_net : (n : ℕ) → ((a : ℕ) → Feeds d m a n → v [] a ≡ v' [] a) → ((a : ℕ) → is_input m.ports a ≡ true → Way d m a n → v [] a ≡ v' [] a) → (r i : Bool) → is_reg m n ≡ r → is_input m.ports n ≡ i → (n < length m.nets) ⊎ (length m.nets ≤ n) → v [] n ≡ v' [] n
+  at_net : (n : ℕ) → ((a : ℕ) → Feeds d m a n → v [] a ≡ v' [] a)
+      → ((a : ℕ) → is_input m.ports a ≡ true → Way d m a n → v [] a ≡ v' [] a) → (r i : Bool)
+      → is_reg m n ≡ r → is_input m.ports n ≡ i → (n < length m.nets) ⊎ (length m.nets ≤ n)
+      → v [] n ≡ v' [] n
   at_net n fed hangs true i er ei q = b.own.kept n er ∙ sym (b'.own.kept n er)
   at_net n fed hangs false true er ei q = hangs n ei stay
   at_net n fed hangs false false er ei (inl lt) =
@@ -86,9 +99,14 @@ independent d h =
 
 -- families that agree on the inputs are one on all parts
 abbrev pub Agrees : Design → Module → Type 0
-Agrees d m = (c : AllContents) (v v' : Families) → FitsFlat d m c v → FitsFlat d m c v' → ((n : ℕ) → is_input m.ports n ≡ true → v [] n ≡ v' [] n) → (p : Path) (part : Module) → module_at d m p ≡ Some part → v p ≡ v' p
+Agrees d m = (c : AllContents) (v v' : Families) → FitsFlat d m c v → FitsFlat d m c v'
+    → ((n : ℕ) → is_input m.ports n ≡ true → v [] n ≡ v' [] n) → (p : Path) (part : Module)
+    → module_at d m p ≡ Some part → v p ≡ v' p
 
-agree : (d : Design) → IsAccepted d → (m : Module) (number : ℕ) → slice_get d.modules number ≡ Some m → (p : Path) → (c : AllContents) (v v' : Families) → FitsFlat d m c v → FitsFlat d m c v' → ((n : ℕ) → is_input m.ports n ≡ true → v [] n ≡ v' [] n) → (part : Module) → module_at d m p ≡ Some part → v p ≡ v' p
+agree : (d : Design) → IsAccepted d → (m : Module) (number : ℕ)
+    → slice_get d.modules number ≡ Some m → (p : Path) → (c : AllContents) (v v' : Families)
+    → FitsFlat d m c v → FitsFlat d m c v' → ((n : ℕ) → is_input m.ports n ≡ true
+    → v [] n ≡ v' [] n) → (part : Module) → module_at d m p ≡ Some part → v p ≡ v' p
 agree d h m number e [] c v v' f f' same part at = fun_ext (λ n. independent d h number m e c v v' f f' n (λ a i way. same a i))
 agree d h m number e (k ∷ p) c v v' f f' same part at =
     let a : From (λ (inner : Module). module_at d inner p) (part_of d m k) part = from_some (λ inner. module_at d inner p) (part_of d m k) part at in
@@ -98,7 +116,9 @@ agree d h m number e (k ∷ p) c v v' f f' same part at =
     let size = (sound_at h number m e).ports k b.item a.item b.was b.gives in
     agree d h a.item b.item.module b.gives p (below k c) (below k v) (below k v') g.1 g'.1 (λ n i. input n b.item.nets a.item.ports size g.0 g'.0 (input_at a.item.ports n i)) part a.gives
   where
-    input : (n : ℕ) (nets : List ℕ) (ports : List Port) → length nets ≡ length ports → Joined (v []) (v (k ∷ [])) ports nets → Joined (v' []) (v' (k ∷ [])) ports nets → InputAt ports n → v (k ∷ []) n ≡ v' (k ∷ []) n
+    input : (n : ℕ) (nets : List ℕ) (ports : List Port) → length nets ≡ length ports
+        → Joined (v []) (v (k ∷ [])) ports nets → Joined (v' []) (v' (k ∷ [])) ports nets
+        → InputAt ports n → v (k ∷ []) n ≡ v' (k ∷ []) n
     input n nets ports size g g' i =
         let o = net_at ports nets i.place i.port size i.at in
         let same' : v [] o.0 ≡ v' [] o.0 = independent d h number m e c v v' f f' o.0 (λ a q way. same a q) in

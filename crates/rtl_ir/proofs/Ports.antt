@@ -1,5 +1,7 @@
 -- Ports, reads and assignments by their places.
-use Rattle.std.proofs.Common.{◌≡◌, ℕ, zero, suc, ◌+◌, ◌-◌, ◌*◌, ◌/◌, ◌%◌, ◌^◌, ◌<◌, Bool, true, false, not, ◌&&◌, ◌||◌, cond, eqb, ltb, List, [], ◌∷◌, length, get_or, Some, refl, sym, ap, ◌∙◌, subst, arith}
+use Rattle.std.proofs.Common.{◌≡◌, ℕ, zero, suc, ◌+◌, ◌-◌, ◌*◌, ◌/◌, ◌%◌, ◌^◌, ◌<◌, Bool, true}
+use Rattle.std.proofs.Common.{false, not, ◌&&◌, ◌||◌, cond, eqb, ltb, List, [], ◌∷◌, length, get_or}
+use Rattle.std.proofs.Common.{Some, refl, sym, ap, ◌∙◌, subst, arith}
 use Rattle.std.specs.Prelude.{slice_get}
 use Rattle.std.proofs.lemmas.Bool.{false≢true, eqb-true}
 use Rattle.std.proofs.lemmas.Option.{slice_get_within, slice_get-get_or}
@@ -44,7 +46,9 @@ joined_at outer inner (q ∷ ps) (o ∷ ns) zero p n h e f =
     ap (λ (i : Port). inner i.net) (sym a) ∙ h.0 ∙ ap outer b
 joined_at outer inner (q ∷ ps) (o ∷ ns) (suc j) p n h e f = joined_at outer inner ps ns j p n h.1 e f
 
-pub joined_of : (outer inner : Family) (ps : List Port) (ns : List ℕ) → length ns ≡ length ps → ((j : ℕ) (p : Port) (n : ℕ) → slice_get ps j ≡ Some p → slice_get ns j ≡ Some n → inner p.net ≡ outer n) → Joined outer inner ps ns
+pub joined_of : (outer inner : Family) (ps : List Port) (ns : List ℕ) → length ns ≡ length ps
+    → ((j : ℕ) (p : Port) (n : ℕ) → slice_get ps j ≡ Some p → slice_get ns j ≡ Some n
+    → inner p.net ≡ outer n) → Joined outer inner ps ns
 joined_of outer inner [] [] e h = tt
 joined_of outer inner [] (o ∷ ns) e h = absurd (omega (arith, e))
 joined_of outer inner (q ∷ ps) [] e h = absurd (omega (arith, e))
@@ -77,7 +81,9 @@ pub input_at : (ps : List Port) (a : ℕ) → is_input ps a ≡ true → InputAt
 input_at [] a h = absurd (false≢true h)
 input_at (p ∷ ps) a h = by_test p ps a (input_at ps a) (eqb p.net a) p.output refl refl h
 
-pub assigned_at : (m : Module) (c : Contents) (v : Family) (as' : List Assign) (j : ℕ) (a : Assign) → Assigned m c v as' → slice_get as' j ≡ Some a → v a.target ≡ value m c v (width_of m a.target) a.expr
+pub assigned_at : (m : Module) (c : Contents) (v : Family) (as' : List Assign) (j : ℕ)
+    (a : Assign) → Assigned m c v as' → slice_get as' j ≡ Some a
+    → v a.target ≡ value m c v (width_of m a.target) a.expr
 assigned_at m c v [] j a h e = absurd (cc)
 assigned_at m c v (b ∷ as') zero a h e =
     let q : b ≡ a = cc in
@@ -85,6 +91,8 @@ assigned_at m c v (b ∷ as') zero a h e =
     subst P q h.0
 assigned_at m c v (b ∷ as') (suc j) a h e = assigned_at m c v as' j a h.1 e
 
-pub assigned_of : (m : Module) (c : Contents) (v : Family) (as' : List Assign) → ((j : ℕ) (a : Assign) → slice_get as' j ≡ Some a → v a.target ≡ value m c v (width_of m a.target) a.expr) → Assigned m c v as'
+pub assigned_of : (m : Module) (c : Contents) (v : Family) (as' : List Assign)
+    → ((j : ℕ) (a : Assign) → slice_get as' j ≡ Some a
+    → v a.target ≡ value m c v (width_of m a.target) a.expr) → Assigned m c v as'
 assigned_of m c v [] h = tt
 assigned_of m c v (b ∷ as') h = (h 0 b refl, assigned_of m c v as' (λ j a e. h (suc j) a e))

@@ -55,9 +55,14 @@ formed_expr = record {
 formed : IsFormedModule [] turned
 formed = record {
   name = refl;
-  nets = three (λ k. IsFormedNet) (wire (codes "clk")) (wire (codes "reset")) (wire (codes "y")) (record { name = refl; some = lit≤ tt; at_most = lit≤ tt }) (record { name = refl; some = lit≤ tt; at_most = lit≤ tt }) (record { name = refl; some = lit≤ tt; at_most = lit≤ tt });
+  nets = three (λ k. IsFormedNet) (wire (codes "clk")) (wire (codes "reset")) (wire (codes "y"))
+      (record { name = refl; some = lit≤ tt; at_most = lit≤ tt })
+      (record { name = refl; some = lit≤ tt; at_most = lit≤ tt })
+      (record { name = refl; some = lit≤ tt; at_most = lit≤ tt });
   mems = none_has (λ k. IsFormedMem);
-  ports = three (λ k. IsFormedPort turned) (port 0 false) (port 1 false) (port 2 true) (record { net = lit< tt; wire = refl }) (record { net = lit< tt; wire = refl }) (record { net = lit< tt; wire = refl });
+  ports = three (λ k. IsFormedPort turned) (port 0 false) (port 1 false) (port 2 true)
+      (record { net = lit< tt; wire = refl }) (record { net = lit< tt; wire = refl })
+      (record { net = lit< tt; wire = refl });
   apart = λ j k p q e f g. sym (place j p e) ∙ g ∙ place k q f;
   assigns = one (λ k. IsFormedAssign turned) the_assign (record { target = lit< tt; expr = formed_expr });
   updates = none_has (λ k. IsFormedUpdate turned);
@@ -125,7 +130,9 @@ levelled = record { rank = rank; rising = λ a b f. rising f refl }
   where
     rising : {m : Module} {a b : ℕ} → Feeds design m a b → m ≡ turned → rank a < rank b
     rising (by_assign j n a e r) q =
-        one (λ k a. (n : ℕ) → IsRead a.expr n → rank n < rank a.target) the_assign (λ n r. one (λ k n. rank n < 1) 1 (lit< tt) r.0 n r.1) j a (ap (λ (m : Module). slice_get m.assigns j) (sym q) ∙ e) n r
+        one (λ k a. (n : ℕ) → IsRead a.expr n
+        → rank n < rank a.target) the_assign (λ n r. one (λ k n. rank n < 1) 1
+        (lit< tt) r.0 n r.1) j a (ap (λ (m : Module). slice_get m.assigns j) (sym q) ∙ e) n r
     rising (by_part k j l c e o i w) q =
         none_has (λ k i. rank c.net < rank e.net) k c.part (ap (λ (m : Module). slice_get m.instances k) (sym q) ∙ c.of)
 

@@ -48,7 +48,9 @@ choose_fits : (b : Bool) (w x y : ℕ) → Fit w x → Fit w y → Fit w (cond b
 choose_fits true w x y h k = h
 choose_fits false w x y h k = k
 
-pub value_fits : (m : Module) (c : Contents) (v : Family) (w : ℕ) (e : Expr) → IsTyped m w e → ((n : ℕ) → Fit (width_of m n) (v n)) → ((k a : ℕ) → Fit (word_width m k) (c.cells k a)) → Fit w (value m c v w e)
+pub value_fits : (m : Module) (c : Contents) (v : Family) (w : ℕ) (e : Expr) → IsTyped m w e
+    → ((n : ℕ) → Fit (width_of m n) (v n)) → ((k a : ℕ) → Fit (word_width m k) (c.cells k a))
+    → Fit w (value m c v w e)
 value_fits m c v w (Plain n) t h q = fit_at (width_of m n) w (v n) t (h n)
 value_fits m c v w (Literal x) t h q = fit_at x.width w x.bits t x.fits
 value_fits m c v w (Not n) t h q = let p = pow_pos w in omega (arith, p)

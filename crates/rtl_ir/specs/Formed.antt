@@ -1,5 +1,6 @@
 -- The form of a design, whatever its drivers and widths: names are names, and sizes and numbers are in range.
-use Rattle.std.specs.Prelude.{◌≡◌, ℕ, ◌^◌, ◌<◌, ◌≤◌, Bool, false, not, ◌&&◌, nat_eq, List, [], length, take, Option, Some, None, slice_get, IsTrue, codes, bytes_eq}
+use Rattle.std.specs.Prelude.{◌≡◌, ℕ, ◌^◌, ◌<◌, ◌≤◌, Bool, false, not, ◌&&◌, nat_eq, List, []}
+use Rattle.std.specs.Prelude.{length, take, Option, Some, None, slice_get, IsTrue, codes, bytes_eq}
 use Rattle.std.specs.List.{list_any}
 use Rattle.rtl_ir.specs.declared.design.Net.{Net}
 use Rattle.rtl_ir.specs.declared.design.Mem.{Mem}

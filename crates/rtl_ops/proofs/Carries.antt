@@ -1,5 +1,8 @@
 -- Rounding by what a floor leaves, on words.
-use Rattle.std.proofs.Common.{◌≡◌, ℕ, suc, ◌+◌, ◌-◌, ◌*◌, ◌/◌, ◌%◌, ◌<◌, ◌≤◌, ◌^◌, Bool, true, false, ◌&&◌, ◌||◌, ◌==◌, nat_le, nat_lt, bit_and, bit_or, refl, sym, ap, ◌∙◌, subst, arith, ⊎_elim, pow_pos, ℤ, pos, negsuc, ◌+ℤ◌, ◌*ℤ◌, unsigned_abs}
+use Rattle.std.proofs.Common.{◌≡◌, ℕ, suc, ◌+◌, ◌-◌, ◌*◌, ◌/◌, ◌%◌, ◌<◌, ◌≤◌, ◌^◌, Bool, true}
+use Rattle.std.proofs.Common.{false, ◌&&◌, ◌||◌, ◌==◌, nat_le, nat_lt, bit_and, bit_or, refl, sym}
+use Rattle.std.proofs.Common.{ap, ◌∙◌, subst, arith, ⊎_elim, pow_pos, ℤ, pos, negsuc, ◌+ℤ◌, ◌*ℤ◌}
+use Rattle.std.proofs.Common.{unsigned_abs}
 use Rattle.std.proofs.lemmas.Bool.{cases_lt}
 use Rattle.std.proofs.lemmas.Bool.Decides.{nat_tests}
 use Rattle.std.proofs.lemmas.Nat.{pow-add, field_of, mod_below}
@@ -33,7 +36,9 @@ no_shift w k z e = ap (reduced w) (sym (times_one z)) ∙ ap (λ j. reduced w (z
 pub far_shift : (w k : ℕ) (z : ℤ) → w ≤ k → 0 ≡ reduced w (z *ℤ pos (2 ^ k))
 far_shift w k z h =
     let parts : 2 ^ k ≡ 2 ^ (k - w) * 2 ^ w = ap (λ j. 2 ^ j) (omega arith) ∙ pow-add 2 (k - w) w in
-    let same : z *ℤ pos (2 ^ k) ≡ pos 0 +ℤ (z *ℤ pos (2 ^ (k - w))) *ℤ pos (2 ^ w) = ap (λ m. z *ℤ pos m) parts ∙ sym (mul_assoc z (pos (2 ^ (k - w))) (pos (2 ^ w))) ∙ omega (arith, same_in, sum_is_lem) in
+    let same : z *ℤ pos (2 ^ k) ≡ pos 0 +ℤ (z *ℤ pos (2 ^ (k - w))) *ℤ pos (2 ^ w) = ap
+    (λ m. z *ℤ pos m) parts ∙ sym (mul_assoc z (pos (2 ^ (k - w))) (pos (2 ^ w))) ∙ omega
+    (arith, same_in, sum_is_lem) in
     sym (reduced-beyond w (z *ℤ pos (2 ^ k)) (pos 0) (z *ℤ pos (2 ^ (k - w))) same ∙ reduced-zero w)
 
 multiple : (z : ℤ) (d : ℕ) → 0 < d → (int_div_euclid (z *ℤ pos d) (pos d) ≡ z) × (int_rem_euclid (z *ℤ pos d) (pos d) ≡ pos 0)
@@ -89,7 +94,9 @@ above_test h d r e = grind (arith, nat_tests)
 half_test : (h d r : ℕ) → d ≡ h * 2 → (r == h) ≡ (2 * r == d)
 half_test h d r e = grind (arith, nat_tests)
 
-pub even_test : (k a x y : ℕ) (odd : Bool) → 1 ≤ k → x ≡ bit (nat_lt (2 ^ (k - 1)) (a % 2 ^ k)) → y ≡ bit_of (a % 2 ^ k == 2 ^ (k - 1) && odd) → bit_or x y ≡ bit_of (rounds_up ToNearEven odd (a % 2 ^ k) (2 ^ k))
+pub even_test : (k a x y : ℕ) (odd : Bool) → 1 ≤ k → x ≡ bit (nat_lt (2 ^ (k - 1)) (a % 2 ^ k))
+    → y ≡ bit_of (a % 2 ^ k == 2 ^ (k - 1) && odd)
+    → bit_or x y ≡ bit_of (rounds_up ToNearEven odd (a % 2 ^ k) (2 ^ k))
 even_test k a x y odd some f g =
     let h = 2 ^ (k - 1) in
     let twice : 2 ^ k ≡ h * 2 = twice_half k some in

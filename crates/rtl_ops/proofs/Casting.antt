@@ -16,7 +16,9 @@ frac_within (Fix whole frac signed) = omega arith
 frac_within OneBit = omega arith
 
 -- as many bits behind the point, or more
-pub cast_more : (mode : RoundMode) (from to : StreamType) (a old new w : ℕ) → old ≡ frac_of from → new ≡ frac_of to → w ≡ width_of to → old ≤ new → reduced w (value_of from a *ℤ pos (2 ^ (new - old))) ≡ cast_of mode from to a
+pub cast_more : (mode : RoundMode) (from to : StreamType) (a old new w : ℕ) → old ≡ frac_of from
+    → new ≡ frac_of to → w ≡ width_of to → old ≤ new
+    → reduced w (value_of from a *ℤ pos (2 ^ (new - old))) ≡ cast_of mode from to a
 cast_more mode from to a old new w e f g h =
     let z = value_of from a in
     ap (reduced w) (sym (widened mode z old new h))
@@ -25,7 +27,9 @@ cast_more mode from to a old new w e f g h =
     ∙ ap (λ k. reduced (width_of to) (rounded mode (z *ℤ pos (2 ^ frac_of to)) (2 ^ k))) e
 
 -- fewer
-pub cast_less : (mode : RoundMode) (from to : StreamType) (a old new w : ℕ) → old ≡ frac_of from → new ≡ frac_of to → w ≡ width_of to → new ≤ old → reduced w (rounded mode (value_of from a) (2 ^ (old - new))) ≡ cast_of mode from to a
+pub cast_less : (mode : RoundMode) (from to : StreamType) (a old new w : ℕ) → old ≡ frac_of from
+    → new ≡ frac_of to → w ≡ width_of to → new ≤ old
+    → reduced w (rounded mode (value_of from a) (2 ^ (old - new))) ≡ cast_of mode from to a
 cast_less mode from to a old new w e f g h =
     let z = value_of from a in
     ap (reduced w) (sym (narrowed mode z old new h))

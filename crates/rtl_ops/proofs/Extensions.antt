@@ -1,5 +1,8 @@
 -- Numbers in more bits and in fewer.
-use Rattle.std.proofs.Common.{◌≡◌, ℕ, zero, suc, ◌+◌, ◌-◌, ◌*◌, ◌/◌, ◌%◌, ◌<◌, ◌≤◌, ◌^◌, Bool, true, false, ◌&&◌, nat_le, if◌then◌else◌, refl, sym, ap, ◌∙◌, subst, arith, ⊎_elim, pow_pos, ℤ, pos, negsuc, neg_ℤ, ◌+ℤ◌, ◌-ℤ◌, ◌*ℤ◌, unsigned_abs}
+use Rattle.std.proofs.Common.{◌≡◌, ℕ, zero, suc, ◌+◌, ◌-◌, ◌*◌, ◌/◌, ◌%◌, ◌<◌, ◌≤◌, ◌^◌, Bool, true}
+use Rattle.std.proofs.Common.{false, ◌&&◌, nat_le, if◌then◌else◌, refl, sym, ap, ◌∙◌, subst, arith}
+use Rattle.std.proofs.Common.{⊎_elim, pow_pos, ℤ, pos, negsuc, neg_ℤ, ◌+ℤ◌, ◌-ℤ◌, ◌*ℤ◌}
+use Rattle.std.proofs.Common.{unsigned_abs}
 use Rattle.std.proofs.lemmas.Bool.{cases_lt}
 use Rattle.std.proofs.lemmas.Bool.Decides.{nat_tests}
 use Rattle.std.proofs.lemmas.Nat.{pow-add, mul-add-lt, div-mul-add, shr_split, mod_below, div-add-mod', le-div, shr_below}
@@ -153,7 +156,10 @@ high_test a w k h =
     let parts : 2 ^ (w - 1) ≡ 2 ^ (w - k - 1) * 2 ^ k = ap (λ j. 2 ^ j) (omega arith) ∙ pow-add 2 (w - k - 1) k in
     ⊎_elim
     (λ (low : a / 2 ^ k < 2 ^ (w - k - 1)).
-    let less : a < 2 ^ (w - 1) = ⊎_elim (λ (q : a < 2 ^ (w - 1)). q) (λ (q : 2 ^ (w - 1) ≤ a). let over : 2 ^ (w - k - 1) ≤ a / 2 ^ k = le-div (2 ^ (w - k - 1)) a (2 ^ k) some (omega arith) in absurd (omega arith)) (cases_lt a (2 ^ (w - 1))) in
+    let less : a < 2 ^ (w - 1) = ⊎_elim (λ (q : a < 2 ^ (w - 1)). q)
+    (λ (q : 2 ^ (w - 1) ≤ a). let over : 2 ^ (w - k - 1) ≤ a / 2 ^ k = le-div
+    (2 ^ (w - k - 1)) a (2 ^ k) some (omega arith) in absurd (omega arith))
+    (cases_lt a (2 ^ (w - 1))) in
     grind (arith, nat_tests))
     (λ (high : 2 ^ (w - k - 1) ≤ a / 2 ^ k).
     let times : 2 ^ (w - k - 1) * 2 ^ k ≤ a / 2 ^ k * 2 ^ k = mul-le-mul_right (2 ^ k) high in
@@ -165,13 +171,18 @@ high_test a w k h =
 floor_of_below : (a m d n : ℕ) → 0 < d → n ≡ m * d → pos (a / d) -ℤ pos m ≡ floor_of (pos a -ℤ pos n) d
 floor_of_below a m d n some e =
     let whole = div-add-mod' a d in
-    let times : (pos (a / d) -ℤ pos m) *ℤ pos d ≡ pos (a / d) *ℤ pos d +ℤ neg_ℤ (pos m *ℤ pos d) = mul_sum (pos (a / d)) (neg_ℤ (pos m)) (pos d) ∙ ap (λ z. pos (a / d) *ℤ pos d +ℤ z) (neg_mul (pos m) (pos d)) in
+    let times : (pos (a / d) -ℤ pos m) *ℤ pos d ≡ pos (a / d) *ℤ pos d +ℤ neg_ℤ
+    (pos m *ℤ pos d) = mul_sum (pos (a / d)) (neg_ℤ (pos m)) (pos d) ∙ ap
+    (λ z. pos (a / d) *ℤ pos d +ℤ z) (neg_mul (pos m) (pos d)) in
     sym (floor_is (pos a -ℤ pos n) (pos (a / d) -ℤ pos m) d (a % d) (mod_below a d some) (sym (ap (λ z. z +ℤ pos (a % d)) times ∙ omega (arith, same_in, sum_is_lem, neg_is, product_is)))).0
 
 -- the high bits of a word, read in a type that has them alone, are its number rounded down
 pub high_value : (t u : StreamType) (a k : ℕ) → k < width_of t → a < 2 ^ width_of t → width_of u ≡ width_of t - k → is_signed u ≡ is_signed t → value_of u (a / 2 ^ k) ≡ floor_of (value_of t a) (2 ^ k)
 high_value t u a k h lt wide signs =
-    let same : is_below_zero u (a / 2 ^ k) ≡ is_below_zero t a = ap (λ s. s && nat_le (2 ^ (width_of u - 1)) (a / 2 ^ k)) signs ∙ ap (λ w. is_signed t && nat_le (2 ^ (w - 1)) (a / 2 ^ k)) wide ∙ ap (λ b. is_signed t && b) (high_test a (width_of t) k h) in
+    let same : is_below_zero u (a / 2 ^ k) ≡ is_below_zero t a = ap (λ s. s
+    && nat_le (2 ^ (width_of u - 1)) (a / 2 ^ k)) signs ∙ ap (λ w. is_signed t
+    && nat_le (2 ^ (w - 1)) (a / 2 ^ k)) wide ∙ ap (λ b. is_signed t
+    && b) (high_test a (width_of t) k h) in
     let parts : 2 ^ width_of t ≡ 2 ^ (width_of t - k) * 2 ^ k = ap (λ j. 2 ^ j) (omega arith) ∙ pow-add 2 (width_of t - k) k in
     elim (is_below_zero t a) as (λ (b : Bool). is_below_zero t a ≡ b → value_of u (a / 2 ^ k) ≡ floor_of (value_of t a) (2 ^ k)) [
       | true ↦ λ e.

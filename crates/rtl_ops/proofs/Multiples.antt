@@ -66,7 +66,9 @@ unsigned_value : (t : StreamType) (a : ℕ) → is_signed t ≡ false → value_
 unsigned_value t a s = value_from t a (ap (λ b. b && nat_le (2 ^ (width_of t - 1)) a) s)
 
 -- a type of twice the width has the products
-product_is_value : (s : Bool) (t u : StreamType) (a b : ℕ) → is_signed t ≡ s → is_signed u ≡ s → 1 ≤ width_of t → width_of u ≡ 2 * width_of t → a < 2 ^ width_of t → b < 2 ^ width_of t → IsValue u (value_of t a *ℤ value_of t b)
+product_is_value : (s : Bool) (t u : StreamType) (a b : ℕ) → is_signed t ≡ s → is_signed u ≡ s
+    → 1 ≤ width_of t → width_of u ≡ 2 * width_of t → a < 2 ^ width_of t → b < 2 ^ width_of t
+    → IsValue u (value_of t a *ℤ value_of t b)
 product_is_value true t u a b s r some wide f g =
     let w = width_of t in
     let size : unsigned_abs (value_of t a) * unsigned_abs (value_of t b) ≤ 2 ^ (w - 1) * 2 ^ (w - 1) = mul-le _ _ _ _ (size_at_most t a s some f) (size_at_most t b s some g) in
@@ -80,7 +82,10 @@ product_is_value false t u a b s r some wide f g =
     subst (IsValue u) (sym (ap (λ z. z *ℤ value_of t b) (unsigned_value t a s) ∙ ap (λ z. pos a *ℤ z) (unsigned_value t b s))) (value_of_unsigned u (a * b) r (omega arith))
 
 -- the word of a product in twice the width has the product as its number
-pub product_value : (t u : StreamType) (a b : ℕ) → is_signed u ≡ is_signed t → 1 ≤ width_of t → width_of u ≡ 2 * width_of t → a < 2 ^ width_of t → b < 2 ^ width_of t → value_of u (reduced (2 * width_of t) (value_of t a *ℤ value_of t b)) ≡ value_of t a *ℤ value_of t b
+pub product_value : (t u : StreamType) (a b : ℕ) → is_signed u ≡ is_signed t → 1 ≤ width_of t
+    → width_of u ≡ 2 * width_of t → a < 2 ^ width_of t → b < 2 ^ width_of t
+    → value_of u (reduced (2 * width_of t) (value_of t a *ℤ value_of t b))
+    ≡ value_of t a *ℤ value_of t b
 product_value t u a b signs some wide f g =
     ap (λ k. value_of u (reduced k (value_of t a *ℤ value_of t b))) (sym wide)
     ∙ read_back u (value_of t a *ℤ value_of t b) (product_is_value (is_signed t) t u a b refl signs some wide f g)

@@ -1,5 +1,7 @@
 -- The options of a multiplexer.
-use Rattle.std.proofs.Common.{◌≡◌, ◌≢◌, ℕ, zero, suc, ◌+◌, ◌-◌, ◌<◌, ◌≤◌, Bool, true, false, ◌==◌, if◌then◌else◌, List, [], ◌∷◌, Some, IfSome, All, map, take, drop, length, get_or, refl, sym, ap, ◌∙◌, subst, arith, ⊎_elim}
+use Rattle.std.proofs.Common.{◌≡◌, ◌≢◌, ℕ, zero, suc, ◌+◌, ◌-◌, ◌<◌, ◌≤◌, Bool, true, false, ◌==◌}
+use Rattle.std.proofs.Common.{if◌then◌else◌, List, [], ◌∷◌, Some, IfSome, All, map, take, drop}
+use Rattle.std.proofs.Common.{length, get_or, refl, sym, ap, ◌∙◌, subst, arith, ⊎_elim}
 use Rattle.std.specs.Prelude.{slice_get}
 use Rattle.std.proofs.lemmas.Option.{slice_get-get_or, get_or_from_slice_get}
 use Rattle.std.proofs.lemmas.List.{take_all}
@@ -46,8 +48,12 @@ found_within [] i n e = absurd (cc)
 found_within (o ∷ options) zero n e = omega arith
 found_within (o ∷ options) (suc i) n e = let lt = found_within options i n e in omega arith
 
-pub prefers_all : (m : Module) (options : List ℕ) (selector r : Signal) (j : ℕ) → Prefers m options selector j r → length options ≤ j → (c : Contents) (v : Family) → Holds m c v → IfSome (slice_get (map v options) (v selector.net)) (λ y. v r.net ≡ y)
-prefers_all m options selector r j p le c v h = mapped v options (v selector.net) (v r.net) (λ n at. p c v h (v selector.net) n at (let lt = found_within options (v selector.net) n at in omega arith) refl)
+pub prefers_all : (m : Module) (options : List ℕ) (selector r : Signal) (j : ℕ)
+    → Prefers m options selector j r → length options ≤ j → (c : Contents) (v : Family)
+    → Holds m c v → IfSome (slice_get (map v options) (v selector.net)) (λ y. v r.net ≡ y)
+prefers_all m options selector r j p le c v h = mapped v options (v selector.net) (v r.net)
+    (λ n at. p c v h (v selector.net) n at (let lt = found_within options
+    (v selector.net) n at in omega arith) refl)
 
 -- a choice by one bit of a test
 pub by_bit : (k : ℕ) (b : Bool) (x y : ℕ) → k ≡ bit b → (if k == 1 then x else y) ≡ (if b then x else y)
@@ -73,7 +79,9 @@ option_at (o ∷ options) k h =
     let next : k + 1 ≡ suc k = omega arith in
     ap (slice_get (o ∷ options)) next ∙ slice_get-get_or options k 0 lt ∙ ap (λ (l : List ℕ). Some (get_or l k 0)) (sym e)
 
-pub signal_at : (m : Module) (options : List ℕ) (w i n : ℕ) → All (λ x. HasSignal m (record { net = x; width = w })) options → slice_get options i ≡ Some n → HasSignal m (record { net = n; width = w })
+pub signal_at : (m : Module) (options : List ℕ) (w i n : ℕ)
+    → All (λ x. HasSignal m (record { net = x; width = w })) options
+    → slice_get options i ≡ Some n → HasSignal m (record { net = n; width = w })
 signal_at m options w i n all at =
     let lt = found_within options i n at in
     subst (λ x. HasSignal m (record { net = x; width = w })) (get_or_from_slice_get options i n 0 at) (all i 0 lt)

@@ -1,5 +1,7 @@
 -- Numbers are in the order of their ranks.
-use Rattle.std.proofs.Common.{◌≡◌, ℕ, ◌+◌, ◌-◌, ◌*◌, ◌%◌, ◌<◌, ◌≤◌, ◌^◌, Bool, true, false, ◌&&◌, ◌==◌, nat_le, nat_lt, if◌then◌else◌, refl, ◌≢◌, sym, ap, ◌∙◌, subst, arith, ⊎_elim, ℤ, pos, ◌+ℤ◌, ◌-ℤ◌, unsigned_abs, int_lt}
+use Rattle.std.proofs.Common.{◌≡◌, ℕ, ◌+◌, ◌-◌, ◌*◌, ◌%◌, ◌<◌, ◌≤◌, ◌^◌, Bool, true, false, ◌&&◌}
+use Rattle.std.proofs.Common.{◌==◌, nat_le, nat_lt, if◌then◌else◌, refl, ◌≢◌, sym, ap, ◌∙◌, subst}
+use Rattle.std.proofs.Common.{arith, ⊎_elim, ℤ, pos, ◌+ℤ◌, ◌-ℤ◌, unsigned_abs, int_lt}
 use Rattle.std.proofs.lemmas.Bool.{cases_lt, cases_eq}
 use Rattle.std.proofs.lemmas.Bool.Decides.{nat_tests}
 use Rattle.std.proofs.lemmas.Nat.{pow-add, mod-mul-add}
@@ -33,7 +35,9 @@ signed_rank a h m twice fits =
 pub rank_by_half : (t : StreamType) (a w : ℕ) → is_signed t ≡ true → w ≡ width_of t → 1 ≤ w → a < 2 ^ w → (a + 2 ^ (w - 1)) % 2 ^ w ≡ rank_of t a
 unfolding value_of
 rank_by_half t a w s e some fits =
-    let here : (a + 2 ^ (width_of t - 1)) % 2 ^ width_of t ≡ rank_of t a = rw s (sym (signed_rank a (2 ^ (width_of t - 1)) (2 ^ width_of t) (twice_half (width_of t) (omega arith)) (subst (λ k. a < 2 ^ k) e fits))) in
+    let here : (a + 2 ^ (width_of t - 1)) % 2 ^ width_of t ≡ rank_of t a = rw s
+    (sym (signed_rank a (2 ^ (width_of t - 1)) (2 ^ width_of t)
+    (twice_half (width_of t) (omega arith)) (subst (λ k. a < 2 ^ k) e fits))) in
     ap (λ k. (a + 2 ^ (k - 1)) % 2 ^ k) e ∙ here
 
 -- a word of an unsigned type is its number
@@ -46,11 +50,19 @@ value_by_rank : (t : StreamType) (a : ℕ) → 1 ≤ width_of t → a < 2 ^ widt
 unfolding value_of
 value_by_rank t a some fits =
     let twice = twice_half (width_of t) some in
-    elim (is_signed t) as (λ (s : Bool). (if s && nat_le (2 ^ (width_of t - 1)) a then pos a -ℤ pos (2 ^ width_of t) else pos a) ≡ pos (unsigned_abs ((if s && nat_le (2 ^ (width_of t - 1)) a then pos a -ℤ pos (2 ^ width_of t) else pos a) +ℤ pos (if s then 2 ^ (width_of t - 1) else 0))) -ℤ pos (if s then 2 ^ (width_of t - 1) else 0)) [
-      | true ↦ elim (nat_le (2 ^ (width_of t - 1)) a) as (λ (b : Bool). nat_le (2 ^ (width_of t - 1)) a ≡ b → (if b then pos a -ℤ pos (2 ^ width_of t) else pos a) ≡ pos (unsigned_abs ((if b then pos a -ℤ pos (2 ^ width_of t) else pos a) +ℤ pos (2 ^ (width_of t - 1)))) -ℤ pos (2 ^ (width_of t - 1))) [
-        | true ↦ λ e. let high : 2 ^ (width_of t - 1) ≤ a = grind (arith, nat_tests) in omega (arith, same_in, sum_is_lem, neg_is, abs_is)
-        | false ↦ λ e. omega (arith, same_in, sum_is_lem, neg_is, abs_is)
-      ] refl
+    elim (is_signed t) as (λ (s : Bool). (if s
+    && nat_le (2 ^ (width_of t - 1)) a then pos a -ℤ pos (2 ^ width_of t) else pos a) ≡ pos
+    (unsigned_abs ((if s && nat_le (2 ^ (width_of t - 1)) a then pos a -ℤ pos
+    (2 ^ width_of t) else pos a) +ℤ pos (if s then 2 ^ (width_of t - 1) else 0))) -ℤ pos
+    (if s then 2 ^ (width_of t - 1) else 0)) [
+      | true ↦ elim (nat_le (2 ^ (width_of t - 1)) a) as
+          (λ (b : Bool). nat_le (2 ^ (width_of t - 1)) a ≡ b
+          → (if b then pos a -ℤ pos (2 ^ width_of t) else pos a) ≡ pos
+          (unsigned_abs ((if b then pos a -ℤ pos (2 ^ width_of t) else pos a) +ℤ pos
+          (2 ^ (width_of t - 1)))) -ℤ pos (2 ^ (width_of t - 1))) [
+            | true ↦ λ e. let high : 2 ^ (width_of t - 1) ≤ a = grind (arith, nat_tests) in omega (arith, same_in, sum_is_lem, neg_is, abs_is)
+            | false ↦ λ e. omega (arith, same_in, sum_is_lem, neg_is, abs_is)
+          ] refl
       | false ↦ omega (arith, same_in, sum_is_lem, neg_is, abs_is)
     ]
 

@@ -40,7 +40,10 @@ inner_at ps [] i h lt = absurd (omega arith)
 inner_at ps (n ∷ ns) zero h lt = h.0
 inner_at ps (n ∷ ns) (suc i) h lt = inner_at ps ns i h.1 (omega arith)
 
-pub signal_of : (m : Module) (types : List StreamType) (args : List ℕ) (i w n : ℕ) (d : StreamType) → HasNets m types args → All HasWidth types → i < length types → n ≡ get_or args i 0 → w ≡ type_width (get_or types i d) → HasSignal m (record { net = n; width = w })
+pub signal_of : (m : Module) (types : List StreamType) (args : List ℕ) (i w n : ℕ)
+    (d : StreamType) → HasNets m types args → All HasWidth types → i < length types
+    → n ≡ get_or args i 0 → w ≡ type_width (get_or types i d)
+    → HasSignal m (record { net = n; width = w })
 signal_of m types args i w n d e all h is wide =
     let within : i < length args = subst (λ k. i < k) (sym (length-args m types args e)) h in
     let size : width_of m n ≡ w = ap (width_of m) is ∙ sym (get_or-map (width_of m) args i 0 0 within) ∙ ap (λ ns. get_or ns i 0) e.widths ∙ get_or-map type_width types i d 0 h ∙ sym wide in
@@ -54,16 +57,24 @@ signal_of m types args i w n d e all h is wide =
     }
 
 -- the second operand has the type of the first
-pub second_signal : (m : Module) (types : List StreamType) (args : List ℕ) (w : ℕ) (d : StreamType) → HasNets m types args → All HasWidth types → AllSame types → 2 ≤ length types → w ≡ type_width (get_or types 0 d) → HasSignal m (record { net = get_or args 1 0; width = w })
+pub second_signal : (m : Module) (types : List StreamType) (args : List ℕ) (w : ℕ)
+    (d : StreamType) → HasNets m types args → All HasWidth types → AllSame types
+    → 2 ≤ length types → w ≡ type_width (get_or types 0 d)
+    → HasSignal m (record { net = get_or args 1 0; width = w })
 second_signal m types args w d e all same h wide =
     signal_of m types args 1 w (get_or args 1 0) d e all (omega arith) refl (wide ∙ ap type_width (first_type types d (omega arith) ∙ sym (same 1 d (omega arith))))
 
-rest_signals : (m : Module) (types : List StreamType) (args : List ℕ) (w : ℕ) → HasNets m types args → All HasWidth types → AllSame types → w ≡ type_width (first types) → All (λ n. HasSignal m (record { net = n; width = w })) args
+rest_signals : (m : Module) (types : List StreamType) (args : List ℕ) (w : ℕ)
+    → HasNets m types args → All HasWidth types → AllSame types → w ≡ type_width (first types)
+    → All (λ n. HasSignal m (record { net = n; width = w })) args
 rest_signals m types args w e all same wide k d h =
     let within : k < length types = subst (λ j. k < j) (length-args m types args e) h in
     signal_of m types args k w (get_or args k d) OneBit e all within (default_free args k d 0 h) (wide ∙ ap type_width (sym (same k OneBit within)))
 
-pub option_signals : (m : Module) (types : List StreamType) (args : List ℕ) (w : ℕ) → HasNets m types args → All HasWidth types → AllSame (drop 1 types) → w ≡ type_width (second types) → All (λ n. HasSignal m (record { net = n; width = w })) (rest_of args)
+pub option_signals : (m : Module) (types : List StreamType) (args : List ℕ) (w : ℕ)
+    → HasNets m types args → All HasWidth types → AllSame (drop 1 types)
+    → w ≡ type_width (second types)
+    → All (λ n. HasSignal m (record { net = n; width = w })) (rest_of args)
 option_signals m types [] w e all same wide = λ k d h. absurd (omega (arith, length-rest []))
 option_signals m [] (a ∷ args) w e all same wide = absurd (cc)
 option_signals m (t ∷ types) (a ∷ args) w e all same wide =
@@ -79,7 +90,9 @@ pub mux_row : (v : Family) (args : List ℕ) → 1 ≤ length args → slice_get
 mux_row v [] h = absurd (omega arith)
 mux_row v (a ∷ args) h = ap (λ (l : List ℕ). slice_get (map v l) (v a)) (rest_is a args)
 
-pub cast_row : (op : Op) (mode : RoundMode) (types : List StreamType) (words : List ℕ) (k : ℕ) (out : StreamType) → (op ≡ Cast) ⊎ (op ≡ Round) → applied op mode types words k out ≡ Some (cast_of mode (first types) out (operand words 0))
+pub cast_row : (op : Op) (mode : RoundMode) (types : List StreamType) (words : List ℕ) (k : ℕ)
+    (out : StreamType) → (op ≡ Cast) ⊎ (op ≡ Round)
+    → applied op mode types words k out ≡ Some (cast_of mode (first types) out (operand words 0))
 cast_row op mode types words k out (inl e) = rw e refl
 cast_row op mode types words k out (inr e) = rw e refl
 

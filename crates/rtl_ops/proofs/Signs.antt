@@ -1,5 +1,8 @@
 -- Quotients rounded toward zero, by sizes and signs.
-use Rattle.std.proofs.Common.{◌≡◌, ℕ, zero, suc, ◌+◌, ◌-◌, ◌/◌, ◌%◌, ◌<◌, ◌≤◌, ◌^◌, Bool, true, false, ◌&&◌, ◌==◌, nat_le, if◌then◌else◌, bit_xor, Some, None, IfSome, refl, sym, ap, ◌∙◌, subst, arith, pow_pos, ℤ, pos, negsuc, neg_ℤ, ◌-ℤ◌, unsigned_abs, int_div}
+use Rattle.std.proofs.Common.{◌≡◌, ℕ, zero, suc, ◌+◌, ◌-◌, ◌/◌, ◌%◌, ◌<◌, ◌≤◌, ◌^◌, Bool, true}
+use Rattle.std.proofs.Common.{false, ◌&&◌, ◌==◌, nat_le, if◌then◌else◌, bit_xor, Some, None, IfSome}
+use Rattle.std.proofs.Common.{refl, sym, ap, ◌∙◌, subst, arith, pow_pos, ℤ, pos, negsuc, neg_ℤ}
+use Rattle.std.proofs.Common.{◌-ℤ◌, unsigned_abs, int_div}
 use Rattle.std.proofs.lemmas.Bool.Decides.{nat_tests}
 use Rattle.std.proofs.Math.Nat.{mod-eq_of_lt, div-le_self}
 use Rattle.fix_arith.specs.declared.types.StreamType.{StreamType}
@@ -44,7 +47,9 @@ high_some t a s e =
     let test : nat_le (2 ^ (width_of t - 1)) a ≡ true = sym (ap (λ b. b && nat_le (2 ^ (width_of t - 1)) a) s) ∙ e in
     grind (arith, nat_tests)
 
-pub size_test : (t : StreamType) (a w k : ℕ) → is_signed t ≡ true → w ≡ width_of t → a < 2 ^ width_of t → k ≡ bit (is_below_zero t a) → (if k == 1 then (0 + (2 ^ w - a)) % 2 ^ w else a) ≡ unsigned_abs (value_of t a)
+pub size_test : (t : StreamType) (a w k : ℕ) → is_signed t ≡ true → w ≡ width_of t
+    → a < 2 ^ width_of t → k ≡ bit (is_below_zero t a)
+    → (if k == 1 then (0 + (2 ^ w - a)) % 2 ^ w else a) ≡ unsigned_abs (value_of t a)
 size_test t a w k s e fits g =
     ap (λ n. if k == 1 then (0 + (2 ^ n - a)) % 2 ^ n else a) e
     ∙ by_bit k (is_below_zero t a) ((0 + (2 ^ width_of t - a)) % 2 ^ width_of t) a g
@@ -93,7 +98,10 @@ quotient_word t a b q k s some f g positive e i =
     let half = pow_pos (w - 1) in
     let less : m / n ≤ m = div-le_self m n in
     let small : q < 2 ^ w = omega (arith, size_at_most t a s some f) in
-    let signs : differ (is_negative (value_of t a)) (is_negative (value_of t b)) ≡ differ (is_below_zero t a) (is_below_zero t b) = ap (λ x. differ x (is_negative (value_of t b))) (negative_value t a f) ∙ ap (differ (is_below_zero t a)) (negative_value t b g) in
+    let signs : differ (is_negative (value_of t a)) (is_negative (value_of t b)) ≡ differ
+    (is_below_zero t a) (is_below_zero t b) = ap (λ x. differ x
+    (is_negative (value_of t b))) (negative_value t a f) ∙ ap (differ (is_below_zero t a))
+    (negative_value t b g) in
     by_bit k (differ (is_below_zero t a) (is_below_zero t b)) ((0 + (2 ^ w - q)) % 2 ^ w) q i
     ∙ signed_word (differ (is_below_zero t a) (is_below_zero t b)) q w small
     ∙ ap (λ x. reduced w (signed_of x q)) (sym signs)
@@ -116,7 +124,9 @@ signed_quotient_test t a b q k w s some f g e i j =
 unsigned_value : (t : StreamType) (a : ℕ) → is_signed t ≡ false → value_of t a ≡ pos a
 unsigned_value t a s = value_from t a (ap (λ b. b && nat_le (2 ^ (width_of t - 1)) a) s)
 
-pub unsigned_quotient_test : (t : StreamType) (a b : ℕ) → is_signed t ≡ false → a < 2 ^ width_of t → IfSome (if b == 0 then None else Some (reduced (width_of t) (int_div (value_of t a) (value_of t b)))) (λ z. quotient a b ≡ z)
+pub unsigned_quotient_test : (t : StreamType) (a b : ℕ) → is_signed t ≡ false
+    → a < 2 ^ width_of t → IfSome (if b == 0 then None else Some
+    (reduced (width_of t) (int_div (value_of t a) (value_of t b)))) (λ z. quotient a b ≡ z)
 unsigned_quotient_test t a b s f =
     where_some b _ _ (λ positive.
     let less : a / b ≤ a = div-le_self a b in

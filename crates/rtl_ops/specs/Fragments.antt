@@ -15,7 +15,8 @@ use Rattle.rtl_build.specs.Signals.{HasSignal}
 -- The new module is the old one and the wires of an operation on these nets, and the signal has its result: in every family that
 -- satisfies the new module its value is the word that the operation gives for the values of the operands, where it gives one. Signals
 -- of the old module stay, and what satisfies the new module satisfies the old one.
-pub record IsFragment (old new : Module) (op : Op) (mode : RoundMode) (types : List StreamType) (args : List ℕ) (amount : ℕ) (out : StreamType) (s : Signal) : Type 0 where
+pub record IsFragment (old new : Module) (op : Op) (mode : RoundMode) (types : List StreamType)
+    (args : List ℕ) (amount : ℕ) (out : StreamType) (s : Signal) : Type 0 where
   pub adds : AddsWires old new (15 * length args)
   pub signal : HasSignal new s
   pub width : s.width ≡ type_width out

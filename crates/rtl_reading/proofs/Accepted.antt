@@ -47,12 +47,16 @@ in_back : (xs ys : List Name) (d : ℕ) (name : Name) → slice_get ys d ≡ Som
 in_back [] ys d name h = let same : 0 + d ≡ d = omega arith in ap (slice_get ys) same ∙ h
 in_back (x ∷ xs) ys d name h = let same : suc (length xs) + d ≡ suc (length xs + d) = omega arith in ap (slice_get (x ∷ (xs ++ ys))) same ∙ in_back xs ys d name h
 
-differ_moved : (xs zs ys : List Name) (back : ℕ → ℕ) → ((k : ℕ) (name : Name) → slice_get zs k ≡ Some name → slice_get xs (back k) ≡ Some name) → ((j k : ℕ) → j < length zs → k < length zs → back j ≡ back k → j ≡ k)
+differ_moved : (xs zs ys : List Name) (back : ℕ → ℕ) → ((k : ℕ) (name : Name)
+    → slice_get zs k ≡ Some name → slice_get xs (back k) ≡ Some name)
+    → ((j k : ℕ) → j < length zs → k < length zs → back j ≡ back k → j ≡ k)
     → AllDiffer (xs ++ ys) → AllDiffer (zs ++ ys)
 differ_moved xs zs ys back there apart differ i j name h k = go (front_or zs ys i name h) (front_or zs ys j name k)
   where
     go : Front zs ys i name → Front zs ys j name → i ≡ j
-    go (inl a) (inl b) = apart i j (slice_get_within zs i name a) (slice_get_within zs j name b) (differ (back i) (back j) name (in_front xs ys (back i) name (there i name a)) (in_front xs ys (back j) name (there j name b)))
+    go (inl a) (inl b) = apart i j (slice_get_within zs i name a) (slice_get_within zs j name b)
+        (differ (back i) (back j) name (in_front xs ys (back i) name (there i name a))
+        (in_front xs ys (back j) name (there j name b)))
     go (inl a) (inr (d, b, e)) =
         let same = differ (back i) (length xs + d) name (in_front xs ys (back i) name (there i name a)) (in_back xs ys d name b) in
         let within = slice_get_within xs (back i) name (there i name a) in
@@ -84,12 +88,16 @@ names_again {m = m} {x = x} r h =
     let there : (k : ℕ) (name : Name) → slice_get (net_names x) k ≡ Some name → slice_get (net_names m) (r.back k) ≡ Some name =
     λ k name e.
     let (n, at, same) = mapped (λ (n : Net). n.name) x.nets (net_names x) k name refl e in
-    slice_get-map (λ (n : Net). n.name) m.nets (r.back k) ∙ ap (option_map (λ (n : Net). n.name)) (net_back r k (slice_get_within x.nets k n at)) ∙ sym (slice_get-map (λ (n : Net). n.name) x.nets k) ∙ e in
+    slice_get-map (λ (n : Net). n.name) m.nets (r.back k) ∙ ap
+    (option_map (λ (n : Net). n.name)) (net_back r k (slice_get_within x.nets k n at)) ∙ sym
+    (slice_get-map (λ (n : Net). n.name) x.nets k) ∙ e in
     let apart : (j k : ℕ) → j < length (net_names x) → k < length (net_names x) → r.back j ≡ r.back k → j ≡ k =
     λ j k a b e.
     let count : length (net_names x) ≡ length x.nets = length-map x.nets (λ (n : Net). n.name) in
     sym (r.again j (omega arith)).1 ∙ ap r.number e ∙ (r.again k (omega arith)).1 in
-    subst AllDiffer (sym (split_names x ∙ ap (λ (l : List Name). net_names x ++ l) others)) (differ_moved (net_names m) (net_names x) (other_names m) r.back there apart (subst AllDiffer (split_names m) h))
+    subst AllDiffer (sym (split_names x ∙ ap (λ (l : List Name). net_names x
+    ++ l) others)) (differ_moved (net_names m) (net_names x)
+    (other_names m) r.back there apart (subst AllDiffer (split_names m) h))
 
 -- the same connection, with the module of another one of the instance
 abbrev beside : {e : Design} {x : Module} {k j l : ℕ} → Connection e x k j → Connection e x k l → Connection e x k j

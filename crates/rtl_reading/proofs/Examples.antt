@@ -1,7 +1,10 @@
 -- Names of small texts that are declared where they are used, and the first one that isn't.
 use Rattle.std.proofs.Common.{◌≡◌, true, false, List, [], ◌∷◌, refl}
 use Rattle.std.specs.Prelude.{codes, Option, Some, None}
-use Rattle.rtl_text.specs.Tree.{Name, PortTree, InputPort, OutputPort, PlainTree, NotTree, CellTree, RegisterUpdate, CellUpdate, Connection, ItemTree, WireItem, RegisterItem, MemoryItem, AssignItem, AlwaysItem, InstanceItem, ModuleTree}
+use Rattle.rtl_text.specs.Tree.{Name, PortTree, InputPort, OutputPort, PlainTree, NotTree, CellTree}
+use Rattle.rtl_text.specs.Tree.{RegisterUpdate, CellUpdate, Connection, ItemTree, WireItem}
+use Rattle.rtl_text.specs.Tree.{RegisterItem, MemoryItem, AssignItem, AlwaysItem, InstanceItem}
+use Rattle.rtl_text.specs.Tree.{ModuleTree}
 use Rattle.rtl_reading.specs.Uses.{unknown_in}
 use Rattle.rtl_reading.specs.Reads.{item_nets, numbers_from}
 
@@ -31,7 +34,9 @@ target_is_first = refl
 memory_is_no_net : unknown_among (MemoryItem 8 (codes "t") 4 ∷ AssignItem (codes "b") (PlainTree (codes "t")) ∷ []) ≡ Some (codes "t")
 memory_is_no_net = refl
 
-cell_is_known : unknown_among (MemoryItem 8 (codes "t") 4 ∷ AssignItem (codes "b") (CellTree (codes "t") (codes "a")) ∷ AlwaysItem (CellUpdate (codes "reset") (codes "t") (codes "a") (codes "b") ∷ []) ∷ []) ≡ None
+cell_is_known : unknown_among (MemoryItem 8 (codes "t") 4
+    ∷ AssignItem (codes "b") (CellTree (codes "t") (codes "a"))
+    ∷ AlwaysItem (CellUpdate (codes "reset") (codes "t") (codes "a") (codes "b") ∷ []) ∷ []) ≡ None
 cell_is_known = refl
 
 register_is_known : unknown_among (RegisterItem 8 (codes "r") ∷ AlwaysItem (RegisterUpdate (codes "reset") (codes "r") (codes "a") ∷ []) ∷ []) ≡ None

@@ -20,7 +20,9 @@ use Rattle.rtl_ir.specs.declared.design.Design.{Design}
 use Rattle.rtl_ir.specs.Value.{net_width, net_kept, width_of, is_reg}
 use Rattle.rtl_ir.specs.Operands.{reads, IsRead, mem_read, bit_numbers, target_net, target_mem}
 use Rattle.rtl_ir.specs.Names.{is_name}
-use Rattle.rtl_ir.specs.Formed.{net_name, name_of, is_bit_input, has_bit_input, IsFormedNet, IsFormedMem, IsFormedPort, IsFormedExpr, IsFormedAssign, IsFormedUpdate, IsFormedInstance, IsFormedModule, IsFormed}
+use Rattle.rtl_ir.specs.Formed.{net_name, name_of, is_bit_input, has_bit_input, IsFormedNet}
+use Rattle.rtl_ir.specs.Formed.{IsFormedMem, IsFormedPort, IsFormedExpr, IsFormedAssign}
+use Rattle.rtl_ir.specs.Formed.{IsFormedUpdate, IsFormedInstance, IsFormedModule, IsFormed}
 use Rattle.rtl_text.specs.Text.{Pairwise}
 use Rattle.rtl_reading.specs.Renumbered.{port_as, expr_as, assign_as, target_as, update_as, instance_as, IsRenumbered, AreRenumbered}
 
@@ -129,7 +131,13 @@ module _ {m x : Module} (r : IsRenumbered m x) where
 
   formed_expr : (e : Expr) → IsFormedExpr m e → IsFormedExpr x (expr_as r.number e)
   formed_expr e f = record {
-    nets = λ n (i, at). let (k, is, same) = mapped r.number (reads e) (reads (expr_as r.number e)) i n (reads_as r.number e) at in subst (λ (v : ℕ). v < length x.nets) same (r.there k (f.nets k (i, is))).0;
+    nets = λ n (i, at). let (
+      k,
+      is,
+      same,
+    ) = mapped r.number (reads e) (reads (expr_as r.number e)) i n
+        (reads_as r.number e) at in subst (λ (v : ℕ). v < length x.nets) same
+        (r.there k (f.nets k (i, is))).0;
     mem = λ k e'. subst (λ (v : ℕ). k < v) (sym mem_count) (f.mem k (sym (mem_as r.number e) ∙ e'));
     numbers = λ i v at. f.numbers i v (ap (λ (l : List ℕ). slice_get l i) (sym (numbers_as r.number e)) ∙ at);
   }
@@ -150,7 +158,10 @@ module _ {m x : Module} (r : IsRenumbered m x) where
     ports = λ y e. let (z, at, s) = p.at i.«module» y e in length-map i.nets r.number ∙ f.ports z at ∙ sym (ap (λ (l : List Port). length l) s.ports ∙ length-map z.ports (port_as s.number));
   }
 
-  bit_inputs : (name : List ℕ) (ports : List Port) → ((k : ℕ) (p : Port) → slice_get ports k ≡ Some p → IsFormedPort m p) → list_any (is_bit_input x name) (map (port_as r.number) ports) ≡ list_any (is_bit_input m name) ports
+  bit_inputs : (name : List ℕ) (ports : List Port) → ((k : ℕ) (p : Port)
+      → slice_get ports k ≡ Some p → IsFormedPort m p)
+      → list_any (is_bit_input x name) (map (port_as r.number) ports) ≡ list_any
+      (is_bit_input m name) ports
   bit_inputs name [] f = refl
   bit_inputs name (p ∷ ports) f = let h = (f zero p refl).net in rw (same_width p.net h, same_name p.net h, bit_inputs name ports (λ k q e. f (suc k) q e)) refl
 

@@ -1,5 +1,7 @@
 -- A module with its nets under other numbers keeps the rules of drivers, updates and widths where it did.
-use Rattle.std.proofs.Common.{◌≡◌, ◌∙◌, ◌⊎◌, inl, inr, ℕ, zero, suc, ◌+◌, ◌*◌, ◌<◌, Bool, true, false, ◌||◌, ◌&&◌, ◌==◌, not, List, [], ◌∷◌, ◌++◌, length, refl, sym, ap, subst, arith, Option, Some, None, append_assoc, nat_eq}
+use Rattle.std.proofs.Common.{◌≡◌, ◌∙◌, ◌⊎◌, inl, inr, ℕ, zero, suc, ◌+◌, ◌*◌, ◌<◌, Bool, true}
+use Rattle.std.proofs.Common.{false, ◌||◌, ◌&&◌, ◌==◌, not, List, [], ◌∷◌, ◌++◌, length, refl, sym}
+use Rattle.std.proofs.Common.{ap, subst, arith, Option, Some, None, append_assoc, nat_eq}
 use Rattle.std.specs.Prelude.{map, slice_get}
 use Rattle.std.proofs.lemmas.Option.{slice_get_within, slice_get-map}
 use Rattle.std.proofs.lemmas.Bool.Decides.{Decides-eqb}
@@ -90,7 +92,9 @@ module _ {d e : Design} (q : Paired d.modules e.modules) where
       }
 
   -- the same with the module of the instance at hand
-  pub joins_at : {m x : Module} (r : IsRenumbered m x) (k j : ℕ) (c : Connection e x k j) (z : Module) → slice_get d.modules c.part.«module» ≡ Some z → (s : IsRenumbered z c.inner) → JoinsAt d r k j c z s
+  pub joins_at : {m x : Module} (r : IsRenumbered m x) (k j : ℕ) (c : Connection e x k j)
+      (z : Module) → slice_get d.modules c.part.«module» ≡ Some z → (s : IsRenumbered z c.inner)
+      → JoinsAt d r k j c z s
   joins_at {m = m} {x = x} r k j c z at s =
       let (i, of, same) = mapped (instance_as r.number) m.instances x.instances k c.part r.instances c.of in
       let (p, pt, port) = mapped (port_as s.number) z.ports c.inner.ports j c.port s.ports c.at in
@@ -110,7 +114,9 @@ module _ {d e : Design} (q : Paired d.modules e.modules) where
         go true e false f = let same : a ≡ b = (Decides-eqb a b).0 e in let yes : (r.number a == r.number b) ≡ true = (Decides-eqb (r.number a) (r.number b)).1 (ap r.number same) in cc
         go false e true f = let same : a ≡ b = same_number r a b h k ((Decides-eqb (r.number a) (r.number b)).0 f) in let yes : (a == b) ≡ true = (Decides-eqb a b).1 same in cc
 
-    input_as : (ports : List Port) (n : ℕ) → n < length m.nets → ((k : ℕ) (p : Port) → slice_get ports k ≡ Some p → IsFormedPort m p) → is_input (map (port_as r.number) ports) (r.number n) ≡ is_input ports n
+    input_as : (ports : List Port) (n : ℕ) → n < length m.nets
+        → ((k : ℕ) (p : Port) → slice_get ports k ≡ Some p → IsFormedPort m p)
+        → is_input (map (port_as r.number) ports) (r.number n) ≡ is_input ports n
     input_as [] n h f = refl
     input_as (p ∷ ports) n h f =
         let t = test_as p.net n (f zero p refl).net h in
@@ -172,7 +178,12 @@ module _ {d e : Design} (q : Paired d.modules e.modules) where
     typed_as w (Literal y) f h = h
     typed_as w (Not n) f h = same_width r n (f.nets n (0, refl)) ∙ h
     typed_as w (Binary s a b) f h =
-        subst (λ (v : ℕ). IsSignTyped s w v (width_of x (r.number b))) (sym (same_width r a (f.nets a (0, refl)))) (subst (λ (v : ℕ). IsSignTyped s w (width_of m a) v) (sym (same_width r b (f.nets b (1, refl)))) h)
+        subst (λ (v : ℕ). IsSignTyped s w v (width_of x (r.number b)))
+        (sym (same_width r a (f.nets a (
+          0,
+          refl,
+        )))) (subst (λ (v : ℕ). IsSignTyped s w (width_of m a) v)
+        (sym (same_width r b (f.nets b (1, refl)))) h)
     typed_as w (Concat a b) f h = let p = same_width r a (f.nets a (0, refl)) in let o = same_width r b (f.nets b (1, refl)) in (λ i. p i + o i) ∙ h
     typed_as w (Repeat k n) f h = ap (λ (v : ℕ). k * v) (same_width r n (f.nets n (0, refl))) ∙ h
     typed_as w (Part n hi lo) f h = (h.0, subst (λ (v : ℕ). hi < v) (sym (same_width r n (f.nets n (0, refl)))) h.1, h.2)

@@ -99,7 +99,12 @@ module _
           idle = (first.put.idle, rest.idle);
         }
 
-    same_going : (c c' : AllContents) (n : ℕ) (left : List (List ℕ)) (es : List Event) (vs ws : List Families) → SameOnParts d m c c' → EdgesFlat d m c vs → EdgesFlat d m c' ws → Driven o (x.ticks ++ x.scalars) left es (own_of vs) → Driven o (x.ticks ++ x.scalars) left es (own_of ws) → AllHaveIdleWords x.idle n o.inputs (own_of vs) → AllHaveIdleWords x.idle n o.inputs (own_of ws) → AllSame d m vs ws
+    same_going : (c c' : AllContents) (n : ℕ) (left : List (List ℕ)) (es : List Event)
+        (vs ws : List Families) → SameOnParts d m c c' → EdgesFlat d m c vs
+        → EdgesFlat d m c' ws → Driven o (x.ticks ++ x.scalars) left es (own_of vs)
+        → Driven o (x.ticks ++ x.scalars) left es (own_of ws)
+        → AllHaveIdleWords x.idle n o.inputs (own_of vs)
+        → AllHaveIdleWords x.idle n o.inputs (own_of ws) → AllSame d m vs ws
     same_going c c' n left [] [] [] same f f' p q i j = tt
     same_going c c' n left [] [] (w ∷ ws) same f f' p q i j = absurd q
     same_going c c' n left [] (v ∷ vs) ws same f f' p q i j = absurd p
@@ -115,8 +120,14 @@ module _
     only_reset : (c : AllContents) (r : Families) (run vs : List Families) → IsDrivenBy d m o c x (r ∷ run) → IsDrivenBy d m o c x vs → AllSame d m vs (r ∷ run)
     only_reset c r run [] a b = absurd b.driven
     only_reset c r run (v ∷ vs) a b =
-        let alike = same_edge c c (restart x) v r (λ p part _. refl) b.edges.0 a.edges.0 (put_reset m s x (v []) for.words b.driven.0 b.idle.0) (put_reset m s x (r []) for.words a.driven.0 a.idle.0) in
-        (alike, same_going (after_flat d m c v) (after_flat d m c r) (0 + 1) x.words x.events vs run (after_same d m c c v r (λ p part _. refl) alike) b.edges.1 a.edges.1 b.driven.1 a.driven.1 b.idle.1 a.idle.1)
+        let alike = same_edge c c (restart x) v r (λ p part _. refl) b.edges.0 a.edges.0
+        (put_reset m s x (v []) for.words b.driven.0 b.idle.0)
+        (put_reset m s x (r []) for.words a.driven.0 a.idle.0) in (
+          alike,
+          same_going (after_flat d m c v) (after_flat d m c r)
+              (0 + 1) x.words x.events vs run (after_same d m c c v r
+              (λ p part _. refl) alike) b.edges.1 a.edges.1 b.driven.1 a.driven.1 b.idle.1 a.idle.1,
+        )
 
     driven_run : (c : AllContents) → AllHold d m c → HasOneDrivenRun d m o c x
     driven_run c held =
@@ -130,5 +141,7 @@ module _
         } in
         record { run = r ∷ rest.run; is = is; only = λ vs h. only_reset c r rest.run vs is h }
 
-pub one_driven_run : (d : Design) → IsAccepted d → (number : ℕ) (m : Module) → slice_get d.modules number ≡ Some m → (s : Shape) → HasShape m s → (c : AllContents) → AllHold d m c → (x : Stimulus) → IsFor s x → HasOneDrivenRun d m (outer_of s m) c x
+pub one_driven_run : (d : Design) → IsAccepted d → (number : ℕ) (m : Module)
+    → slice_get d.modules number ≡ Some m → (s : Shape) → HasShape m s → (c : AllContents)
+    → AllHold d m c → (x : Stimulus) → IsFor s x → HasOneDrivenRun d m (outer_of s m) c x
 one_driven_run d accepted number m at s has c held x for = driven_run d accepted number m at s has x for c held

@@ -7,7 +7,10 @@ use Rattle.std.proofs.lemmas.Nat.{pow_pos}
 use Rattle.rtl_ir.specs.declared.design.Module.{Module}
 use Rattle.rtl_ir.specs.Value.{Family, bit}
 use Rattle.rtl_ir.specs.Run.{Channel, Outer, Event, Same, Offered, OfferedAll, AcceptedAll, HeldAll, AllZero, NoneOffered, NoneAccepted, Under, IsReset}
-use Rattle.rtl_ir.specs.Ports.{Shape, PortView, output_port, kernel_ports, scalar_ports, host_input_ports, host_output_ports, shape_ports, net_at, nets_from, second_nets_from, channels_from, first_scalar, first_input, first_output, outer_of}
+use Rattle.rtl_ir.specs.Ports.{Shape, PortView, output_port, kernel_ports, scalar_ports}
+use Rattle.rtl_ir.specs.Ports.{host_input_ports, host_output_ports, shape_ports, net_at, nets_from}
+use Rattle.rtl_ir.specs.Ports.{second_nets_from, channels_from, first_scalar, first_input}
+use Rattle.rtl_ir.specs.Ports.{first_output, outer_of}
 use Rattle.rtl_runs.specs.Stimuli.{Stimulus, IsFor}
 use Rattle.rtl_runs.specs.DrivenRun.{HasIdleWords}
 use Rattle.rtl_runs.proofs.PortValues.{FitPorts, Has, renumbered}
@@ -109,7 +112,9 @@ word_fits true (w ∷ ws) idle n h i = h 0 0 (omega arith)
 word_fits true [] idle n h i = i
 word_fits false ws idle n h i = i
 
-kernels_fit : (e : Event) (b : ℕ) (ks : List (List ℕ)) (ts : List ℕ) (rest : List PortView) (more : List ℕ) → AllZip (λ k n. n < 2 ^ 48) ks ts → FitPorts rest more → FitPorts (kernel_ports ks ++ rest) (kernel_values e b ks ts ++ more)
+kernels_fit : (e : Event) (b : ℕ) (ks : List (List ℕ)) (ts : List ℕ) (rest : List PortView)
+    (more : List ℕ) → AllZip (λ k n. n < 2 ^ 48) ks ts → FitPorts rest more
+    → FitPorts (kernel_ports ks ++ rest) (kernel_values e b ks ts ++ more)
 kernels_fit e b [] [] rest more h r = r
 kernels_fit e b [] (t ∷ ts) rest more h r = absurd h
 kernels_fit e b (k ∷ ks) [] rest more h r = absurd h
@@ -131,7 +136,10 @@ first_idle b x xs idle h =
     let e : b + 0 ≡ b = omega arith in
     subst (λ (j : ℕ). idle j < 2 ^ x.1) e (h 0 x refl)
 
-hosts_fit : (e : Event) (idle : ℕ → ℕ) (b : ℕ) (xs : List Host) (left : List (List ℕ)) (rest : List PortView) (more : List ℕ) → LeftFit xs left → IdleFit b xs idle → FitPorts rest more → FitPorts (host_input_ports xs ++ rest) (input_values e idle b xs left ++ more)
+hosts_fit : (e : Event) (idle : ℕ
+    → ℕ) (b : ℕ) (xs : List Host) (left : List (List ℕ)) (rest : List PortView) (more : List ℕ)
+    → LeftFit xs left → IdleFit b xs idle → FitPorts rest more
+    → FitPorts (host_input_ports xs ++ rest) (input_values e idle b xs left ++ more)
 hosts_fit e idle b [] [] rest more h i r = r
 hosts_fit e idle b [] (ws ∷ left) rest more h i r = absurd h
 hosts_fit e idle b (x ∷ xs) [] rest more h i r = absurd h
@@ -158,7 +166,11 @@ module _ (m : Module) (v : Family) where
   outwards e = absurd (true≢false e)
 
   -- ---- from the values to the edge
-  kernels_put : (e : Event) (b k j n : ℕ) (ks : List (List ℕ)) (ts : List ℕ) (rest : List PortView) (more : List ℕ) → j ≡ k + 1 → n ≡ k + 2 * length ks → AllZip (λ x t. t < 2 ^ 48) ks ts → Has m v k (kernel_ports ks ++ rest) (kernel_values e b ks ts ++ more) → HeldAll e b (second_nets_from m k ks) v × Same (second_nets_from m j ks) ts v × Has m v n rest more
+  kernels_put : (e : Event) (b k j n : ℕ) (ks : List (List ℕ)) (ts : List ℕ)
+      (rest : List PortView) (more : List ℕ) → j ≡ k + 1 → n ≡ k + 2 * length ks
+      → AllZip (λ x t. t < 2 ^ 48) ks ts → Has m v k (kernel_ports ks
+      ++ rest) (kernel_values e b ks ts ++ more) → HeldAll e b (second_nets_from m k ks) v
+      × Same (second_nets_from m j ks) ts v × Has m v n rest more
   kernels_put e b k j n [] [] rest more f g fit h = (tt, tt, renumbered m v k n rest more (omega (arith, g)) h)
   kernels_put e b k j n [] (t ∷ ts) rest more f g fit h = absurd fit
   kernels_put e b k j n (x ∷ ks) [] rest more f g fit h = absurd fit
@@ -166,7 +178,10 @@ module _ (m : Module) (v : Family) where
       let r = kernels_put e (b + 1) (k + 2) (j + 2) n ks ts rest more (omega (arith, f)) (omega (arith, g)) fit.1 (renumbered m v (k + 1 + 1) (k + 2) _ _ (omega arith) h.1.1) in
       ((h.0 refl, r.0), (ap (λ i. v (net_at m i)) f ∙ h.1.0 refl, r.1), r.2)
 
-  scalars_put : (k n : ℕ) (ss : List Scalar) (xs : List ℕ) (rest : List PortView) (more : List ℕ) → n ≡ k + length ss → AllZip (λ a t. t < 2 ^ a.2) ss xs → Has m v k (scalar_ports ss ++ rest) (xs ++ more) → Same (nets_from m k ss) xs v × Has m v n rest more
+  scalars_put : (k n : ℕ) (ss : List Scalar) (xs : List ℕ) (rest : List PortView)
+      (more : List ℕ) → n ≡ k + length ss → AllZip (λ a t. t < 2 ^ a.2) ss xs
+      → Has m v k (scalar_ports ss ++ rest) (xs ++ more) → Same (nets_from m k ss) xs v
+      × Has m v n rest more
   scalars_put k n [] [] rest more g fit h = (tt, renumbered m v k n rest more (omega (arith, g)) h)
   scalars_put k n [] (x ∷ xs) rest more g fit h = absurd fit
   scalars_put k n (s ∷ ss) [] rest more g fit h = absurd fit
@@ -179,7 +194,12 @@ module _ (m : Module) (v : Family) where
   one_put true [] idle ch word valid = (valid, λ z. word)
   one_put false ws idle ch word valid = (valid, λ z. word)
 
-  hosts_put : (e : Event) (idle : ℕ → ℕ) (b k n : ℕ) (xs : List Host) (left : List (List ℕ)) (rest : List PortView) (more : List ℕ) → n ≡ k + 3 * length xs → LeftFit xs left → Has m v k (host_input_ports xs ++ rest) (input_values e idle b xs left ++ more) → OfferedAll e b (channels_from m k xs) left v × HasIdleWords idle b (channels_from m k xs) v × Has m v n rest more
+  hosts_put : (e : Event) (idle : ℕ
+      → ℕ) (b k n : ℕ) (xs : List Host) (left : List (List ℕ)) (rest : List PortView)
+      (more : List ℕ) → n ≡ k + 3 * length xs → LeftFit xs left
+      → Has m v k (host_input_ports xs ++ rest) (input_values e idle b xs left ++ more)
+      → OfferedAll e b (channels_from m k xs) left v
+      × HasIdleWords idle b (channels_from m k xs) v × Has m v n rest more
   hosts_put e idle b k n [] [] rest more g fit h = (tt, tt, renumbered m v k n rest more (omega (arith, g)) h)
   hosts_put e idle b k n [] (ws ∷ left) rest more g fit h = absurd fit
   hosts_put e idle b k n (x ∷ xs) [] rest more g fit h = absurd fit
@@ -188,7 +208,9 @@ module _ (m : Module) (v : Family) where
       let o = one_put (e.offers b) ws (idle b) (record { word = net_at m k; valid = net_at m (k + 1); ready = net_at m (k + 2) }) (h.0 refl) (h.1.0 refl) in
       ((o.0, r.0), (o.1, r.1), r.2)
 
-  outputs_put : (e : Event) (b k n : ℕ) (ys : List Host) (rest : List PortView) (more : List ℕ) → n ≡ k + 3 * length ys → Has m v k (host_output_ports ys ++ rest) (output_values e b ys ++ more) → AcceptedAll e b (channels_from m k ys) v
+  outputs_put : (e : Event) (b k n : ℕ) (ys : List Host) (rest : List PortView) (more : List ℕ)
+      → n ≡ k + 3 * length ys → Has m v k (host_output_ports ys ++ rest) (output_values e b ys
+      ++ more) → AcceptedAll e b (channels_from m k ys) v
   outputs_put e b k n [] rest more g h = tt
   outputs_put e b k n (y ∷ ys) rest more g h =
       let third : k + 2 ≡ k + 1 + 1 = omega arith in
@@ -218,7 +240,10 @@ module _ (m : Module) (v : Family) where
       }
 
   -- ---- from the edge to the values
-  kernels_of : (e : Event) (b k j n : ℕ) (ks : List (List ℕ)) (ts : List ℕ) (rest : List PortView) (more : List ℕ) → j ≡ k + 1 → n ≡ k + 2 * length ks → HeldAll e b (second_nets_from m k ks) v → Same (second_nets_from m j ks) ts v → Has m v n rest more → Has m v k (kernel_ports ks ++ rest) (kernel_values e b ks ts ++ more)
+  kernels_of : (e : Event) (b k j n : ℕ) (ks : List (List ℕ)) (ts : List ℕ)
+      (rest : List PortView) (more : List ℕ) → j ≡ k + 1 → n ≡ k + 2 * length ks
+      → HeldAll e b (second_nets_from m k ks) v → Same (second_nets_from m j ks) ts v
+      → Has m v n rest more → Has m v k (kernel_ports ks ++ rest) (kernel_values e b ks ts ++ more)
   kernels_of e b k j n [] ts rest more f g h t r = renumbered m v n k rest more (omega (arith, g)) r
   kernels_of e b k j n (x ∷ ks) [] rest more f g h t r = absurd t
   kernels_of e b k j n (x ∷ ks) (y ∷ ts) rest more f g h t r = (
@@ -229,7 +254,9 @@ module _ (m : Module) (v : Family) where
     ),
   )
 
-  scalars_of : (k n : ℕ) (ss : List Scalar) (xs : List ℕ) (rest : List PortView) (more : List ℕ) → n ≡ k + length ss → Same (nets_from m k ss) xs v → Has m v n rest more → Has m v k (scalar_ports ss ++ rest) (xs ++ more)
+  scalars_of : (k n : ℕ) (ss : List Scalar) (xs : List ℕ) (rest : List PortView) (more : List ℕ)
+      → n ≡ k + length ss → Same (nets_from m k ss) xs v → Has m v n rest more
+      → Has m v k (scalar_ports ss ++ rest) (xs ++ more)
   scalars_of k n [] [] rest more g h r = renumbered m v n k rest more (omega (arith, g)) r
   scalars_of k n [] (x ∷ xs) rest more g h r = absurd h
   scalars_of k n (s ∷ ss) [] rest more g h r = absurd h
@@ -240,7 +267,11 @@ module _ (m : Module) (v : Family) where
   one_of true [] idle ch o i = (i o, o)
   one_of false ws idle ch o i = (i o, o)
 
-  hosts_of : (e : Event) (idle : ℕ → ℕ) (b k n : ℕ) (xs : List Host) (left : List (List ℕ)) (rest : List PortView) (more : List ℕ) → n ≡ k + 3 * length xs → OfferedAll e b (channels_from m k xs) left v → HasIdleWords idle b (channels_from m k xs) v → Has m v n rest more → Has m v k (host_input_ports xs ++ rest) (input_values e idle b xs left ++ more)
+  hosts_of : (e : Event) (idle : ℕ
+      → ℕ) (b k n : ℕ) (xs : List Host) (left : List (List ℕ)) (rest : List PortView)
+      (more : List ℕ) → n ≡ k + 3 * length xs → OfferedAll e b (channels_from m k xs) left v
+      → HasIdleWords idle b (channels_from m k xs) v → Has m v n rest more
+      → Has m v k (host_input_ports xs ++ rest) (input_values e idle b xs left ++ more)
   hosts_of e idle b k n [] left rest more g h i r = renumbered m v n k rest more (omega (arith, g)) r
   hosts_of e idle b k n (x ∷ xs) [] rest more g h i r = absurd h
   hosts_of e idle b k n (x ∷ xs) (ws ∷ left) rest more g h i r =
@@ -255,7 +286,9 @@ module _ (m : Module) (v : Family) where
         ),
       )
 
-  outputs_of : (e : Event) (b k n : ℕ) (ys : List Host) (rest : List PortView) (more : List ℕ) → n ≡ k + 3 * length ys → AcceptedAll e b (channels_from m k ys) v → Has m v n rest more → Has m v k (host_output_ports ys ++ rest) (output_values e b ys ++ more)
+  outputs_of : (e : Event) (b k n : ℕ) (ys : List Host) (rest : List PortView) (more : List ℕ)
+      → n ≡ k + 3 * length ys → AcceptedAll e b (channels_from m k ys) v → Has m v n rest more
+      → Has m v k (host_output_ports ys ++ rest) (output_values e b ys ++ more)
   outputs_of e b k n [] rest more g h r = renumbered m v n k rest more (omega (arith, g)) r
   outputs_of e b k n (y ∷ ys) rest more g h r =
       let third : k + 1 + 1 ≡ k + 2 = omega arith in (
@@ -339,7 +372,9 @@ reset_from o x v p = record {
   none_accepted = accepted_none 0 o.outputs v p.accepted;
 }
 
-pub put_reset : (m : Module) (s : Shape) (x : Stimulus) (v : Family) → LeftFit s.inputs x.words → IsReset (outer_of s m) (x.ticks ++ x.scalars) v → HasIdleWords (x.idle 0) 0 (outer_of s m).inputs v → IsPut (outer_of s m) x (restart x) v
+pub put_reset : (m : Module) (s : Shape) (x : Stimulus) (v : Family) → LeftFit s.inputs x.words
+    → IsReset (outer_of s m) (x.ticks ++ x.scalars) v
+    → HasIdleWords (x.idle 0) 0 (outer_of s m).inputs v → IsPut (outer_of s m) x (restart x) v
 put_reset m s x v fit r idle = record {
   clock = r.clock;
   reset = r.reset;
@@ -353,5 +388,7 @@ put_reset m s x v fit r idle = record {
 pub under_from : (o : Outer) (x : Stimulus) (edge : ℕ) (left : List (List ℕ)) (e : Event) (v : Family) → IsPut o x (going x edge left e) v → Under o (x.ticks ++ x.scalars) left e v
 under_from o x edge left e v p = record { clock = p.clock; reset = p.reset; steadily = p.steadily; held = p.held; offered = p.offered; accepted = p.accepted }
 
-pub put_under : (o : Outer) (x : Stimulus) (edge : ℕ) (left : List (List ℕ)) (e : Event) (v : Family) → Under o (x.ticks ++ x.scalars) left e v → HasIdleWords (x.idle edge) 0 o.inputs v → IsPut o x (going x edge left e) v
+pub put_under : (o : Outer) (x : Stimulus) (edge : ℕ) (left : List (List ℕ)) (e : Event)
+    (v : Family) → Under o (x.ticks ++ x.scalars) left e v
+    → HasIdleWords (x.idle edge) 0 o.inputs v → IsPut o x (going x edge left e) v
 put_under o x edge left e v u idle = record { clock = u.clock; reset = u.reset; steadily = u.steadily; held = u.held; offered = u.offered; accepted = u.accepted; idle = idle }

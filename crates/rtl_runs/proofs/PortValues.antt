@@ -81,7 +81,9 @@ module _ (m : Module) (v : Family) where
   pub renumbered : (j k : ℕ) (l : List PortView) (xs : List ℕ) → j ≡ k → Has j l xs → Has k l xs
   renumbered j k l xs e h = subst (λ (i : ℕ). Has i l xs) e h
 
-  has_all : (k : ℕ) (l : List PortView) (xs : List ℕ) → FitPorts l xs → ((i : ℕ) (p : PortView) (x : ℕ) → slice_get l i ≡ Some p → slice_get xs i ≡ Some x → p.output ≡ false → v (net_at m (k + i)) ≡ x) → Has k l xs
+  has_all : (k : ℕ) (l : List PortView) (xs : List ℕ) → FitPorts l xs
+      → ((i : ℕ) (p : PortView) (x : ℕ) → slice_get l i ≡ Some p → slice_get xs i ≡ Some x
+      → p.output ≡ false → v (net_at m (k + i)) ≡ x) → Has k l xs
   has_all k [] xs fit h = tt
   has_all k (p ∷ ps) [] fit h = absurd fit
   has_all k (p ∷ ps) (x ∷ xs) fit h = (
@@ -107,7 +109,9 @@ module _ (m : Module) (v : Family) where
   placed_in (p ∷ ps) (suc i) view e = placed_in ps i view e
 
   -- where the inputs have the values that a list gives them, they have these as ports of the shape
-  pub has_given : (s : Shape) (xs : List ℕ) → HasShape m s → AreApart m.ports → FitPorts (shape_ports s) xs → ((n : ℕ) → is_input m.ports n ≡ true → v n ≡ given m.ports xs n) → Has 0 (shape_ports s) xs
+  pub has_given : (s : Shape) (xs : List ℕ) → HasShape m s → AreApart m.ports
+      → FitPorts (shape_ports s) xs → ((n : ℕ) → is_input m.ports n ≡ true
+      → v n ≡ given m.ports xs n) → Has 0 (shape_ports s) xs
   has_given s xs has apart fit h =
       has_all 0 (shape_ports s) xs fit (λ i p x at of inward. (
       let q = placed_in m.ports i p (ap (λ (l : List PortView). slice_get l i) has ∙ at) in
@@ -119,7 +123,9 @@ module _ (m : Module) (v : Family) where
   pub values_are : (s : Shape) (xs : List ℕ) → HasShape m s → AreApart m.ports → Has 0 (shape_ports s) xs → (n : ℕ) → is_input m.ports n ≡ true → v n ≡ given m.ports xs n
   values_are s xs has apart h n input =
       let i : InputAt m.ports n = input_at m.ports n input in
-      let at : slice_get (shape_ports s) i.place ≡ Some (port_view m i.port) = ap (λ (l : List PortView). slice_get l i.place) (sym has) ∙ slice_get-map (port_view m) m.ports i.place ∙ ap (option_map (port_view m)) i.at in
+      let at : slice_get (shape_ports s) i.place ≡ Some (port_view m i.port) = ap
+      (λ (l : List PortView). slice_get l i.place) (sym has) ∙ slice_get-map
+      (port_view m) m.ports i.place ∙ ap (option_map (port_view m)) i.at in
       let r = at_place 0 i.place (shape_ports s) xs (port_view m i.port) h at i.input in
       let net : net_at m (0 + i.place) ≡ n = (let e : 0 + i.place ≡ i.place = omega arith in ap (net_at m) e ∙ ap port_net i.at ∙ i.net) in
       ap v (sym net) ∙ r.2 ∙ sym (given_at m.ports xs i.place i.port r.0 apart i.at r.1) ∙ ap (given m.ports xs) i.net

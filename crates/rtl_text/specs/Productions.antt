@@ -4,7 +4,11 @@ use Rattle.rtl_ir.specs.declared.design.Sign.{Sign}
 use Rattle.rtl_ir.specs.Spelling.{sign_bytes}
 use Rattle.rtl_ir.specs.Names.{is_reserved}
 use Rattle.rtl_text.specs.Tokens.{Token}
-use Rattle.rtl_text.specs.Tree.{Name, PortTree, InputPort, OutputPort, ExprTree, PlainTree, LiteralTree, NotTree, BinaryTree, ConcatTree, RepeatTree, PartTree, ChooseTree, CellTree, UpdateTree, RegisterUpdate, CellUpdate, Connection, ItemTree, WireItem, RegisterItem, MemoryItem, AssignItem, AlwaysItem, InstanceItem, ModuleTree}
+use Rattle.rtl_text.specs.Tree.{Name, PortTree, InputPort, OutputPort, ExprTree, PlainTree}
+use Rattle.rtl_text.specs.Tree.{LiteralTree, NotTree, BinaryTree, ConcatTree, RepeatTree, PartTree}
+use Rattle.rtl_text.specs.Tree.{ChooseTree, CellTree, UpdateTree, RegisterUpdate, CellUpdate}
+use Rattle.rtl_text.specs.Tree.{Connection, ItemTree, WireItem, RegisterItem, MemoryItem}
+use Rattle.rtl_text.specs.Tree.{AssignItem, AlwaysItem, InstanceItem, ModuleTree}
 
 pub data Part : Type 0 where
   Sign_ : List ℕ → Part  -- this sign
@@ -52,7 +56,8 @@ pub data Choice : Part → List Part → Type 0 where
   more_modules : {m : ModuleTree} {ms : List ModuleTree} → Choice (Modules (m ∷ ms)) (Module m ∷ Modules ms ∷ [])
   module' : {name : Name} {ports : List PortTree} {items : List ItemTree}
       → Choice (Module (record { name = name; ports = ports; items = items }))
-      (Reserved (codes "module") ∷ Id name ∷ Sign_ (codes "(") ∷ Ports ports ∷ Sign_ (codes ")") ∷ Sign_ (codes ";") ∷ Items items ∷ Reserved (codes "endmodule") ∷ [])
+      (Reserved (codes "module") ∷ Id name ∷ Sign_ (codes "(") ∷ Ports ports ∷ Sign_ (codes ")")
+      ∷ Sign_ (codes ";") ∷ Items items ∷ Reserved (codes "endmodule") ∷ [])
   -- ports
   ports : {p : PortTree} {ps : List PortTree} → Choice (Ports (p ∷ ps)) (Port p ∷ MorePorts ps ∷ [])
   no_more_ports : Choice (MorePorts []) []
@@ -67,16 +72,24 @@ pub data Choice : Part → List Part → Type 0 where
   register : {w : ℕ} {name : Name} → Choice (Item (RegisterItem w name)) (Reserved (codes "reg") ∷ Range w ∷ Id name ∷ Sign_ (codes ";") ∷ [])
   memory : {w n : ℕ} {name : Name} → IsDepth n
       → Choice (Item (MemoryItem w name n))
-      (Reserved (codes "reg") ∷ Range w ∷ Id name ∷ Sign_ (codes "[") ∷ Number 0 ∷ Sign_ (codes ":") ∷ Number (n - 1) ∷ Sign_ (codes "]") ∷ Sign_ (codes ";") ∷ [])
-  assign : {name : Name} {e : ExprTree} → Choice (Item (AssignItem name e)) (Reserved (codes "assign") ∷ Id name ∷ Sign_ (codes "=") ∷ Expr e ∷ Sign_ (codes ";") ∷ [])
+      (Reserved (codes "reg") ∷ Range w ∷ Id name ∷ Sign_ (codes "[") ∷ Number 0
+      ∷ Sign_ (codes ":") ∷ Number (n - 1) ∷ Sign_ (codes "]") ∷ Sign_ (codes ";") ∷ [])
+  assign : {name : Name} {e : ExprTree}
+      → Choice (Item (AssignItem name e)) (Reserved (codes "assign") ∷ Id name
+      ∷ Sign_ (codes "=") ∷ Expr e ∷ Sign_ (codes ";") ∷ [])
   always : {us : List UpdateTree}
       → Choice (Item (AlwaysItem us))
-      (Reserved (codes "always") ∷ Sign_ (codes "@") ∷ Sign_ (codes "(") ∷ Reserved (codes "posedge") ∷ Clock ∷ Sign_ (codes ")") ∷ Reserved (codes "begin") ∷ Updates us ∷ Reserved (codes "end") ∷ [])
-  instance : {of name : Name} {cs : List Connection} → Choice (Item (InstanceItem of name cs)) (Id of ∷ Id name ∷ Sign_ (codes "(") ∷ Connections cs ∷ Sign_ (codes ")") ∷ Sign_ (codes ";") ∷ [])
+      (Reserved (codes "always") ∷ Sign_ (codes "@") ∷ Sign_ (codes "(")
+      ∷ Reserved (codes "posedge") ∷ Clock ∷ Sign_ (codes ")") ∷ Reserved (codes "begin")
+      ∷ Updates us ∷ Reserved (codes "end") ∷ [])
+  instance : {of name : Name} {cs : List Connection}
+      → Choice (Item (InstanceItem of name cs)) (Id of ∷ Id name ∷ Sign_ (codes "(")
+      ∷ Connections cs ∷ Sign_ (codes ")") ∷ Sign_ (codes ";") ∷ [])
   connections : {c : Connection} {cs : List Connection} → Choice (Connections (c ∷ cs)) (Connected c ∷ MoreConnections cs ∷ [])
   no_more_connections : Choice (MoreConnections []) []
   more_connections : {c : Connection} {cs : List Connection} → Choice (MoreConnections (c ∷ cs)) (Sign_ (codes ",") ∷ Connected c ∷ MoreConnections cs ∷ [])
-  connected : {port net : Name} → Choice (Connected (record { port = port; net = net })) (Sign_ (codes ".") ∷ Id port ∷ Sign_ (codes "(") ∷ Id net ∷ Sign_ (codes ")") ∷ [])
+  connected : {port net : Name} → Choice (Connected (record { port = port; net = net }))
+      (Sign_ (codes ".") ∷ Id port ∷ Sign_ (codes "(") ∷ Id net ∷ Sign_ (codes ")") ∷ [])
   -- updates
   no_updates : Choice (Updates []) []
   more_updates : {u : UpdateTree} {us : List UpdateTree} → Choice (Updates (u ∷ us)) (Update u ∷ Updates us ∷ [])
@@ -85,14 +98,18 @@ pub data Choice : Part → List Part → Type 0 where
       (Reserved (codes "if") ∷ Sign_ (codes "(") ∷ Id enable ∷ Sign_ (codes ")") ∷ Id name ∷ Sign_ (codes "<=") ∷ Id value ∷ Sign_ (codes ";") ∷ [])
   update_cell : {enable name address value : Name}
       → Choice (Update (CellUpdate enable name address value))
-      (Reserved (codes "if") ∷ Sign_ (codes "(") ∷ Id enable ∷ Sign_ (codes ")") ∷ Id name ∷ Sign_ (codes "[") ∷ Id address ∷ Sign_ (codes "]") ∷ Sign_ (codes "<=") ∷ Id value ∷ Sign_ (codes ";") ∷ [])
+      (Reserved (codes "if") ∷ Sign_ (codes "(") ∷ Id enable ∷ Sign_ (codes ")") ∷ Id name
+      ∷ Sign_ (codes "[") ∷ Id address ∷ Sign_ (codes "]") ∷ Sign_ (codes "<=") ∷ Id value
+      ∷ Sign_ (codes ";") ∷ [])
   -- expressions
   plain : {a : Name} → Choice (Expr (PlainTree a)) (Id a ∷ [])
   literal : {w n : ℕ} → IsWidth w → n < 2 ^ w → Choice (Expr (LiteralTree w n)) (Literal w n ∷ [])
   not' : {a : Name} → Choice (Expr (NotTree a)) (Sign_ (codes "~") ∷ Id a ∷ [])
   binary : {s : Sign} {a b : Name} → Choice (Expr (BinaryTree s a b)) (Id a ∷ Sign_ (sign_bytes s) ∷ Id b ∷ [])
   concat : {a b : Name} → Choice (Expr (ConcatTree a b)) (Sign_ (codes "{") ∷ Id a ∷ Sign_ (codes ",") ∷ Id b ∷ Sign_ (codes "}") ∷ [])
-  repeat : {n : ℕ} {a : Name} → n ≤ 128 → Choice (Expr (RepeatTree n a)) (Sign_ (codes "{") ∷ Number n ∷ Sign_ (codes "{") ∷ Id a ∷ Sign_ (codes "}") ∷ Sign_ (codes "}") ∷ [])
-  part : {a : Name} {hi lo : ℕ} → hi ≤ 128 → lo ≤ 128 → Choice (Expr (PartTree a hi lo)) (Id a ∷ Sign_ (codes "[") ∷ Number hi ∷ Sign_ (codes ":") ∷ Number lo ∷ Sign_ (codes "]") ∷ [])
+  repeat : {n : ℕ} {a : Name} → n ≤ 128 → Choice (Expr (RepeatTree n a)) (Sign_ (codes "{")
+      ∷ Number n ∷ Sign_ (codes "{") ∷ Id a ∷ Sign_ (codes "}") ∷ Sign_ (codes "}") ∷ [])
+  part : {a : Name} {hi lo : ℕ} → hi ≤ 128 → lo ≤ 128 → Choice (Expr (PartTree a hi lo)) (Id a
+      ∷ Sign_ (codes "[") ∷ Number hi ∷ Sign_ (codes ":") ∷ Number lo ∷ Sign_ (codes "]") ∷ [])
   choose : {c a b : Name} → Choice (Expr (ChooseTree c a b)) (Id c ∷ Sign_ (codes "?") ∷ Id a ∷ Sign_ (codes ":") ∷ Id b ∷ [])
   cell : {m a : Name} → Choice (Expr (CellTree m a)) (Id m ∷ Sign_ (codes "[") ∷ Id a ∷ Sign_ (codes "]") ∷ [])

@@ -14,7 +14,11 @@ use Rattle.rtl_ir.specs.declared.design.Instance.{Instance}
 use Rattle.rtl_ir.specs.declared.design.Module.{Module}
 use Rattle.rtl_ir.specs.declared.design.Design.{Design}
 use Rattle.rtl_text.specs.Tokens.{Token, IsTokens}
-use Rattle.rtl_text.specs.Tree.{Name, PortTree, InputPort, OutputPort, ExprTree, PlainTree, LiteralTree, NotTree, BinaryTree, ConcatTree, RepeatTree, PartTree, ChooseTree, CellTree, UpdateTree, RegisterUpdate, CellUpdate, Connection, ItemTree, WireItem, RegisterItem, MemoryItem, AssignItem, AlwaysItem, InstanceItem, ModuleTree}
+use Rattle.rtl_text.specs.Tree.{Name, PortTree, InputPort, OutputPort, ExprTree, PlainTree}
+use Rattle.rtl_text.specs.Tree.{LiteralTree, NotTree, BinaryTree, ConcatTree, RepeatTree, PartTree}
+use Rattle.rtl_text.specs.Tree.{ChooseTree, CellTree, UpdateTree, RegisterUpdate, CellUpdate}
+use Rattle.rtl_text.specs.Tree.{Connection, ItemTree, WireItem, RegisterItem, MemoryItem}
+use Rattle.rtl_text.specs.Tree.{AssignItem, AlwaysItem, InstanceItem, ModuleTree}
 use Rattle.rtl_text.specs.Productions.{Is, Choice, File}
 
 -- two lists of one length whose elements fit together, one by one
@@ -90,7 +94,8 @@ is_port (p ∷ ps) n = p.net == n || is_port ps n
 -- the nets of a module from number k on that are wires and no port's, in the order of their numbers
 abbrev pub wires_from : List Port → ℕ → List Net → List Declared
 wires_from ports k [] = []
-wires_from ports k (n ∷ ns) = if n.reg || is_port ports k then wires_from ports (k + 1) ns else record { name = n.name; width = n.width } ∷ wires_from ports (k + 1) ns
+wires_from ports k (n ∷ ns) = if n.reg || is_port ports k then wires_from ports
+    (k + 1) ns else record { name = n.name; width = n.width } ∷ wires_from ports (k + 1) ns
 
 -- the registers among these nets, in order
 abbrev pub registers_of : List Net → List Declared

@@ -75,7 +75,14 @@ module _ (p : Problem) (old new : Flow) (path : List ℕ) (a : ℕ) (h : IsPath 
       subst P half ((free w.0 w.1).0 (omega (arith, w.2))))
       (s.used j carries)
 
-pub way_on : (p : Problem) (x y : Numbers) (net new : Network) (path : List ℕ) (a : ℕ) → IsOnWay p x net → Solves y p.arcs.list → IsTight p y (flow_of net.flow) → ((v : ℕ) → pos 0 ≤ℤ y v) → ((v : ℕ) → y v ≤ℤ (x v +ℤ pos (2 ^ 61))) → ((v : ℕ) → excess p (flow_of net.flow) v <ℤ pos 0 → y v ≡ x v) → IsPath p (flow_of net.flow) path a → ((k : ℕ) → k < length path → IsFree p y (flow_of net.flow) (get_or path k 0)) → new.problem ≡ p → new.sends ≡ net.sends + 1 → IsSent p (flow_of net.flow) (flow_of new.flow) path a → pos new.sends ≤ℤ weights p → IsOnWay p y new
+pub way_on : (p : Problem) (x y : Numbers) (net new : Network) (path : List ℕ) (a : ℕ)
+    → IsOnWay p x net → Solves y p.arcs.list → IsTight p y (flow_of net.flow)
+    → ((v : ℕ) → pos 0 ≤ℤ y v) → ((v : ℕ) → y v ≤ℤ (x v +ℤ pos (2 ^ 61)))
+    → ((v : ℕ) → excess p (flow_of net.flow) v <ℤ pos 0 → y v ≡ x v)
+    → IsPath p (flow_of net.flow) path a → ((k : ℕ) → k < length path
+    → IsFree p y (flow_of net.flow) (get_or path k 0)) → new.problem ≡ p
+    → new.sends ≡ net.sends + 1 → IsSent p (flow_of net.flow) (flow_of new.flow) path a
+    → pos new.sends ≤ℤ weights p → IsOnWay p y new
 way_on p x y net new path a way legal tight low high wants h free problem sends s counted = record {
   problem = problem;
   legal = legal;

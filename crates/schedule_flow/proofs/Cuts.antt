@@ -52,7 +52,12 @@ total-over (suc n) i g l h =
     (cases_eq i n)
 
 -- among closed nodes of which none is in want, none has a surplus
-pub no_surplus : (p : Problem) (f : Flow) (place : List ℕ) → EndsInRange p.arcs.nodes p.arcs.list → TermsInRange p.arcs.nodes p.terms → ((t : ℕ) → t < length p.terms → HasRoute p.arcs.list (term_at p.terms t)) → IsClosed p f place → ((v : ℕ) → v < p.arcs.nodes → 0 < get_or place v 0 → pos 0 ≤ℤ excess p f v) → (s : ℕ) → s < p.arcs.nodes → 0 < get_or place s 0 → pos 0 <ℤ excess p f s → ⊥
+pub no_surplus : (p : Problem) (f : Flow) (place : List ℕ)
+    → EndsInRange p.arcs.nodes p.arcs.list → TermsInRange p.arcs.nodes p.terms
+    → ((t : ℕ) → t < length p.terms → HasRoute p.arcs.list (term_at p.terms t))
+    → IsClosed p f place → ((v : ℕ) → v < p.arcs.nodes → 0 < get_or place v 0
+    → pos 0 ≤ℤ excess p f v) → (s : ℕ) → s < p.arcs.nodes → 0 < get_or place s 0
+    → pos 0 <ℤ excess p f s → ⊥
 no_surplus p f place arcs terms routes c calm s in_range up more =
     let x = mark place in
     let still : total (length p.arcs.list) (pull_of p f x) ≡ pos 0 = total-none (length p.arcs.list) (pull_of p f x) (λ j l.
@@ -60,7 +65,12 @@ no_surplus p f place arcs terms routes c calm s in_range up more =
     (λ (q : f j ≡ 0). ap (λ k. pos k *ℤ (x (end_of p.arcs.list j) -ℤ x (start_of p.arcs.list j))) q ∙ omega (arith, ints))
     (λ (d : f j ≢ 0).
     let carries : 0 < f j = omega (arith, d) in
-    let e : (x (end_of p.arcs.list j) -ℤ x (start_of p.arcs.list j)) ≡ pos 0 = omega (arith, ints, same_mark (get_or place (start_of p.arcs.list j) 0) (get_or place (end_of p.arcs.list j) 0) (c.forwards j l) (c.backwards j l carries)) in
+    let e : (x (end_of p.arcs.list j) -ℤ x (start_of p.arcs.list j)) ≡ pos 0 = omega (
+      arith,
+      ints,
+      same_mark (get_or place (start_of p.arcs.list j) 0)
+          (get_or place (end_of p.arcs.list j) 0) (c.forwards j l) (c.backwards j l carries),
+    ) in
     ap (λ z. pos (f j) *ℤ z) e ∙ omega (arith, ints))
     (cases_eq (f j) 0)) in
     let paid : total (length p.terms) (λ t. pos 0) ≤ℤ total (length p.terms) (term_cost p.terms x) = total-le (length p.terms) (λ t. pos 0) (term_cost p.terms x) (λ t l.
@@ -110,7 +120,9 @@ cancel zero a b h le e = absurd (omega arith)
 cancel (suc n) a b h le e = omega (arith, ints, le, pos-mul-le n a b le, e)
 
 -- legal times that cost what the flow is worth are tight
-pub equal_tight : (p : Problem) (f : Flow) (y : Numbers) → EndsInRange p.arcs.nodes p.arcs.list → TermsInRange p.arcs.nodes p.terms → IsFlow p f → Solves y p.arcs.list → cost_of p y ≡ value_of p f → IsTight p y f
+pub equal_tight : (p : Problem) (f : Flow) (y : Numbers) → EndsInRange p.arcs.nodes p.arcs.list
+    → TermsInRange p.arcs.nodes p.terms → IsFlow p f → Solves y p.arcs.list
+    → cost_of p y ≡ value_of p f → IsTight p y f
 equal_tight p f y arcs terms flow legal equal j l carries =
     let m = length p.arcs.list in
     let worth : ℕ → ℤ = λ k. pos (f k) *ℤ need_of p.arcs.list k in

@@ -1,5 +1,7 @@
 -- How a search begins, and what it shows where it ends.
-use Rattle.std.proofs.Common.{◌≡◌, ◌≢◌, inl, inr, ⊎_elim, ℕ, zero, suc, ◌+◌, ◌-◌, ◌*◌, ◌/◌, ◌^◌, ◌<◌, ◌≤◌, pos, ◌+ℤ◌, ◌≤ℤ◌, ◌<ℤ◌, List, [], ◌∷◌, length, get_or, sum_by, unsigned_abs, refl, sym, ap, ◌∙◌, subst, arith}
+use Rattle.std.proofs.Common.{◌≡◌, ◌≢◌, inl, inr, ⊎_elim, ℕ, zero, suc, ◌+◌, ◌-◌, ◌*◌, ◌/◌, ◌^◌}
+use Rattle.std.proofs.Common.{◌<◌, ◌≤◌, pos, ◌+ℤ◌, ◌≤ℤ◌, ◌<ℤ◌, List, [], ◌∷◌, length, get_or}
+use Rattle.std.proofs.Common.{sum_by, unsigned_abs, refl, sym, ap, ◌∙◌, subst, arith}
 use Rattle.std.proofs.lemmas.Int.{ints}
 use Rattle.std.proofs.lemmas.Bool.{cases_eq, cases_lt}
 use Rattle.std.proofs.lemmas.List.{get_or_past}
@@ -23,7 +25,12 @@ sum_zero (y ∷ ys) h =
     let e : y ≡ 0 = h zero in
     omega (arith, e, sum_by-cons (λ k. 1 - k) y ys, sum_zero ys (λ v. h (suc v)))
 
-pub begin_search : (p : Problem) (x : Numbers) (f : Flow) (rest : Numbers) (place via d : List ℕ) (queue : List Entry) (source : ℕ) → length place ≡ p.arcs.nodes → length via ≡ p.arcs.nodes → length d ≡ p.arcs.nodes → ((v : ℕ) → get_or place v 0 ≡ 0) → get_or d source 0 ≡ 0 → ((v : ℕ) → v < p.arcs.nodes → v ≢ source → get_or d v 0 ≡ far) → ((v : ℕ) → get_or d v 0 ≤ far) → IsQueued [] queue 0 source → source < p.arcs.nodes → pos 0 <ℤ rest source → ((v : ℕ) → pos 0 ≤ℤ x v) → IsSearch p x f rest place via d queue 0
+pub begin_search : (p : Problem) (x : Numbers) (f : Flow) (rest : Numbers)
+    (place via d : List ℕ) (queue : List Entry) (source : ℕ) → length place ≡ p.arcs.nodes
+    → length via ≡ p.arcs.nodes → length d ≡ p.arcs.nodes → ((v : ℕ) → get_or place v 0 ≡ 0)
+    → get_or d source 0 ≡ 0 → ((v : ℕ) → v < p.arcs.nodes → v ≢ source → get_or d v 0 ≡ far)
+    → ((v : ℕ) → get_or d v 0 ≤ far) → IsQueued [] queue 0 source → source < p.arcs.nodes
+    → pos 0 <ℤ rest source → ((v : ℕ) → pos 0 ≤ℤ x v) → IsSearch p x f rest place via d queue 0
 begin_search p x f rest place via d queue source places vias distances none at others within queued in_range surplus low =
     let only : (v : ℕ) → v < p.arcs.nodes → get_or d v 0 < far → v ≡ source = λ (v : ℕ) (l : v < p.arcs.nodes) (m : get_or d v 0 < far). ⊎_elim
     (λ (q : v ≡ source). q)
@@ -53,7 +60,9 @@ begin_search p x f rest place via d queue source places vias distances none at o
     }
 
 -- a size that no need is above, of which there is one for each node within the bound
-need_below : (arcs : List Arc) (nodes most k : ℕ) → ((j : ℕ) → j < length arcs → nodes * unsigned_abs (need_of arcs j) ≤ most) → k ≤ length arcs → (size : ℕ) × ((j : ℕ) → j < k → unsigned_abs (need_of arcs j) ≤ size) × (nodes * size ≤ most)
+need_below : (arcs : List Arc) (nodes most k : ℕ) → ((j : ℕ) → j < length arcs
+    → nodes * unsigned_abs (need_of arcs j) ≤ most) → k ≤ length arcs → (size : ℕ)
+    × ((j : ℕ) → j < k → unsigned_abs (need_of arcs j) ≤ size) × (nodes * size ≤ most)
 need_below arcs nodes most zero h l = (0, λ j m. absurd (omega (arith, m)), omega arith)
 need_below arcs nodes most (suc k) h l =
     let before = need_below arcs nodes most k h (omega (arith, l)) in
@@ -147,7 +156,12 @@ module _ (p : Problem) (x : Numbers) (f : Flow) (rest : Numbers) (place via d : 
         (λ v m up. let h = calm v up in omega (arith, ints, is v, h))
         source l (all_settled source l begun) (omega (arith, ints, is source, surplus))
 
-  module _ (t : ℕ) (y : Numbers) (legal : Solves x p.arcs.list) (tight : IsTight p x f) (relaxed : (r : ℕ) → r / 2 < length p.arcs.list → 0 < get_or place (tail_of p.arcs.list r) 0 → tail_of p.arcs.list r ≢ t → IsRelaxed p x f d r) (farthest : IsFarthest place d t) (last : (c u : ℕ) → Waits queue c u → get_or d t 0 ≤ c) (same : (v : ℕ) → v < p.arcs.nodes → y v ≡ risen d (get_or d t 0) x v) where
+  module _ (t : ℕ) (y : Numbers) (legal : Solves x p.arcs.list) (tight : IsTight p x f)
+      (relaxed : (r : ℕ) → r / 2 < length p.arcs.list
+      → 0 < get_or place (tail_of p.arcs.list r) 0 → tail_of p.arcs.list r ≢ t
+      → IsRelaxed p x f d r) (farthest : IsFarthest place d t) (last : (c u : ℕ)
+      → Waits queue c u → get_or d t 0 ≤ c) (same : (v : ℕ) → v < p.arcs.nodes
+      → y v ≡ risen d (get_or d t 0) x v) where
     -- nodes that stand nearer are settled
     near_settled : (v : ℕ) → v < p.arcs.nodes → get_or d v 0 < get_or d t 0 → 0 < get_or place v 0
     near_settled v l m = ⊎_elim
@@ -156,9 +170,15 @@ module _ (p : Problem) (x : Numbers) (f : Flow) (rest : Numbers) (place via d : 
         (cases_eq (get_or place v 0) 0)
 
     near_relaxed : (r : ℕ) → r / 2 < length p.arcs.list → get_or d (tail_of p.arcs.list r) 0 < get_or d t 0 → IsRelaxed p x f d r
-    near_relaxed r l m = relaxed r l (near_settled (tail_of p.arcs.list r) (tail_in p.arcs.nodes p.arcs.list problem.arcs.ends r l) m) (λ q. let e : get_or d (tail_of p.arcs.list r) 0 ≡ get_or d t 0 = ap (λ v. get_or d v 0) q in absurd (omega (arith, e, m)))
+    near_relaxed r l m = relaxed r l (near_settled (tail_of p.arcs.list r)
+        (tail_in p.arcs.nodes p.arcs.list problem.arcs.ends r l) m)
+        (λ q. let e : get_or d (tail_of p.arcs.list r) 0 ≡ get_or d t 0 = ap
+        (λ v. get_or d v 0) q in absurd (omega (arith, e, m)))
 
-    near_ahead : (j : ℕ) → j < length p.arcs.list → get_or d (start_of p.arcs.list j) 0 < get_or d t 0 → pos (get_or d (end_of p.arcs.list j) 0) ≤ℤ (pos (get_or d (start_of p.arcs.list j) 0) +ℤ slack_of p x j)
+    near_ahead : (j : ℕ) → j < length p.arcs.list
+        → get_or d (start_of p.arcs.list j) 0 < get_or d t 0
+        → pos (get_or d (end_of p.arcs.list j) 0) ≤ℤ (pos
+        (get_or d (start_of p.arcs.list j) 0) +ℤ slack_of p x j)
     near_ahead j l m =
         let r : ℕ = 2 * j in
         let half : r / 2 ≡ j = omega arith in

@@ -22,7 +22,9 @@ pub record IsFound (p : Problem) (x y : Numbers) (f : Flow) (rest : Numbers) (pl
   pub wants : (v : ℕ) → rest v <ℤ pos 0 → y v ≡ x v
   pub reached : IsReached p y f rest place via
 
-module _ (p : Problem) (x : Numbers) (f : Flow) (rest : Numbers) (place via d : List ℕ) (queue new : List Entry) (count reach node : ℕ) (s : IsSearch p x f rest place via d queue count) (t : IsTaken place queue new reach node) where
+module _ (p : Problem) (x : Numbers) (f : Flow) (rest : Numbers) (place via d : List ℕ)
+    (queue new : List Entry) (count reach node : ℕ)
+    (s : IsSearch p x f rest place via d queue count) (t : IsTaken place queue new reach node) where
   pub after : IsSearch p x f rest (set place node (count + 1)) via d new (count + 1)
   after = settle p x f rest place via d queue new count reach node s t
 
@@ -50,7 +52,11 @@ module _ (p : Problem) (x : Numbers) (f : Flow) (rest : Numbers) (place via d : 
       (λ (n : v ≢ node). calm v (was v up n))
       (cases_eq v node)
 
-  pub found : (y : Numbers) → IsProblem p → Solves x p.arcs.list → IsTight p x f → AllRelaxed p x f place d → ((v : ℕ) → 0 < get_or place v 0 → pos 0 ≤ℤ rest v) → ((v : ℕ) → v < p.arcs.nodes → y v ≡ risen d reach x v) → ((v : ℕ) → p.arcs.nodes ≤ v → y v ≡ x v) → ((v : ℕ) → pos 0 ≤ℤ x v) → x node ≤ℤ pos (2 ^ 60) → IsFound p x y f rest (set place node (count + 1)) via
+  pub found : (y : Numbers) → IsProblem p → Solves x p.arcs.list → IsTight p x f
+      → AllRelaxed p x f place d → ((v : ℕ) → 0 < get_or place v 0 → pos 0 ≤ℤ rest v)
+      → ((v : ℕ) → v < p.arcs.nodes → y v ≡ risen d reach x v)
+      → ((v : ℕ) → p.arcs.nodes ≤ v → y v ≡ x v) → ((v : ℕ) → pos 0 ≤ℤ x v)
+      → x node ≤ℤ pos (2 ^ 60) → IsFound p x y f rest (set place node (count + 1)) via
   found y problem legal tight relaxed calm same past low top =
       let place' = set place node (count + 1) in
       let last : (c u : ℕ) → Waits new c u → get_or d node 0 ≤ c = λ (c u : ℕ) (w : Waits new c u). omega (arith, at_reach, t.least c u w) in

@@ -22,7 +22,10 @@ last_same arcs v w b k l e q h =
     let Q : ℕ → Type 0 = λ m. IsLastBelow arcs w b m in
     subst Q q (subst P e h)
 
-pub linked_more : (arcs : List Arc) (n node : ℕ) (first before : List ℕ) → IsLinkedBelow arcs n first before → node ≡ tail_of arcs n → node < length first → n < length before → IsLinkedBelow arcs (n + 1) (set first node (n + 1)) (set before n (get_or first node 0))
+pub linked_more : (arcs : List Arc) (n node : ℕ) (first before : List ℕ)
+    → IsLinkedBelow arcs n first before → node ≡ tail_of arcs n → node < length first
+    → n < length before → IsLinkedBelow arcs (n + 1) (set first node (n + 1))
+    (set before n (get_or first node 0))
 linked_more arcs n node first before h at l m =
     let first' = set first node (n + 1) in
     let before' = set before n (get_or first node 0) in

@@ -19,7 +19,11 @@ pub record Goes (p : Problem) (x : Numbers) (f : Flow) (place via via' d d' : Li
   pub farthest : IsFarthest place d' (tail_of p.arcs.list r)
   pub kept : (rest : Numbers) (count : ℕ) → IsSearch p x f rest place via d queue count → IsSearch p x f rest place via' d' queue' count
 
-module _ (p : Problem) (x : Numbers) (f : Flow) (place via via' d d' : List ℕ) (queue queue' : List Entry) (r : ℕ) (arc : r / 2 < length p.arcs.list) (ends : EndsInRange p.arcs.nodes p.arcs.list) (legal : Solves x p.arcs.list) (tight : IsTight p x f) (len : length d ≡ p.arcs.nodes) (farthest : IsFarthest place d (tail_of p.arcs.list r)) where
+module _ (p : Problem) (x : Numbers) (f : Flow) (place via via' d d' : List ℕ)
+    (queue queue' : List Entry) (r : ℕ) (arc : r / 2 < length p.arcs.list)
+    (ends : EndsInRange p.arcs.nodes p.arcs.list) (legal : Solves x p.arcs.list)
+    (tight : IsTight p x f) (len : length d ≡ p.arcs.nodes)
+    (farthest : IsFarthest place d (tail_of p.arcs.list r)) where
   stayed : Stays p x f place via via' d d' queue queue' r → Goes p x f place via via' d d' queue queue' r
   stayed h =
       let P : List ℕ → List Entry → List ℕ → Type 0 = λ e q v. Goes p x f place via v d e queue q r in
@@ -72,7 +76,10 @@ pub record Going (p : Problem) (x : Numbers) (f : Flow) (place via via' d d' : L
   pub farthest : IsFarthest place d' node
   pub kept : (rest : Numbers) (count : ℕ) → IsSearch p x f rest place via d queue count → IsSearch p x f rest place via' d' queue' count
 
-pub going_first : (p : Problem) (x : Numbers) (f : Flow) (place via d : List ℕ) (queue : List Entry) (node next : ℕ) → IsLastBelow p.arcs.list node (2 * length p.arcs.list) next → IsFarthest place d node → Going p x f place via via d d queue queue node next
+pub going_first : (p : Problem) (x : Numbers) (f : Flow) (place via d : List ℕ)
+    (queue : List Entry) (node next : ℕ)
+    → IsLastBelow p.arcs.list node (2 * length p.arcs.list) next → IsFarthest place d node
+    → Going p x f place via via d d queue queue node next
 going_first p x f place via d queue node next chain farthest = record {
   gone = record {
     bound = 2 * length p.arcs.list;
@@ -86,14 +93,21 @@ going_first p x f place via d queue node next chain farthest = record {
   kept = λ rest count s. s;
 }
 
-module _ (p : Problem) (x : Numbers) (f : Flow) (place via via' d d' : List ℕ) (queue queue' : List Entry) (node next : ℕ) (g : Going p x f place via via' d d' queue queue' node next) (up : 0 < next) where
+module _ (p : Problem) (x : Numbers) (f : Flow) (place via via' d d' : List ℕ)
+    (queue queue' : List Entry) (node next : ℕ)
+    (g : Going p x f place via via' d d' queue queue' node next) (up : 0 < next) where
   pub here : tail_of p.arcs.list (next - 1) ≡ node
   here = g.gone.chain.here up
 
   pub going_arc : (next - 1) / 2 < length p.arcs.list
   going_arc = omega (arith, up, g.gone.chain.low, g.gone.below)
 
-  pub going_more : (via'' d'' : List ℕ) (queue'' : List Entry) (after : ℕ) → EndsInRange p.arcs.nodes p.arcs.list → Solves x p.arcs.list → IsTight p x f → length d' ≡ p.arcs.nodes → IsLastBelow p.arcs.list (tail_of p.arcs.list (next - 1)) (next - 1) after → Stays p x f place via' via'' d' d'' queue' queue'' (next - 1) ⊎ Nears p x f place via' via'' d' d'' queue' queue'' (next - 1) → Going p x f place via via'' d d'' queue queue'' node after
+  pub going_more : (via'' d'' : List ℕ) (queue'' : List Entry) (after : ℕ)
+      → EndsInRange p.arcs.nodes p.arcs.list → Solves x p.arcs.list → IsTight p x f
+      → length d' ≡ p.arcs.nodes → IsLastBelow p.arcs.list (tail_of p.arcs.list (next - 1))
+      (next - 1) after → Stays p x f place via' via'' d' d'' queue' queue'' (next - 1)
+      ⊎ Nears p x f place via' via'' d' d'' queue' queue'' (next - 1)
+      → Going p x f place via via'' d d'' queue queue'' node after
   going_more via'' d'' queue'' after ends legal tight len chain step =
       let r : ℕ = next - 1 in
       let P : ℕ → Type 0 = λ v. IsFarthest place d' v in
@@ -108,7 +122,9 @@ module _ (p : Problem) (x : Numbers) (f : Flow) (place via via' d d' : List ℕ)
           relaxed = λ i ge l e. ⊎_elim
               (λ (q : i ≡ r). let S : ℕ → Type 0 = λ j. IsRelaxed p x f d'' j in subst S (sym q) s.relaxed)
               (λ (n : i ≢ r).
-              let placed : 0 < get_or place (tail_of p.arcs.list i) 0 = (let z : get_or place (tail_of p.arcs.list i) 0 ≡ get_or place node 0 = ap (λ v. get_or place v 0) e in omega (arith, z, g.farthest.here)) in
+              let placed : 0 < get_or place (tail_of p.arcs.list i) 0 =
+              (let z : get_or place (tail_of p.arcs.list i) 0 ≡ get_or place node 0 = ap
+              (λ v. get_or place v 0) e in omega (arith, z, g.farthest.here)) in
               ⊎_elim
               (λ (low : i < g.gone.bound). absurd (g.gone.chain.none i (omega (arith, ge, n, up)) low e))
               (λ (high : g.gone.bound ≤ i). s.others i placed (g.gone.relaxed i high l e))
@@ -121,7 +137,11 @@ module _ (p : Problem) (x : Numbers) (f : Flow) (place via via' d d' : List ℕ)
         kept = λ rest count h. s.kept rest count (g.kept rest count h);
       }
 
-pub going_all : (p : Problem) (x : Numbers) (f : Flow) (place via via' d d' : List ℕ) (queue queue' : List Entry) (node next : ℕ) → Going p x f place via via' d d' queue queue' node next → next ≡ 0 → ((r : ℕ) → r / 2 < length p.arcs.list → 0 < get_or place (tail_of p.arcs.list r) 0 → tail_of p.arcs.list r ≢ node → IsRelaxed p x f d r) → AllRelaxed p x f place d'
+pub going_all : (p : Problem) (x : Numbers) (f : Flow) (place via via' d d' : List ℕ)
+    (queue queue' : List Entry) (node next : ℕ)
+    → Going p x f place via via' d d' queue queue' node next → next ≡ 0
+    → ((r : ℕ) → r / 2 < length p.arcs.list → 0 < get_or place (tail_of p.arcs.list r) 0
+    → tail_of p.arcs.list r ≢ node → IsRelaxed p x f d r) → AllRelaxed p x f place d'
 going_all p x f place via via' d d' queue queue' node next g z others r l up = ⊎_elim
     (λ (e : tail_of p.arcs.list r ≡ node). ⊎_elim
     (λ (low : r < g.gone.bound). absurd (g.gone.chain.none r (omega (arith, z)) low e))

@@ -1,5 +1,7 @@
 -- What a search keeps: settling a node, and going over a residual arc.
-use Rattle.std.proofs.Common.{◌≡◌, ◌≢◌, ◌⊎◌, inl, inr, ⊎_elim, ℕ, zero, suc, ◌+◌, ◌-◌, ◌*◌, ◌/◌, ◌%◌, ◌<◌, ◌≤◌, eqb, cond, pos, ◌+ℤ◌, ◌≤ℤ◌, ◌<ℤ◌, List, length, get_or, set, refl, sym, ap, ◌∙◌, subst, arith}
+use Rattle.std.proofs.Common.{◌≡◌, ◌≢◌, ◌⊎◌, inl, inr, ⊎_elim, ℕ, zero, suc, ◌+◌, ◌-◌, ◌*◌, ◌/◌}
+use Rattle.std.proofs.Common.{◌%◌, ◌<◌, ◌≤◌, eqb, cond, pos, ◌+ℤ◌, ◌≤ℤ◌, ◌<ℤ◌, List, length, get_or}
+use Rattle.std.proofs.Common.{set, refl, sym, ap, ◌∙◌, subst, arith}
 use Rattle.std.proofs.lemmas.Int.{ints}
 use Rattle.std.proofs.lemmas.Bool.{cases_eq, eq-eqb}
 use Rattle.std.proofs.lemmas.List.{get_or-set_same, get_or-set_other, length-set}
@@ -57,7 +59,9 @@ reduced_up p x r legal l = ⊎_elim
     (either_way p x r)
 
 -- the number at the end is at most a need's size below what the arc reaches
-step_size : (p : Problem) (x : Numbers) (f : Flow) (r size : ℕ) → NeedsWithin size p.arcs.list → IsTight p x f → r / 2 < length p.arcs.list → IsOpen f r → (x (tail_of p.arcs.list r) +ℤ reduced p x r) ≤ℤ (x (head_of p.arcs.list r) +ℤ pos size)
+step_size : (p : Problem) (x : Numbers) (f : Flow) (r size : ℕ) → NeedsWithin size p.arcs.list
+    → IsTight p x f → r / 2 < length p.arcs.list → IsOpen f r
+    → (x (tail_of p.arcs.list r) +ℤ reduced p x r) ≤ℤ (x (head_of p.arcs.list r) +ℤ pos size)
 step_size p x f r size within tight l open_arc =
     let small = within (r / 2) l in
     ⊎_elim
@@ -80,7 +84,10 @@ mul_le zero n m h = omega arith
 mul_le (suc s) n m h = omega (arith, h, mul_le s n m h)
 
 -- a node is settled
-pub settle : (p : Problem) (x : Numbers) (f : Flow) (rest : Numbers) (place via d : List ℕ) (queue new : List Entry) (count dist v : ℕ) → IsSearch p x f rest place via d queue count → IsTaken place queue new dist v → IsSearch p x f rest (set place v (count + 1)) via d new (count + 1)
+pub settle : (p : Problem) (x : Numbers) (f : Flow) (rest : Numbers) (place via d : List ℕ)
+    (queue new : List Entry) (count dist v : ℕ) → IsSearch p x f rest place via d queue count
+    → IsTaken place queue new dist v
+    → IsSearch p x f rest (set place v (count + 1)) via d new (count + 1)
 settle p x f rest place via d queue new count dist v s t =
     let place' = set place v (count + 1) in
     let en = s.entries dist v t.here in
@@ -88,7 +95,10 @@ settle p x f rest place via d queue new count dist v s t =
     let near : get_or d v 0 < far = omega (arith, en.1, en.2) in
     let at : get_or place' v 0 ≡ count + 1 = get_or-set_same place v (count + 1) 0 lv in
     let off : (u : ℕ) → u ≢ v → get_or place' u 0 ≡ get_or place u 0 = λ (u : ℕ) (n : u ≢ v). get_or-set_other place v u (count + 1) 0 n in
-    let grows : (u : ℕ) → 0 < get_or place u 0 → get_or place' u 0 ≡ get_or place u 0 = λ (u : ℕ) (up : 0 < get_or place u 0). off u (λ q. let e : get_or place u 0 ≡ get_or place v 0 = ap (λ k. get_or place k 0) q in absurd (omega (arith, e, t.fresh, up))) in
+    let grows : (u : ℕ) → 0 < get_or place u 0
+    → get_or place' u 0 ≡ get_or place u 0 = λ (u : ℕ) (up : 0 < get_or place u 0). off u
+    (λ q. let e : get_or place u 0 ≡ get_or place v 0 = ap
+    (λ k. get_or place k 0) q in absurd (omega (arith, e, t.fresh, up))) in
     let was : (u : ℕ) → u ≢ v → 0 < get_or place' u 0 → 0 < get_or place u 0 = λ (u : ℕ) (n : u ≢ v) (up : 0 < get_or place' u 0). omega (arith, off u n, up) in
     record {
       places = length-set place v (count + 1) ∙ s.places;
@@ -147,7 +157,10 @@ settle p x f rest place via d queue new count dist v s t =
           (cases_eq u v);
     }
 
-pub settled_farthest : (p : Problem) (x : Numbers) (f : Flow) (rest : Numbers) (place via d : List ℕ) (queue new : List Entry) (count dist v : ℕ) → IsSearch p x f rest place via d queue count → IsTaken place queue new dist v → (get_or d v 0 ≡ dist) × IsFarthest (set place v (count + 1)) d v
+pub settled_farthest : (p : Problem) (x : Numbers) (f : Flow) (rest : Numbers)
+    (place via d : List ℕ) (queue new : List Entry) (count dist v : ℕ)
+    → IsSearch p x f rest place via d queue count → IsTaken place queue new dist v
+    → (get_or d v 0 ≡ dist) × IsFarthest (set place v (count + 1)) d v
 settled_farthest p x f rest place via d queue new count dist v s t =
     let place' = set place v (count + 1) in
     let en = s.entries dist v t.here in
@@ -169,7 +182,9 @@ settled_farthest p x f rest place via d queue new count dist v s t =
       },
     )
 
-module _ (p : Problem) (x : Numbers) (f : Flow) (place d : List ℕ) (r : ℕ) (arc : r / 2 < length p.arcs.list) (legal : Solves x p.arcs.list) (farthest : IsFarthest place d (tail_of p.arcs.list r)) where
+module _ (p : Problem) (x : Numbers) (f : Flow) (place d : List ℕ) (r : ℕ)
+    (arc : r / 2 < length p.arcs.list) (legal : Solves x p.arcs.list)
+    (farthest : IsFarthest place d (tail_of p.arcs.list r)) where
   -- residual arc r led nowhere nearer
   pub stays_relaxed : (get_or place (head_of p.arcs.list r) 0 ≡ 0 → IsRelaxed p x f d r) → IsRelaxed p x f d r
   stays_relaxed fresh open_arc = ⊎_elim
@@ -177,7 +192,10 @@ module _ (p : Problem) (x : Numbers) (f : Flow) (place d : List ℕ) (r : ℕ) (
       (λ (n : get_or place (head_of p.arcs.list r) 0 ≢ 0). omega (arith, ints, farthest.most (head_of p.arcs.list r) (omega (arith, n)), reduced_up p x r legal arc))
       (cases_eq (get_or place (head_of p.arcs.list r) 0) 0)
 
-  module _ (k : ℕ) (fresh : get_or place (head_of p.arcs.list r) 0 ≡ 0) (sum : pos k ≡ (pos (get_or d (tail_of p.arcs.list r) 0) +ℤ reduced p x r)) (less : k < get_or d (head_of p.arcs.list r) 0) (in_d : head_of p.arcs.list r < length d) where
+  module _ (k : ℕ) (fresh : get_or place (head_of p.arcs.list r) 0 ≡ 0)
+      (sum : pos k ≡ (pos (get_or d (tail_of p.arcs.list r) 0) +ℤ reduced p x r))
+      (less : k < get_or d (head_of p.arcs.list r) 0) (in_d : head_of p.arcs.list r
+      < length d) where
     d' : List ℕ
     d' = set d (head_of p.arcs.list r) k
 
@@ -211,7 +229,12 @@ module _ (p : Problem) (x : Numbers) (f : Flow) (place d : List ℕ) (r : ℕ) (
       most = λ u up. omega (arith, still u up, still (tail_of p.arcs.list r) farthest.here, farthest.most u up);
     }
 
-    pub nears_search : (rest : Numbers) (via : List ℕ) (queue queue' : List Entry) (count : ℕ) → EndsInRange p.arcs.nodes p.arcs.list → IsTight p x f → IsOpen f r → IsQueued queue queue' k (head_of p.arcs.list r) → IsSearch p x f rest place via d queue count → IsSearch p x f rest place (set via (head_of p.arcs.list r) r) (set d (head_of p.arcs.list r) k) queue' count
+    pub nears_search : (rest : Numbers) (via : List ℕ) (queue queue' : List Entry) (count : ℕ)
+        → EndsInRange p.arcs.nodes p.arcs.list → IsTight p x f → IsOpen f r
+        → IsQueued queue queue' k (head_of p.arcs.list r)
+        → IsSearch p x f rest place via d queue count
+        → IsSearch p x f rest place (set via (head_of p.arcs.list r) r)
+        (set d (head_of p.arcs.list r) k) queue' count
     nears_search rest via queue queue' count ends tight open_arc queued s =
         let w = head_of p.arcs.list r in
         let t = tail_of p.arcs.list r in

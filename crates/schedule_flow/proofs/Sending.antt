@@ -1,5 +1,7 @@
 -- Sending an amount along a path, arc by arc.
-use Rattle.std.proofs.Common.{◌≡◌, ◌≢◌, ◌⊎◌, inl, inr, ⊎_elim, ℕ, ◌+◌, ◌-◌, ◌*◌, ◌/◌, ◌%◌, ◌<◌, ◌≤◌, eqb, cond, Bool, true, false, ℤ, pos, negsuc, ◌+ℤ◌, ◌-ℤ◌, ◌≤ℤ◌, List, length, get_or, set, refl, sym, ap, ◌∙◌, subst, arith}
+use Rattle.std.proofs.Common.{◌≡◌, ◌≢◌, ◌⊎◌, inl, inr, ⊎_elim, ℕ, ◌+◌, ◌-◌, ◌*◌, ◌/◌, ◌%◌, ◌<◌, ◌≤◌}
+use Rattle.std.proofs.Common.{eqb, cond, Bool, true, false, ℤ, pos, negsuc, ◌+ℤ◌, ◌-ℤ◌, ◌≤ℤ◌, List}
+use Rattle.std.proofs.Common.{length, get_or, set, refl, sym, ap, ◌∙◌, subst, arith}
 use Rattle.std.proofs.lemmas.Int.{ints}
 use Rattle.std.proofs.lemmas.Bool.{cases_eq, cases_Bool, eq-eqb}
 use Rattle.std.proofs.lemmas.List.{get_or-set_same, get_or-set_other, length-set}
@@ -19,7 +21,10 @@ more_at true x y a e = omega (arith, ints, e)
 more_at false x y a e = omega (arith, ints)
 
 -- an arc that carries more
-pub carries_more : (p : Problem) (f g : Flow) (i a : ℕ) → i < length p.arcs.list → ((k : ℕ) → k ≢ i → g k ≡ f k) → g i ≡ f i + a → (v : ℕ) → excess p g v ≡ ((excess p f v -ℤ at_node (start_of p.arcs.list i) a v) +ℤ at_node (end_of p.arcs.list i) a v)
+pub carries_more : (p : Problem) (f g : Flow) (i a : ℕ) → i < length p.arcs.list
+    → ((k : ℕ) → k ≢ i → g k ≡ f k) → g i ≡ f i + a → (v : ℕ)
+    → excess p g v ≡ ((excess p f v -ℤ at_node (start_of p.arcs.list i) a v) +ℤ at_node
+    (end_of p.arcs.list i) a v)
 carries_more p f g i a l same e v =
     let m = length p.arcs.list in
     let out : Flow → ℕ → ℤ = λ h k. cond (eqb (start_of p.arcs.list k) v) (pos (h k)) (pos 0) in
@@ -63,7 +68,9 @@ nothing_sent p old path a h = record {
   used = λ j l. inl l;
 }
 
-module _ (p : Problem) (old new : List ℕ) (path : List ℕ) (a k : ℕ) (h : IsPath p (flow_of old) path a) (s : Sending p old new path a k) (l : k < length path) (len : length new ≡ length p.arcs.list) where
+module _ (p : Problem) (old new : List ℕ) (path : List ℕ) (a k : ℕ)
+    (h : IsPath p (flow_of old) path a) (s : Sending p old new path a k) (l : k < length path)
+    (len : length new ≡ length p.arcs.list) where
   onward : k + 1 < length path → head_of p.arcs.list (get_or path k 0) ≡ tail_of p.arcs.list (get_or path (k + 1) 0)
   onward m = h.linked k m
 
@@ -303,7 +310,14 @@ module _ (p : Problem) (old new : List ℕ) (path : List ℕ) (a : ℕ) (h : IsP
       let a2 = above (E u) (omega (arith, ints, h.surplus)) in
       omega (arith, ints, total-change p.arcs.nodes u g k in_range others, a1, a2, here)
 
-pub kept_after : (p : Problem) (old new path : List ℕ) (rest rest' : List ℤ) (sends moved a : ℕ) → IsKept p old rest sends moved → IsPath p (flow_of old) path a → IsSent p (flow_of old) (flow_of new) path a → ((j : ℕ) → get_or new j 0 ≤ get_or old j 0 + a) → length new ≡ length old → length rest' ≡ length rest → ((v : ℕ) → numbers_of rest' v ≡ ((numbers_of rest v -ℤ at_node (first_of p.arcs.list path) a v) +ℤ at_node (last_of p.arcs.list path) a v)) → IsKept p new rest' (sends + 1) (moved + a)
+pub kept_after : (p : Problem) (old new path : List ℕ) (rest rest' : List ℤ) (sends moved a : ℕ)
+    → IsKept p old rest sends moved → IsPath p (flow_of old) path a
+    → IsSent p (flow_of old) (flow_of new) path a → ((j : ℕ)
+    → get_or new j 0 ≤ get_or old j 0 + a) → length new ≡ length old
+    → length rest' ≡ length rest → ((v : ℕ)
+    → numbers_of rest' v ≡ ((numbers_of rest v -ℤ at_node
+    (first_of p.arcs.list path) a v) +ℤ at_node (last_of p.arcs.list path) a v))
+    → IsKept p new rest' (sends + 1) (moved + a)
 kept_after p old new path rest rest' sends moved a kept h s most len len' moves =
     let in_range : first_of p.arcs.list path < p.arcs.nodes = tail_in p.arcs.nodes p.arcs.list kept.ends (get_or path 0 0) (h.room 0 h.some).0 in
     record {
@@ -317,7 +331,10 @@ kept_after p old new path rest rest' sends moved a kept h s most len len' moves 
       budget = omega (arith, ints, kept.budget, unsent_falls p old new path a h s in_range);
     }
 
-pub settled_at : (rest : List ℤ) (u w a : ℕ) (x y : ℤ) → u < length rest → w < length rest → u ≢ w → x ≡ (numbers_of rest u -ℤ pos a) → y ≡ (numbers_of rest w +ℤ pos a) → (v : ℕ) → numbers_of (set (set rest u x) w y) v ≡ ((numbers_of rest v -ℤ at_node u a v) +ℤ at_node w a v)
+pub settled_at : (rest : List ℤ) (u w a : ℕ) (x y : ℤ) → u < length rest → w < length rest
+    → u ≢ w → x ≡ (numbers_of rest u -ℤ pos a) → y ≡ (numbers_of rest w +ℤ pos a) → (v : ℕ)
+    → numbers_of (set (set rest u x) w y) v ≡
+    ((numbers_of rest v -ℤ at_node u a v) +ℤ at_node w a v)
 settled_at rest u w a x y lu lw d ex ey v =
     let one = set rest u x in
     let lw' : w < length one = omega (arith, lw, length-set rest u x) in

@@ -29,8 +29,12 @@ above_le (negsuc n) b h k = k
 pub still : (p : Problem) (f : Flow) → ((j : ℕ) → f j ≡ 0) → (v : ℕ) → excess p f v ≡ surplus p v
 still p f none v =
     let m = length p.arcs.list in
-    let s : sent p f v ≡ pos 0 = total-none m (λ k. cond (eqb (start_of p.arcs.list k) v) (pos (f k)) (pos 0)) (λ k l. ap (λ n. cond (eqb (start_of p.arcs.list k) v) (pos n) (pos 0)) (none k) ∙ cond_zero (eqb (start_of p.arcs.list k) v)) in
-    let t : taken p f v ≡ pos 0 = total-none m (λ k. cond (eqb (end_of p.arcs.list k) v) (pos (f k)) (pos 0)) (λ k l. ap (λ n. cond (eqb (end_of p.arcs.list k) v) (pos n) (pos 0)) (none k) ∙ cond_zero (eqb (end_of p.arcs.list k) v)) in
+    let s : sent p f v ≡ pos 0 = total-none m (λ k. cond (eqb (start_of p.arcs.list k) v)
+    (pos (f k)) (pos 0)) (λ k l. ap (λ n. cond (eqb (start_of p.arcs.list k) v) (pos n)
+    (pos 0)) (none k) ∙ cond_zero (eqb (start_of p.arcs.list k) v)) in
+    let t : taken p f v ≡ pos 0 = total-none m (λ k. cond (eqb (end_of p.arcs.list k) v)
+    (pos (f k)) (pos 0)) (λ k l. ap (λ n. cond (eqb (end_of p.arcs.list k) v) (pos n)
+    (pos 0)) (none k) ∙ cond_zero (eqb (end_of p.arcs.list k) v)) in
     omega (arith, ints, s, t)
 
 pub unsent_at_first : (p : Problem) (f : Flow) → TermsInRange p.arcs.nodes p.terms → ((j : ℕ) → f j ≡ 0) → unsent p f ≤ℤ weights p
@@ -49,7 +53,11 @@ unsent_at_first p f terms none =
     let same = total-same k (λ t. pos (weight_of p.terms t) *ℤ pos 1) (λ t. pos (weight_of p.terms t)) (λ t l. omega (arith, ints)) in
     omega (arith, ints, le, all, same)
 
-pub kept_at_first : (p : Problem) (flow : List ℕ) (rest : List ℤ) → EndsInRange p.arcs.nodes p.arcs.list → TermsInRange p.arcs.nodes p.terms → length flow ≡ length p.arcs.list → length rest ≡ p.arcs.nodes → ((j : ℕ) → flow_of flow j ≡ 0) → ((v : ℕ) → numbers_of rest v ≡ surplus p v) → weights p ≤ℤ pos (2 ^ 52) → IsKept p flow rest 0 0
+pub kept_at_first : (p : Problem) (flow : List ℕ) (rest : List ℤ)
+    → EndsInRange p.arcs.nodes p.arcs.list → TermsInRange p.arcs.nodes p.terms
+    → length flow ≡ length p.arcs.list → length rest ≡ p.arcs.nodes
+    → ((j : ℕ) → flow_of flow j ≡ 0) → ((v : ℕ) → numbers_of rest v ≡ surplus p v)
+    → weights p ≤ℤ pos (2 ^ 52) → IsKept p flow rest 0 0
 kept_at_first p flow rest ends terms arcs nodes none is light = record {
   arcs = arcs;
   nodes = nodes;

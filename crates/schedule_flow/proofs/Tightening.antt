@@ -21,7 +21,9 @@ module _ (list : List Arc) (a : Arc) where
       let n = length list in
       let q : k ≡ n = omega (arith, length-append list (a ∷ []), l, g) in
       let z : n - n ≡ 0 = omega arith in
-      ap (arc_at (list ++ a ∷ [])) q ∙ get_or-append_right list (a ∷ []) n n (record { from = 0; to = 0; need = pos 0 }) refl (omega arith) ∙ ap (λ m. get_or (a ∷ []) m (record { from = 0; to = 0; need = pos 0 })) z
+      ap (arc_at (list ++ a ∷ [])) q ∙ get_or-append_right list (a
+      ∷ []) n n (record { from = 0; to = 0; need = pos 0 }) refl (omega arith) ∙ ap
+      (λ m. get_or (a ∷ []) m (record { from = 0; to = 0; need = pos 0 })) z
 
   pub solves_push : (y : Numbers) → Solves y list → Met y a → Solves y (list ++ a ∷ [])
   solves_push y s m k l = ⊎_elim
@@ -57,7 +59,9 @@ module _ (list : List Arc) (a : Arc) where
 pub record Tightening (p : Problem) (f : Flow) (list : List Arc) (n : ℕ) : Type 0 where
   pub legal : (y : Numbers) → Solves y list → (j : ℕ) → j < n → Meets y p.arcs.list j
   pub tight : (y : Numbers) → Solves y list → (j : ℕ) → j < n → 0 < f j → (y (end_of p.arcs.list j) -ℤ y (start_of p.arcs.list j)) ≡ need_of p.arcs.list j
-  pub solves : (y : Numbers) → ((j : ℕ) → j < n → Meets y p.arcs.list j) → ((j : ℕ) → j < n → 0 < f j → (y (end_of p.arcs.list j) -ℤ y (start_of p.arcs.list j)) ≡ need_of p.arcs.list j) → Solves y list
+  pub solves : (y : Numbers) → ((j : ℕ) → j < n → Meets y p.arcs.list j)
+      → ((j : ℕ) → j < n → 0 < f j → (y (end_of p.arcs.list j) -ℤ y (start_of p.arcs.list j))
+      ≡ need_of p.arcs.list j) → Solves y list
   pub long : length list ≤ 2 * n
   pub ends : EndsInRange p.arcs.nodes list
   pub needs : (c size : ℕ) → SizesWithin c size p.arcs.list → SizesWithin c size list
@@ -72,7 +76,9 @@ tightening_none p f = record {
   needs = λ c size h k l. absurd (omega (arith, l));
 }
 
-module _ (p : Problem) (f : Flow) (list : List Arc) (n : ℕ) (a : Arc) (t : Tightening p f list n) (l : n < length p.arcs.list) (read : a ≡ arc_at p.arcs.list n) (ends : EndsInRange p.arcs.nodes p.arcs.list) where
+module _ (p : Problem) (f : Flow) (list : List Arc) (n : ℕ) (a : Arc)
+    (t : Tightening p f list n) (l : n < length p.arcs.list) (read : a ≡ arc_at p.arcs.list n)
+    (ends : EndsInRange p.arcs.nodes p.arcs.list) where
   here : (y : Numbers) → Met y a → Meets y p.arcs.list n
   here y m = subst (Met y) read m
 
@@ -85,7 +91,10 @@ module _ (p : Problem) (f : Flow) (list : List Arc) (n : ℕ) (a : Arc) (t : Tig
   pub with_arc : f n ≡ 0 → Tightening p f (list ++ a ∷ []) (n + 1)
   with_arc idle = record {
     legal = λ y s. let P : ℕ → Type 0 = λ j. Meets y p.arcs.list j in below_more P n (t.legal y (solves_front list a y s)) (here y (solves_last list a y s));
-    tight = λ y s. let P : ℕ → Type 0 = λ j. 0 < f j → (y (end_of p.arcs.list j) -ℤ y (start_of p.arcs.list j)) ≡ need_of p.arcs.list j in below_more P n (t.tight y (solves_front list a y s)) (λ up. absurd (omega (arith, up, idle)));
+    tight = λ y s. let P : ℕ → Type 0 = λ j. 0 < f j
+        → (y (end_of p.arcs.list j) -ℤ y (start_of p.arcs.list j))
+        ≡ need_of p.arcs.list j in below_more P n (t.tight y (solves_front list a y s))
+        (λ up. absurd (omega (arith, up, idle)));
     solves = λ y m u. solves_push list a y (t.solves y (λ j k. m j (omega (arith, k))) (λ j k. u j (omega (arith, k)))) (subst (Met y) (sym read) (m n (omega arith)));
     long = omega (arith, t.long, length-append list (a ∷ []));
     ends = ends_push list a p.arcs.nodes t.ends in_range.0 in_range.1;
@@ -102,14 +111,26 @@ module _ (p : Problem) (f : Flow) (list : List Arc) (n : ℕ) (a : Arc) (t : Tig
       subst P read e in
       record {
         legal = λ y s. let P : ℕ → Type 0 = λ j. Meets y p.arcs.list j in let s1 = solves_front one b y s in below_more P n (t.legal y (solves_front list a y s1)) (here y (solves_last list a y s1));
-        tight = λ y s. let P : ℕ → Type 0 = λ j. 0 < f j → (y (end_of p.arcs.list j) -ℤ y (start_of p.arcs.list j)) ≡ need_of p.arcs.list j in let s1 = solves_front one b y s in below_more P n (t.tight y (solves_front list a y s1)) (λ up. equal y (solves_last list a y s1) (solves_last one b y s));
+        tight = λ y s. let P : ℕ → Type 0 = λ j. 0 < f j
+            → (y (end_of p.arcs.list j) -ℤ y (start_of p.arcs.list j))
+            ≡ need_of p.arcs.list j in let s1 = solves_front one b y s in below_more P n
+            (t.tight y (solves_front list a y s1)) (λ up. equal y (solves_last list a y s1)
+            (solves_last one b y s));
         solves = λ y m u.
             let P : Arc → Type 0 = λ c. (y c.to -ℤ y c.from) ≡ c.need in
             let e : (y a.to -ℤ y a.from) ≡ a.need = subst P (sym read) (u n (omega arith) busy) in
-            solves_push one b y (solves_push list a y (t.solves y (λ j k. m j (omega (arith, k))) (λ j k. u j (omega (arith, k)))) (subst (Met y) (sym read) (m n (omega arith)))) (omega (arith, ints, e));
+            solves_push one b y (solves_push list a y (t.solves y (λ j k. m j (omega (
+              arith,
+              k,
+            ))) (λ j k. u j (omega (
+              arith,
+              k,
+            )))) (subst (Met y) (sym read) (m n (omega arith)))) (omega (arith, ints, e));
         long = omega (arith, t.long, length-append list (a ∷ []), length-append one (b ∷ []));
         ends = ends_push one b p.arcs.nodes (ends_push list a p.arcs.nodes t.ends in_range.0 in_range.1) in_range.1 in_range.0;
-        needs = λ c size h. needs_push one b c size (needs_push list a c size (t.needs c size h) (small c size h)) (let e : unsigned_abs (neg_ℤ a.need) ≡ unsigned_abs a.need = omega (arith, ints) in let s = small c size h in omega (arith, s, ap (λ k. c * k) e));
+        needs = λ c size h. needs_push one b c size (needs_push list a c size (t.needs c size h)
+            (small c size h)) (let e : unsigned_abs (neg_ℤ a.need) ≡ unsigned_abs a.need = omega
+            (arith, ints) in let s = small c size h in omega (arith, s, ap (λ k. c * k) e));
       }
 
 pub tightening_all : (p : Problem) (f : Flow) (list : List Arc) (n : ℕ) → Tightening p f list n → length p.arcs.list ≤ n → n ≤ length p.arcs.list → IsTightened p f list

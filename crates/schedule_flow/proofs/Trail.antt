@@ -34,7 +34,10 @@ no_trail p x f place want amount = record {
   room = λ k l. absurd (omega arith);
 }
 
-pub trail_more : (p : Problem) (x : Numbers) (f : Flow) (place back : List ℕ) (want node amount r less : ℕ) → IsTrail p x f place back want node amount → IsStep p x f place r node → less ≤ amount → (r % 2 ≡ 1 → less ≤ f (r / 2)) → IsTrail p x f place (back ++ r ∷ []) want (tail_of p.arcs.list r) less
+pub trail_more : (p : Problem) (x : Numbers) (f : Flow) (place back : List ℕ)
+    (want node amount r less : ℕ) → IsTrail p x f place back want node amount
+    → IsStep p x f place r node → less ≤ amount → (r % 2 ≡ 1 → less ≤ f (r / 2))
+    → IsTrail p x f place (back ++ r ∷ []) want (tail_of p.arcs.list r) less
 trail_more p x f place back want node amount r less t s le room =
     let n = length back in
     let new : List ℕ = back ++ r ∷ [] in
@@ -57,15 +60,44 @@ trail_more p x f place back want node amount r less t s le room =
           (cases_lt 0 n);
       last = λ k e. ap (tail_of p.arcs.list) (at_end k (omega (arith, e)) (omega (arith, e, len)));
       above = λ k l. ⊎_elim
-          (λ (q : k < n). let e : get_or place (head_of p.arcs.list (get_or new k 0)) 0 ≡ get_or place (head_of p.arcs.list (get_or back k 0)) 0 = ap (λ m. get_or place (head_of p.arcs.list m) 0) (old k q) in omega (arith, e, t.above k q, s.earlier))
-          (λ (g : n ≤ k). let e : get_or place (head_of p.arcs.list (get_or new k 0)) 0 ≡ get_or place (head_of p.arcs.list r) 0 = ap (λ m. get_or place (head_of p.arcs.list m) 0) (at_end k l g) in omega (arith, e, here, s.earlier))
+          (λ (q : k < n). let e : get_or place (head_of p.arcs.list (get_or new k 0)) 0
+          ≡ get_or place (head_of p.arcs.list (get_or back k 0)) 0 = ap
+          (λ m. get_or place (head_of p.arcs.list m) 0) (old k q) in omega (
+            arith,
+            e,
+            t.above k q,
+            s.earlier,
+          ))
+          (λ (g : n ≤ k). let e : get_or place (head_of p.arcs.list (get_or new k 0)) 0
+          ≡ get_or place (head_of p.arcs.list r) 0 = ap
+          (λ m. get_or place (head_of p.arcs.list m) 0) (at_end k l g) in omega (
+            arith,
+            e,
+            here,
+            s.earlier,
+          ))
           (cases_lt k n);
       falls = λ i k l m.
           let io : i < n = omega (arith, l, m, len) in
           let e1 : get_or place (head_of p.arcs.list (get_or new i 0)) 0 ≡ get_or place (head_of p.arcs.list (get_or back i 0)) 0 = ap (λ m. get_or place (head_of p.arcs.list m) 0) (old i io) in
           ⊎_elim
-          (λ (q : k < n). let e2 : get_or place (head_of p.arcs.list (get_or new k 0)) 0 ≡ get_or place (head_of p.arcs.list (get_or back k 0)) 0 = ap (λ m. get_or place (head_of p.arcs.list m) 0) (old k q) in omega (arith, e1, e2, t.falls i k l q))
-          (λ (g : n ≤ k). let e2 : get_or place (head_of p.arcs.list (get_or new k 0)) 0 ≡ get_or place (head_of p.arcs.list r) 0 = ap (λ m. get_or place (head_of p.arcs.list m) 0) (at_end k m g) in omega (arith, e1, e2, here, t.above i io))
+          (λ (q : k < n). let e2 : get_or place (head_of p.arcs.list (get_or new k 0)) 0
+          ≡ get_or place (head_of p.arcs.list (get_or back k 0)) 0 = ap
+          (λ m. get_or place (head_of p.arcs.list m) 0) (old k q) in omega (
+            arith,
+            e1,
+            e2,
+            t.falls i k l q,
+          ))
+          (λ (g : n ≤ k). let e2 : get_or place (head_of p.arcs.list (get_or new k 0)) 0
+          ≡ get_or place (head_of p.arcs.list r) 0 = ap
+          (λ m. get_or place (head_of p.arcs.list m) 0) (at_end k m g) in omega (
+            arith,
+            e1,
+            e2,
+            here,
+            t.above i io,
+          ))
           (cases_lt k n);
       arcs = λ k l. ⊎_elim
           (λ (q : k < n). let P : ℕ → Type 0 = λ m. m / 2 < length p.arcs.list in subst P (sym (old k q)) (t.arcs k q))
@@ -96,7 +128,12 @@ module _ (p : Problem) (x : Numbers) (f : Flow) (place back : List ℕ) (want no
       let long : 0 < m = ⊎_elim (λ (z : m ≡ 0). absurd (apart (t.none z))) (λ (d : m ≢ 0). omega (arith, d)) (cases_eq m 0) in
       let first : first_of p.arcs.list (reverse back) ≡ node = ap (tail_of p.arcs.list) (turn 0 (omega (arith, len, long))) ∙ t.last (m - 1 - 0) (omega (arith, long)) in
       let zero : m - 1 - (length (reverse back) - 1) ≡ 0 = omega (arith, len) in
-      let last : last_of p.arcs.list (reverse back) ≡ want = ap (head_of p.arcs.list) (turn (length (reverse back) - 1) (omega (arith, len, long))) ∙ ap (λ k. head_of p.arcs.list (get_or back k 0)) zero ∙ t.first long in
+      let last : last_of p.arcs.list (reverse back) ≡ want = ap (head_of p.arcs.list)
+      (turn (length (reverse back) - 1) (omega (
+        arith,
+        len,
+        long,
+      ))) ∙ ap (λ k. head_of p.arcs.list (get_or back k 0)) zero ∙ t.first long in
       let es : excess p f (first_of p.arcs.list (reverse back)) ≡ excess p f node = ap (excess p f) first in
       let ew : excess p f (last_of p.arcs.list (reverse back)) ≡ excess p f want = ap (excess p f) last in
       record {
@@ -104,7 +141,15 @@ module _ (p : Problem) (x : Numbers) (f : Flow) (place back : List ℕ) (want no
         linked = λ k l.
             let i : ℕ = m - 1 - (k + 1) in
             let up : i + 1 ≡ m - 1 - k = omega (arith, len, l) in
-            ap (head_of p.arcs.list) (turn k (omega (arith, l))) ∙ ap (λ n. head_of p.arcs.list (get_or back n 0)) (sym up) ∙ sym (t.linked i (omega (arith, len, l))) ∙ ap (tail_of p.arcs.list) (sym (turn (k + 1) l));
+            ap (head_of p.arcs.list) (turn k (omega (
+              arith,
+              l,
+            ))) ∙ ap (λ n. head_of p.arcs.list (get_or back n 0)) (sym up) ∙ sym
+            (t.linked i (omega (
+              arith,
+              len,
+              l,
+            ))) ∙ ap (tail_of p.arcs.list) (sym (turn (k + 1) l));
         distinct = λ i k li lk e.
             let a : ℕ = m - 1 - i in
             let b : ℕ = m - 1 - k in

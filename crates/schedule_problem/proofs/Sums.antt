@@ -61,7 +61,10 @@ pub passed : {X : Type 0} (a b : ℕ) (y z : X) → a ≢ b → cond (eqb a b) y
 passed a b y z d = grind (arith, d)
 
 -- amounts at nodes, times the nodes' numbers, are the amounts times the numbers at their places
-pub spread : (nodes n : ℕ) (place amount : ℕ → ℕ) (x : Numbers) → ((k : ℕ) → k < n → place k < nodes) → total nodes (λ v. x v *ℤ amount_at n place amount v) ≡ total n (λ k. pos (amount k) *ℤ x (place k))
+pub spread : (nodes n : ℕ) (place amount : ℕ → ℕ) (x : Numbers)
+    → ((k : ℕ) → k < n → place k < nodes)
+    → total nodes (λ v. x v *ℤ amount_at n place amount v) ≡ total n
+    (λ k. pos (amount k) *ℤ x (place k))
 spread nodes zero place amount x h = total-none nodes (λ v. x v *ℤ pos 0) (λ v l. omega (arith, ints))
 spread nodes (suc n) place amount x h =
     let one : ℕ → ℤ = λ v. cond (eqb (place n) v) (pos (amount n)) (pos 0) in

@@ -37,13 +37,20 @@ pub lent_length : {X : Type 0} (v : Vec X Global) (new old : List X) → length 
 lent_length v new old e same = ap length (back v new old e same) ∙ e ∙ ap length same
 
 -- the words that are offered have the widths of their ports
-pub offers_fit : (sim : State) (named : List (Name × ℕ)) (offers : List Offer) → length named ≡ length sim.outer.inputs → HaveWidthsOf sim named sim.outer.inputs → AreOfWidths named offers → (m : Module) → top_of sim.design ≡ Some m → AreOffered m sim.outer offers
+pub offers_fit : (sim : State) (named : List (Name × ℕ)) (offers : List Offer)
+    → length named ≡ length sim.outer.inputs → HaveWidthsOf sim named sim.outer.inputs
+    → AreOfWidths named offers → (m : Module) → top_of sim.design ≡ Some m
+    → AreOffered m sim.outer offers
 offers_fit sim named offers size widths words m top = λ k ch at.
     let n = item_in named k (let w = slice_get_within sim.outer.inputs k ch at in omega arith) in
     subst (λ w. (get_or offers k nothing).word < 2 ^ w) (widths m top k n.0 ch n.1 at) (words k n.0 n.1)
 
 -- so have those that are seen at the outputs
-pub seen_fit : (sim next : State) (named : List (Name × ℕ)) (m : Module) (offers : List Offer) (accepts holds : List Bool) (events : List Seen) → length named ≡ length sim.outer.outputs → HaveWidthsOf sim named sim.outer.outputs → top_of sim.design ≡ Some m → IsEdge m offers accepts holds sim next events → AreOfWidth named (drop (length sim.outer.inputs) events)
+pub seen_fit : (sim next : State) (named : List (Name
+    × ℕ)) (m : Module) (offers : List Offer) (accepts holds : List Bool) (events : List Seen)
+    → length named ≡ length sim.outer.outputs → HaveWidthsOf sim named sim.outer.outputs
+    → top_of sim.design ≡ Some m → IsEdge m offers accepts holds sim next events
+    → AreOfWidth named (drop (length sim.outer.inputs) events)
 seen_fit sim next named m offers accepts holds events size widths top r = λ k n at.
     let ch = item_in sim.outer.outputs k (let w = slice_get_within named k n at in omega arith) in
     let seen = seen_output (r.family []) sim.outer.inputs sim.outer.outputs events k ch.0 r.events_are ch.1 in
@@ -81,8 +88,13 @@ bench_after b new is kept inputs outputs unrefused stalled offers accepts events
       offers = offers ∙ is.offers ∙ ins;
       accepts = accepts ∙ is.accepts ∙ outs;
       events = events ∙ is.events ∙ ap (λ (o : Outer). length o.inputs + length o.outputs) outer;
-      input_widths = λ m top k n c en ec. is.input_widths m (ap top_of (sym design) ∙ top) k n c (ap (λ (l : List (Name × ℕ)). slice_get l k) (sym inputs) ∙ en) (ap (λ (o : Outer). slice_get o.inputs k) outer ∙ ec);
-      output_widths = λ m top k n c en ec. is.output_widths m (ap top_of (sym design) ∙ top) k n c (ap (λ (l : List (Name × ℕ)). slice_get l k) (sym outputs) ∙ en) (ap (λ (o : Outer). slice_get o.outputs k) outer ∙ ec);
+      input_widths = λ m top k n c en ec. is.input_widths m (ap top_of (sym design) ∙ top) k n c
+          (ap (λ (l : List (Name × ℕ)). slice_get l k) (sym inputs) ∙ en)
+          (ap (λ (o : Outer). slice_get o.inputs k) outer ∙ ec);
+      output_widths = λ m top k n c en ec. is.output_widths m
+          (ap top_of (sym design) ∙ top) k n c (ap (λ (l : List (Name
+          × ℕ)). slice_get l k) (sym outputs) ∙ en) (ap
+          (λ (o : Outer). slice_get o.outputs k) outer ∙ ec);
       unrefused = unrefused;
       apart = subst DifferInName (sym outputs) is.apart;
       others = subst (λ (l : List (Name × ℕ)). AreOther l (map output_of new.outputs.items)) (sym inputs) (subst (AreOther (map input_of b.inputs.items)) (sym outputs) is.others);

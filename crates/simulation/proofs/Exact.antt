@@ -52,7 +52,16 @@ not_cells (Err NoMemory) stops n e = absurd (cc)
 
 -- the names of a shape don't matter for a run
 pub same_setup : (d : Design) (m : Module) (s t : Shape) (p : Plan) (held : Held) → outer_of s m ≡ outer_of t m → setup_of d m s p held ≡ setup_of d m t p held
-same_setup d m s t p held e = ap (λ (o : Outer). record { design = d; top = m; outer = o; steady = p.ticks ++ p.scalars; contents = filled d m p.fill; inputs = input_files held p.inputs; pick = p.pick; edges = p.edges }) e
+same_setup d m s t p held e = ap (λ (o : Outer). record {
+  design = d;
+  top = m;
+  outer = o;
+  steady = p.ticks ++ p.scalars;
+  contents = filled d m p.fill;
+  inputs = input_files held p.inputs;
+  pick = p.pick;
+  edges = p.edges;
+}) e
 
 -- all runs of a plan end in one way, whichever names its shape has
 pub one_way :
@@ -64,5 +73,9 @@ pub one_way :
     → Ends stalls (setup_of d m s p held) r vs a → Ends stalls (setup_of d m s p held) q ws b → a ≡ b
 one_way stalls decided d m s t p held accepted top has fits cells pick edges outer r q vs ws a b x y =
     let same = same_setup d m s t p held outer in
-    one_end stalls decided d m t p held accepted top has fits pick edges (omega (arith, few_ports (take (length d.modules - 1) d.modules) m t (formed_top d m accepted top) has (own_cells d m accepted top cells))) r q vs ws a b
+    one_end stalls decided d m t p held accepted top has fits pick edges (omega (
+      arith,
+      few_ports (take (length d.modules - 1) d.modules) m t (formed_top d m accepted top) has
+          (own_cells d m accepted top cells),
+    )) r q vs ws a b
     (subst (λ (z : Setup). Ends stalls z r vs a) same x) (subst (λ (z : Setup). Ends stalls z q ws b) same y)

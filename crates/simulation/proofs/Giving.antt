@@ -105,7 +105,9 @@ held_from e (n ∷ ns) [] k v s h = absurd s
 held_from e (n ∷ ns) (b ∷ bs) k v s h =
     (s.0 ∙ ap bit (h 0 (omega arith) ∙ ap e.held (omega arith)), held_from e ns bs (k + 1) v s.1 (λ j lt. h (suc j) (omega arith) ∙ ap e.held (omega arith)))
 
-accepted_from : (e : Event) (chs : List Channel) (bs : List Bool) (k : ℕ) (v : Family) → Same (map (λ (c : Channel). c.ready) chs) (map bit bs) v → ((j : ℕ) → j < length bs → get_or bs j false ≡ e.accepts (k + j)) → AcceptedAll e k chs v
+accepted_from : (e : Event) (chs : List Channel) (bs : List Bool) (k : ℕ) (v : Family)
+    → Same (map (λ (c : Channel). c.ready) chs) (map bit bs) v
+    → ((j : ℕ) → j < length bs → get_or bs j false ≡ e.accepts (k + j)) → AcceptedAll e k chs v
 accepted_from e [] bs k v s h = tt
 accepted_from e (ch ∷ chs) [] k v s h = absurd s
 accepted_from e (ch ∷ chs) (b ∷ bs) k v s h =
@@ -162,7 +164,9 @@ waiting_first held f left i told at w waits = by (found_or_lacking held f.name t
     by (inl found) = (words_behind f.width found.0 i, (at.within found.0 found.1).left_is ∙ ap (λ o. with_waiting o (words_behind f.width found.0 i)) waits)
     by (inr lacks) = absurd (let n = (at.lacking lacks).none_waits in cc)
 
-pub offered_at : (held : Held) (stalled : Bool) (f : InputFile) (left : List ℕ) (i : Input) (o : Offer) → IsSome held → IsAt held f left i → IsReady held stalled f left i o → IsOffered (not stalled) left o
+pub offered_at : (held : Held) (stalled : Bool) (f : InputFile) (left : List ℕ) (i : Input)
+    (o : Offer) → IsSome held → IsAt held f left i → IsReady held stalled f left i o
+    → IsOffered (not stalled) left o
 offered_at held true f left i o told at r = (ap (λ (x : Offer). x.valid) r.offer_is, ap (λ (x : Offer). x.word) r.offer_is)
 offered_at held false f left i o told at r = by i.waiting refl
   where
@@ -198,14 +202,22 @@ module _
           clock = given.clock;
           reset = given.restarts;
           steadily = given.steadily;
-          held = held_from (event_from stalled (length o.inputs) (length o.outputs)) o.holds holds 0 v given.held (λ j lt. hold j ∙ ap (λ n. get_or stalled (length o.inputs + length o.outputs + n) false) (omega arith));
+          held = held_from (event_from stalled (length o.inputs)
+              (length o.outputs)) o.holds holds 0 v given.held
+              (λ j lt. hold j ∙ ap (λ n. get_or stalled
+              (length o.inputs + length o.outputs + n) false) (omega arith));
           offered = offered_from (event_from stalled (length o.inputs) (length o.outputs)) o.inputs lefts offers 0 v given.words given.valid (omega (arith, at.lists)) (λ j ws e. (
               let within = slice_get_within lefts j ws e in
               let f = item_in fs j (omega (arith, at.files, at.lists)) in
               let i = item_in is j (omega (arith, at.lists)) in
-              let here = offered_at held (get_or stalled j false) f.0 ws i.0 (get_or offers j nothing) told (at.each j f.0 ws i.0 f.1 e i.1) (ready j f.0 ws i.0 (slice_get_within is j i.0 i.1) f.1 e i.1) in
+              let here = offered_at held (get_or stalled j false) f.0 ws i.0
+              (get_or offers j nothing) told (at.each j f.0 ws i.0 f.1 e i.1)
+              (ready j f.0 ws i.0 (slice_get_within is j i.0 i.1) f.1 e i.1) in
               subst (λ n. IsOffered (not (get_or stalled n false)) ws (get_or offers j nothing)) (omega arith) here));
-          accepted = accepted_from (event_from stalled (length o.inputs) (length o.outputs)) o.outputs accepts 0 v given.accepted (λ j lt. accept j lt ∙ ap (λ n. not (get_or stalled (length o.inputs + n) false)) (omega arith));
+          accepted = accepted_from (event_from stalled (length o.inputs)
+              (length o.outputs)) o.outputs accepts 0 v given.accepted
+              (λ j lt. accept j lt ∙ ap (λ n. not (get_or stalled (length o.inputs + n) false))
+              (omega arith));
         }
 
     pub idle_at_zero : IdleAtZero o.inputs v

@@ -34,13 +34,17 @@ in_set xs k j x y e here there = ⊎_elim
     (cases_eq j k)
 
 -- what holds of each item before a place, and of the one written there
-pub each_more : {A : Type 0} (P : ℕ → A → Type 0) (xs : List A) (k : ℕ) (x : A) → ((j : ℕ) (y : A) → j < k → slice_get xs j ≡ Some y → P j y) → P k x → (j : ℕ) (y : A) → j < k + 1 → slice_get (set xs k x) j ≡ Some y → P j y
+pub each_more : {A : Type 0} (P : ℕ → A → Type 0) (xs : List A) (k : ℕ) (x : A)
+    → ((j : ℕ) (y : A) → j < k → slice_get xs j ≡ Some y → P j y) → P k x → (j : ℕ) (y : A)
+    → j < k + 1 → slice_get (set xs k x) j ≡ Some y → P j y
 each_more P xs k x below here j y lt e = in_set xs k j x y e
     (λ q w s. subst (λ z. P j z) (sym s) (subst (λ i. P i x) (sym q) here))
     (λ n there. below j y (omega arith) there)
 
 -- what holds of each item, and of the one written in place of another
-pub each_set : {A : Type 0} (P : ℕ → A → Type 0) (xs : List A) (k : ℕ) (x : A) → ((j : ℕ) (y : A) → slice_get xs j ≡ Some y → P j y) → P k x → (j : ℕ) (y : A) → slice_get (set xs k x) j ≡ Some y → P j y
+pub each_set : {A : Type 0} (P : ℕ → A → Type 0) (xs : List A) (k : ℕ) (x : A)
+    → ((j : ℕ) (y : A) → slice_get xs j ≡ Some y → P j y) → P k x → (j : ℕ) (y : A)
+    → slice_get (set xs k x) j ≡ Some y → P j y
 each_set P xs k x each here j y e = in_set xs k j x y e
     (λ q w s. subst (λ z. P j z) (sym s) (subst (λ i. P i x) (sym q) here))
     (λ n there. each j y there)
@@ -64,7 +68,9 @@ item_in (x ∷ xs) zero h = (x, refl)
 item_in (x ∷ xs) (suc k) h = item_in xs k (omega arith)
 
 -- what holds of each item, and of one more
-pub each_push : {A : Type 0} (P : ℕ → A → Type 0) (xs : List A) (x : A) → ((j : ℕ) (y : A) → slice_get xs j ≡ Some y → P j y) → P (length xs) x → (j : ℕ) (y : A) → slice_get (xs ++ x ∷ []) j ≡ Some y → P j y
+pub each_push : {A : Type 0} (P : ℕ → A → Type 0) (xs : List A) (x : A)
+    → ((j : ℕ) (y : A) → slice_get xs j ≡ Some y → P j y) → P (length xs) x → (j : ℕ) (y : A)
+    → slice_get (xs ++ x ∷ []) j ≡ Some y → P j y
 each_push P [] x each here zero y e = let q : x ≡ y = cc in subst (P zero) q here
 each_push P [] x each here (suc j) y e = absurd (cc)
 each_push P (z ∷ xs) x each here zero y e = each zero y e
@@ -93,5 +99,7 @@ get_either (z ∷ xs) ys zero x e left right = left e
 get_either (z ∷ xs) ys (suc i) x e left right = get_either xs ys i x e left (λ j q at. right j (omega (arith, q)) at)
 
 -- lists that a function sees alike
-pub same_map_at : {A B C : Type 0} (f : A → C) (g : B → C) (xs : List A) (ys : List B) (k : ℕ) (x : A) → map f xs ≡ map g ys → slice_get xs k ≡ Some x → (y : B) × (slice_get ys k ≡ Some y) × (g y ≡ f x)
+pub same_map_at : {A B C : Type 0} (f : A → C) (g : B
+    → C) (xs : List A) (ys : List B) (k : ℕ) (x : A) → map f xs ≡ map g ys
+    → slice_get xs k ≡ Some x → (y : B) × (slice_get ys k ≡ Some y) × (g y ≡ f x)
 same_map_at f g xs ys k x e at = map_from g ys k (f x) (ap (λ l. slice_get l k) (sym e) ∙ map_at f xs k x at)

@@ -1,5 +1,8 @@
 -- Lists looked up by names, and what a run file that fits the ports says of the plan that is made of it.
-use Rattle.std.proofs.Common.{◌≡◌, ℕ, zero, suc, ◌+◌, ◌<◌, Bool, true, false, ◌||◌, cond, List, [], ◌∷◌, ◌++◌, length, map, take, get_or, bytes_eq, Option, Some, None, IsSome, option_map, Bor, BTreeMap, nat_cmp, refl, sym, ap, ◌∙◌, subst, rules}
+use Rattle.std.proofs.Common.{◌≡◌, ℕ, zero, suc, ◌+◌, ◌<◌, Bool, true, false, ◌||◌, cond, List, []}
+use Rattle.std.proofs.Common.{◌∷◌, ◌++◌, length, map, take, get_or, bytes_eq, Option, Some, None}
+use Rattle.std.proofs.Common.{IsSome, option_map, Bor, BTreeMap, nat_cmp, refl, sym, ap, ◌∙◌, subst}
+use Rattle.std.proofs.Common.{rules}
 use Rattle.std.specs.Prelude.{slice_get}
 use Rattle.std.specs.BTreeMap as tree
 use Rattle.std.specs.Cmp.Lexicographic.{slice_cmp, nat_list_eq_equiv}
@@ -27,7 +30,9 @@ look_up_last (y ∷ xs) x name =
     ap (cond (bytes_eq y.0 name) (Some y.1)) (look_up_last xs x name)
     ∙ first_or (bytes_eq y.0 name) y.1 (look_up xs name) (cond (bytes_eq x.0 name) (Some x.1) None)
 
-or_put : {T : Type 0} (b : Bool) (o : Option T) (value : Bor T) (old : Option (Bor T)) → option_or (option_or o (cond b (Some value.now) None)) (option_copied old) ≡ option_or o (option_copied (cond b (Some value) old))
+or_put : {T : Type 0} (b : Bool) (o : Option T) (value : Bor T) (old : Option (Bor T))
+    → option_or (option_or o (cond b (Some value.now) None)) (option_copied old) ≡ option_or o
+    (option_copied (cond b (Some value) old))
 or_put true None value old = refl
 or_put true (Some x) value old = refl
 or_put false None value old = refl
@@ -80,7 +85,9 @@ here_or_behind false false d x o e f h = f h
 
 named_there : {T : Type 0} (xs : List (Name × T)) (name : Name) → list_any (bytes_eq name) (names xs) ≡ true → IsSome (look_up xs name)
 named_there [] name h = absurd (false≢true h)
-named_there (x ∷ xs) name h = here_or_behind (bytes_eq x.0 name) (bytes_eq name x.0) (list_any (bytes_eq name) (names xs)) x.1 (look_up xs name) (nat_list_eq_equiv.symm x.0 name) (named_there xs name) h
+named_there (x ∷ xs) name h = here_or_behind (bytes_eq x.0 name) (bytes_eq name x.0)
+    (list_any (bytes_eq name) (names xs)) x.1 (look_up xs name)
+    (nat_list_eq_equiv.symm x.0 name) (named_there xs name) h
 
 -- ---- items taken one after another
 

@@ -48,7 +48,10 @@ pub ready_more :
     → ((f : InputFile) (left : List ℕ) → IsAt held f left x → IsReady held (get_or stalled k false) f left new offer)
     → AreAt held fs lefts now → AreReady held stalled fs lefts now offers k → AreReady held stalled fs lefts (set now k new) (set offers k offer) (k + 1)
 ready_more held stalled fs lefts now offers k x new offer lt at ready are below = λ j f left i less ef el ei.
-    each_more (λ j i. (f : InputFile) (left : List ℕ) → slice_get fs j ≡ Some f → slice_get lefts j ≡ Some left → IsReady held (get_or stalled j false) f left i (get_or (set offers k offer) j nothing)) now k new
+    each_more (λ j i. (f : InputFile) (left : List ℕ) → slice_get fs j ≡ Some f
+    → slice_get lefts j ≡ Some left
+    → IsReady held (get_or stalled j false) f left i
+    (get_or (set offers k offer) j nothing)) now k new
     (λ j i less ei f left ef el.
     let n : j ≢ k = omega arith in
     subst (IsReady held (get_or stalled j false) f left i) (sym (get_or-set_other offers k j offer nothing n)) (below j f left i less ef el ei))

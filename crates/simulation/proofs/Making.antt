@@ -77,8 +77,18 @@ module _ (d : Design) (m : Module) (s : Shape) (p : Plan) (has : HasShape m s) (
       let x = same_map_at (λ (i : Name × ℕ). i.1) (λ (x : Name × ℕ). x.1) p.outputs s.outputs k n fits.outputs en in
       subst (λ (y : Module). n.1 ≡ width_of y c.word) same (sym x.2 ∙ output_width m s k x.0 c has x.1 (ap (λ (o : Outer). slice_get o.outputs k) (sym outer) ∙ ec)))
 
-  pub few : IsAccepted d → top_of d ≡ Some m → all_cells d ≤ 2 ^ 26 → 2 * length (outer_of s m).holds + 3 * length (outer_of s m).inputs + 3 * length (outer_of s m).outputs + length (outer_of s m).steady ≤ 2 ^ 27
-  few accepted top cells = omega (arith, few_ports (take (length d.modules - 1) d.modules) m s (formed_top d m accepted top) has (own_cells d m accepted top cells), length_channels m (first_input s) s.inputs, length_channels m (first_output s) s.outputs, length_seconds m 2 s.kernels, length_steady m s)
+  pub few : IsAccepted d → top_of d ≡ Some m → all_cells d ≤ 2 ^ 26
+      → 2 * length (outer_of s m).holds + 3 * length (outer_of s m).inputs + 3 * length
+      (outer_of s m).outputs + length (outer_of s m).steady ≤ 2 ^ 27
+  few accepted top cells = omega (
+    arith,
+    few_ports (take (length d.modules - 1) d.modules) m s (formed_top d m accepted top) has
+        (own_cells d m accepted top cells),
+    length_channels m (first_input s) s.inputs,
+    length_channels m (first_output s) s.outputs,
+    length_seconds m 2 s.kernels,
+    length_steady m s,
+  )
 
 -- its lists have an item for each port
 pub bench_made :
@@ -113,7 +123,10 @@ bench_made d m s p b accepted top has fits apart cells design outer inputs begun
     }
 
 -- the inputs stand at the begin of their files
-pub inputs_begin : (first held : Held) (named : List (Name × ℕ)) (is : List Input) → map input_of is ≡ named → AreBegun is → ((k : ℕ) (i : Name × ℕ) → slice_get named k ≡ Some i → file_of held i.0 ≡ file_of first i.0) → AreAt held (input_files first named) (map words_of (input_files first named)) is
+pub inputs_begin : (first held : Held) (named : List (Name × ℕ)) (is : List Input)
+    → map input_of is ≡ named → AreBegun is → ((k : ℕ) (i : Name × ℕ)
+    → slice_get named k ≡ Some i → file_of held i.0 ≡ file_of first i.0)
+    → AreAt held (input_files first named) (map words_of (input_files first named)) is
 inputs_begin first held named is e begun same =
     let file = λ (i : Name × ℕ). (let f : InputFile = record { name = i.0; width = i.1; lines = option_map lines_of (unwrap_or (file_of first i.0) None) } in f) in
     let size : length named ≡ length is = sym (ap length e) ∙ length-map is input_of in
@@ -127,7 +140,10 @@ inputs_begin first held named is e begun same =
           let name : i.reader.name ≡ f.name = ap (λ (x : Name × ℕ). x.0) (sym here) ∙ ap (λ (x : InputFile). x.name) n.2 in
           let width : i.reader.width ≡ f.width = ap (λ (x : Name × ℕ). x.1) (sym here) ∙ ap (λ (x : InputFile). x.width) n.2 in
           let lines : f.lines ≡ option_map lines_of (unwrap_or (file_of held f.name) None) =
-          ap (λ (x : InputFile). x.lines) (sym n.2) ∙ ap (λ o. option_map lines_of (unwrap_or o None)) (sym (same k n.0 n.1)) ∙ ap (λ (x : Name). option_map lines_of (unwrap_or (file_of held x) None)) (ap (λ (x : InputFile). x.name) n.2) in
+          ap (λ (x : InputFile). x.lines) (sym n.2) ∙ ap
+          (λ o. option_map lines_of (unwrap_or o None)) (sym (same k n.0 n.1)) ∙ ap
+          (λ (x : Name). option_map lines_of (unwrap_or (file_of held x) None))
+          (ap (λ (x : InputFile). x.name) n.2) in
           subst (λ l. IsAt held f l i) (sym words) (begins held f i name width lines (begun k i ei)));
     }
 

@@ -19,7 +19,10 @@ use Rattle.simulation.specs.declared.plan.Plan.{Plan}
 use Rattle.simulation.proofs.OnceInputs.{same_inputs}
 use Rattle.simulation.proofs.OnceEnds.{IsBounded, IsFixed, runs_end_alike}
 
-bounded : (d : Design) (m : Module) (s : Shape) (p : Plan) (held : Held) → FitsShape p s → p.pick < 2 ^ 64 → p.edges < 2 ^ 64 → length s.inputs + length s.outputs + length s.kernels ≤ 2 ^ 32 → IsBounded (setup_of d m s p held)
+bounded : (d : Design) (m : Module) (s : Shape) (p : Plan) (held : Held) → FitsShape p s
+    → p.pick < 2 ^ 64 → p.edges < 2 ^ 64
+    → length s.inputs + length s.outputs + length s.kernels ≤ 2 ^ 32
+    → IsBounded (setup_of d m s p held)
 bounded d m s p held fit pick edges few = record {
   pick = pick;
   edges = edges;

@@ -48,19 +48,25 @@ same_reset o steady v w h g y z = record {
   accepts = none_accepted o.outputs v w h.none_accepted g.none_accepted;
 }
 
-one_offered : (b : Bool) (ch : Channel) (words : List ℕ) (v w : Family) → Offered b ch words v → Offered b ch words w → (v ch.valid ≡ 0 → v ch.word ≡ 0) → (w ch.valid ≡ 0 → w ch.word ≡ 0) → (v ch.valid ≡ w ch.valid) × (v ch.word ≡ w ch.word)
+one_offered : (b : Bool) (ch : Channel) (words : List ℕ) (v w : Family) → Offered b ch words v
+    → Offered b ch words w → (v ch.valid ≡ 0 → v ch.word ≡ 0) → (w ch.valid ≡ 0 → w ch.word ≡ 0)
+    → (v ch.valid ≡ w ch.valid) × (v ch.word ≡ w ch.word)
 one_offered true ch (x ∷ words) v w h g y z = (h.0 ∙ sym g.0, h.1 ∙ sym g.1)
 one_offered true ch [] v w h g y z = (h ∙ sym g, y h ∙ sym (z g))
 one_offered false ch words v w h g y z = (h ∙ sym g, y h ∙ sym (z g))
 
-all_offered : (e f : Event) (k : ℕ) (chs : List Channel) (left : List (List ℕ)) (v w : Family) → ((i : ℕ) → i < k + length chs → e.offers i ≡ f.offers i) → OfferedAll e k chs left v → OfferedAll f k chs left w → IdleAtZero chs v → IdleAtZero chs w → SameOffers chs v w
+all_offered : (e f : Event) (k : ℕ) (chs : List Channel) (left : List (List ℕ)) (v w : Family)
+    → ((i : ℕ) → i < k + length chs → e.offers i ≡ f.offers i) → OfferedAll e k chs left v
+    → OfferedAll f k chs left w → IdleAtZero chs v → IdleAtZero chs w → SameOffers chs v w
 all_offered e f k [] left v w same h g y z = tt
 all_offered e f k (ch ∷ chs) [] v w same h g y z = absurd h
 all_offered e f k (ch ∷ chs) (words ∷ left) v w same h g y z =
     let r = one_offered (e.offers k) ch words v w h.0 (subst (λ (b : Bool). Offered b ch words w) (sym (same k (omega arith))) g.0) y.0 z.0 in
     (r.0, r.1, all_offered e f (k + 1) chs left v w (λ i lt. same i (omega arith)) h.1 g.1 y.1 z.1)
 
-all_accepted : (e f : Event) (k : ℕ) (chs : List Channel) (v w : Family) → ((i : ℕ) → i < k + length chs → e.accepts i ≡ f.accepts i) → AcceptedAll e k chs v → AcceptedAll f k chs w → SameAccepts chs v w
+all_accepted : (e f : Event) (k : ℕ) (chs : List Channel) (v w : Family)
+    → ((i : ℕ) → i < k + length chs → e.accepts i ≡ f.accepts i) → AcceptedAll e k chs v
+    → AcceptedAll f k chs w → SameAccepts chs v w
 all_accepted e f k [] v w same h g = tt
 all_accepted e f k (ch ∷ chs) v w same h g = (h.0 ∙ ap bit (same k (omega arith)) ∙ sym g.0, all_accepted e f (k + 1) chs v w (λ i lt. same i (omega arith)) h.1 g.1)
 
@@ -68,7 +74,9 @@ all_held : (e f : Event) (k : ℕ) (ns : List ℕ) (v w : Family) → ((i : ℕ)
 all_held e f k [] v w same h g = tt
 all_held e f k (n ∷ ns) v w same h g = (h.0 ∙ ap bit (same k (omega arith)) ∙ sym g.0, all_held e f (k + 1) ns v w (λ i lt. same i (omega arith)) h.1 g.1)
 
-pub same_edge : (o : Outer) (steady : List ℕ) (left : List (List ℕ)) (e f : Event) (v w : Family) → SameEvents o e f → Under o steady left e v → Under o steady left f w → IdleAtZero o.inputs v → IdleAtZero o.inputs w → SameOutside o v w
+pub same_edge : (o : Outer) (steady : List ℕ) (left : List (List ℕ)) (e f : Event)
+    (v w : Family) → SameEvents o e f → Under o steady left e v → Under o steady left f w
+    → IdleAtZero o.inputs v → IdleAtZero o.inputs w → SameOutside o v w
 same_edge o steady left e f v w same h g y z = record {
   clock = h.clock ∙ sym g.clock;
   reset = h.reset ∙ sym g.reset;

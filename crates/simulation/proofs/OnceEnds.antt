@@ -145,7 +145,9 @@ module _ (stalls : Answers) (decided : IsDecided stalls) (s : Setup) (bounded : 
       let e : r.count ≡ n = omega (arith, r.counted) in
       subst (λ (i : ℕ). EndsAt i c left a) e r.ends
 
-  after_first : {n : ℕ} {c : AllContents} {left : List (List ℕ)} {e : Event} {es : List Event} {v : Families} {vs : List Families} {a : End} → Rest n c left (e ∷ es) (v ∷ vs) a → Rest (n + 1) (after_flat s.design s.top c v) (left_of s.outer.inputs left (v [])) es vs a
+  after_first : {n : ℕ} {c : AllContents} {left : List (List ℕ)} {e : Event} {es : List Event}
+      {v : Families} {vs : List Families} {a : End} → Rest n c left (e ∷ es) (v ∷ vs) a
+      → Rest (n + 1) (after_flat s.design s.top c v) (left_of s.outer.inputs left (v [])) es vs a
   after_first r = record {
     edges = r.edges.1;
     asked = r.asked.1;
@@ -180,7 +182,10 @@ module _ (stalls : Answers) (decided : IsDecided stalls) (s : Setup) (bounded : 
       let events = same_asked n e f (omega (arith, rest_in_time h)) h.asked.0 g.asked.0 in
       let same = fixed c v w h.edges.0 g.edges.0 (same_edge s.outer s.steady left e f (v []) (w []) events h.driven.0 g.driven.0 h.idle.0 g.idle.0) in
       let lefts : left_of s.outer.inputs left (w []) ≡ left_of s.outer.inputs left (v []) = ap (left_of s.outer.inputs left) (sym (same [] s.top refl)) in
-      let other : Rest (n + 1) (after_flat s.design s.top c v) (left_of s.outer.inputs left (w [])) fs ws b = subst (λ (x : AllContents). Rest (n + 1) x (left_of s.outer.inputs left (w [])) fs ws b) (sym (same_after c v w same)) (after_first g) in
+      let other : Rest (n + 1) (after_flat s.design s.top c v)
+      (left_of s.outer.inputs left (w [])) fs ws b = subst
+      (λ (x : AllContents). Rest (n + 1) x (left_of s.outer.inputs left (w [])) fs ws b)
+      (sym (same_after c v w same)) (after_first g) in
       rests_meet (n + 1) (after_flat s.design s.top c v) (left_of s.outer.inputs left (v [])) es fs vs ws a b (after_first h)
       (subst (λ (l : List (List ℕ)). Rest (n + 1) (after_flat s.design s.top c v) l fs ws b) lefts other)
 

@@ -9,7 +9,10 @@ use Rattle.rtl_ir.specs.declared.design.Module.{Module}
 use Rattle.rtl_ir.specs.Value.{Family}
 use Rattle.rtl_ir.specs.Run.{Channel, Outer}
 use Rattle.rtl_ir.specs.Typed.{is_input}
-use Rattle.rtl_ir.specs.Ports.{Shape, PortView, output_port, kernel_ports, scalar_ports, host_input_ports, host_output_ports, shape_ports, port_view, HasShape, port_net, net_at, nets_from, second_nets_from, channels_from, first_scalar, first_input, first_output, outer_of}
+use Rattle.rtl_ir.specs.Ports.{Shape, PortView, output_port, kernel_ports, scalar_ports}
+use Rattle.rtl_ir.specs.Ports.{host_input_ports, host_output_ports, shape_ports, port_view}
+use Rattle.rtl_ir.specs.Ports.{HasShape, port_net, net_at, nets_from, second_nets_from}
+use Rattle.rtl_ir.specs.Ports.{channels_from, first_scalar, first_input, first_output, outer_of}
 use Rattle.rtl_ir.proofs.Ports.{InputAt, input_at}
 
 abbrev pub SameNets : List ℕ → Family → Family → Type 0
@@ -54,7 +57,10 @@ module _ (m : Module) (v w : Family) where
   outwards : {A : Type 0} → true ≡ false → A
   outwards e = absurd (true≢false e)
 
-  of_kernels : (k j n : ℕ) (kernels : List (List ℕ)) (rest : List PortView) → j ≡ k + 1 → n ≡ k + 2 * length kernels → SameNets (second_nets_from m k kernels) v w → SameNets (second_nets_from m j kernels) v w → SameInputs n rest → SameInputs k (kernel_ports kernels ++ rest)
+  of_kernels : (k j n : ℕ) (kernels : List (List ℕ)) (rest : List PortView) → j ≡ k + 1
+      → n ≡ k + 2 * length kernels → SameNets (second_nets_from m k kernels) v w
+      → SameNets (second_nets_from m j kernels) v w → SameInputs n rest
+      → SameInputs k (kernel_ports kernels ++ rest)
   of_kernels k j n [] rest e f holds ticks after = from n k rest (omega (arith, f)) after
   of_kernels k j n (x ∷ kernels) rest e f holds ticks after = (
     λ _. holds.0,
@@ -64,11 +70,15 @@ module _ (m : Module) (v w : Family) where
     ),
   )
 
-  of_scalars : (k n : ℕ) (scalars : List (Name × Name × ℕ)) (rest : List PortView) → n ≡ k + length scalars → SameNets (nets_from m k scalars) v w → SameInputs n rest → SameInputs k (scalar_ports scalars ++ rest)
+  of_scalars : (k n : ℕ) (scalars : List (Name × Name × ℕ)) (rest : List PortView)
+      → n ≡ k + length scalars → SameNets (nets_from m k scalars) v w → SameInputs n rest
+      → SameInputs k (scalar_ports scalars ++ rest)
   of_scalars k n [] rest f same after = from n k rest (omega (arith, f)) after
   of_scalars k n (x ∷ scalars) rest f same after = (λ _. same.0, of_scalars (k + 1) n scalars rest (omega (arith, f)) same.1 after)
 
-  of_inputs : (k n : ℕ) (inputs : List (Name × ℕ)) (rest : List PortView) → n ≡ k + 3 * length inputs → SameOffers (channels_from m k inputs) v w → SameInputs n rest → SameInputs k (host_input_ports inputs ++ rest)
+  of_inputs : (k n : ℕ) (inputs : List (Name × ℕ)) (rest : List PortView)
+      → n ≡ k + 3 * length inputs → SameOffers (channels_from m k inputs) v w
+      → SameInputs n rest → SameInputs k (host_input_ports inputs ++ rest)
   of_inputs k n [] rest f same after = from n k rest (omega (arith, f)) after
   of_inputs k n (x ∷ inputs) rest f same after = (
     λ _. same.1,
@@ -81,7 +91,9 @@ module _ (m : Module) (v w : Family) where
     ),
   )
 
-  of_outputs : (k n : ℕ) (outputs : List (Name × ℕ)) (rest : List PortView) → n ≡ k + 3 * length outputs → SameAccepts (channels_from m k outputs) v w → SameInputs n rest → SameInputs k (host_output_ports outputs ++ rest)
+  of_outputs : (k n : ℕ) (outputs : List (Name × ℕ)) (rest : List PortView)
+      → n ≡ k + 3 * length outputs → SameAccepts (channels_from m k outputs) v w
+      → SameInputs n rest → SameInputs k (host_output_ports outputs ++ rest)
   of_outputs k n [] rest f same after = from n k rest (omega (arith, f)) after
   of_outputs k n (x ∷ outputs) rest f same after =
       let third : k + 2 ≡ k + 1 + 1 = omega arith in (
@@ -104,7 +116,10 @@ module _ (m : Module) (v w : Family) where
     ),
   )
     where
-      grouped : kernel_ports s.kernels ++ scalar_ports s.scalars ++ host_input_ports s.inputs ++ host_output_ports s.outputs ++ done_ports ≡ kernel_ports s.kernels ++ (scalar_ports s.scalars ++ (host_input_ports s.inputs ++ (host_output_ports s.outputs ++ done_ports)))
+      grouped : kernel_ports s.kernels ++ scalar_ports s.scalars ++ host_input_ports s.inputs
+          ++ host_output_ports s.outputs ++ done_ports ≡ kernel_ports s.kernels
+          ++ (scalar_ports s.scalars ++ (host_input_ports s.inputs
+          ++ (host_output_ports s.outputs ++ done_ports)))
       grouped =
           append_assoc (kernel_ports s.kernels ++ scalar_ports s.scalars ++ host_input_ports s.inputs) (host_output_ports s.outputs) done_ports
           ∙ append_assoc (kernel_ports s.kernels ++ scalar_ports s.scalars) (host_input_ports s.inputs) (host_output_ports s.outputs ++ done_ports)
@@ -134,6 +149,8 @@ module _ (m : Module) (v w : Family) where
   pub same_inputs : (s : Shape) → HasShape m s → SameOutside (outer_of s m) v w → (n : ℕ) → is_input m.ports n ≡ true → v n ≡ w n
   same_inputs s has h n input =
       let i : InputAt m.ports n = input_at m.ports n input in
-      let at : slice_get (shape_ports s) i.place ≡ Some (port_view m i.port) = ap (λ (l : List PortView). slice_get l i.place) (sym has) ∙ slice_get-map (port_view m) m.ports i.place ∙ ap (option_map (port_view m)) i.at in
+      let at : slice_get (shape_ports s) i.place ≡ Some (port_view m i.port) = ap
+      (λ (l : List PortView). slice_get l i.place) (sym has) ∙ slice_get-map
+      (port_view m) m.ports i.place ∙ ap (option_map (port_view m)) i.at in
       let net : net_at m (0 + i.place) ≡ n = (let e : 0 + i.place ≡ i.place = omega arith in ap (net_at m) e ∙ ap port_net i.at ∙ i.net) in
       subst (λ (j : ℕ). v j ≡ w j) net (at_place 0 i.place (shape_ports s) (port_view m i.port) (of_shape s h) at i.input)

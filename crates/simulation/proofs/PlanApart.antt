@@ -79,7 +79,10 @@ record FoundAt {T : Type 0} (xs : List (Name × T)) (name : Name) (value : T) : 
   place : ℕ
   at : slice_get xs place ≡ Some (name, value)
 
-found_here : {T : Type 0} (x : Name × T) (xs : List (Name × T)) (name : Name) (value : T) (b : Bool) → bytes_eq x.0 name ≡ b → (look_up xs name ≡ Some value → FoundAt xs name value) → cond b (Some x.1) (look_up xs name) ≡ Some value → FoundAt (x ∷ xs) name value
+found_here : {T : Type 0} (x : Name × T) (xs : List (Name
+    × T)) (name : Name) (value : T) (b : Bool) → bytes_eq x.0 name ≡ b
+    → (look_up xs name ≡ Some value → FoundAt xs name value)
+    → cond b (Some x.1) (look_up xs name) ≡ Some value → FoundAt (x ∷ xs) name value
 found_here x xs name value true e more at =
     let named : x.0 ≡ name = (bytes_eq-Decides x.0 name).0 e in
     let same : x.1 ≡ value = cc in

@@ -1,5 +1,7 @@
 -- The plan of a run file that fits the ports has values and files for them, in range.
-use Rattle.std.proofs.Common.{◌≡◌, ℕ, zero, suc, ◌^◌, ◌<◌, ◌≤◌, Bool, true, false, not, ◌&&◌, cond, nat_le, nat_lt, List, [], ◌∷◌, map, bytes_eq, codes, Option, Some, None, option_map, option_and_then, refl, sym, ap, ◌∙◌, subst, arith}
+use Rattle.std.proofs.Common.{◌≡◌, ℕ, zero, suc, ◌^◌, ◌<◌, ◌≤◌, Bool, true, false, not, ◌&&◌, cond}
+use Rattle.std.proofs.Common.{nat_le, nat_lt, List, [], ◌∷◌, map, bytes_eq, codes, Option, Some}
+use Rattle.std.proofs.Common.{None, option_map, option_and_then, refl, sym, ap, ◌∙◌, subst, arith}
 use Rattle.std.specs.Prelude.{slice_get}
 use Rattle.std.specs.List.{list_all}
 use Rattle.std.proofs.lemmas.Bool.{false≢true, leb-true, ltb-true}
@@ -48,7 +50,9 @@ record FirstRead {A : Type 0} (key : Name) (first : Option A) (more : Option (Li
   goes_on : more ≡ Some rest
   is : (key, value) ∷ rest ≡ xs
 
-first_read : {A : Type 0} (key : Name) (first : Option A) (more : Option (List (Name × A))) (xs : List (Name × A)) → option_and_then (λ a. option_map (λ rest. (key, a) ∷ rest) more) first ≡ Some xs → FirstRead key first more xs
+first_read : {A : Type 0} (key : Name) (first : Option A) (more : Option (List (Name
+    × A))) (xs : List (Name × A)) → option_and_then (λ a. option_map (λ rest. (key, a)
+    ∷ rest) more) first ≡ Some xs → FirstRead key first more xs
 first_read key None more xs e = absurd (cc)
 first_read key (Some a) None xs e = absurd (cc)
 first_read key (Some a) (Some rest) xs e = record { value = a; rest = rest; reads = refl; goes_on = refl; is = cc }

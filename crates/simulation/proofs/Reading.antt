@@ -1,5 +1,7 @@
 -- A line read: where the input stands then, what is behind its words, and why it stops.
-use Rattle.std.proofs.Common.{◌≡◌, ◌⊎◌, ℕ, ◌+◌, ◌^◌, ◌<◌, ◌≤◌, Bool, true, false, not, cond, nat_lt, List, [], ◌∷◌, length, drop, Option, Some, None, is_some, option_map, unwrap_or, Ok, Err, inl, inr, refl, sym, ap, ◌∙◌, subst, arith}
+use Rattle.std.proofs.Common.{◌≡◌, ◌⊎◌, ℕ, ◌+◌, ◌^◌, ◌<◌, ◌≤◌, Bool, true, false, not, cond, nat_lt}
+use Rattle.std.proofs.Common.{List, [], ◌∷◌, length, drop, Option, Some, None, is_some, option_map}
+use Rattle.std.proofs.Common.{unwrap_or, Ok, Err, inl, inr, refl, sym, ap, ◌∙◌, subst, arith}
 use Rattle.std.specs.Prelude.{IsSome, slice_get, option_and_then}
 use Rattle.std.proofs.lemmas.Bool.{false≢true}
 use Rattle.std.proofs.lemmas.Bool.Decides.{nat_tests}
@@ -35,7 +37,9 @@ lacks_told None name lacks = absurd (cc)
 lacks_told (Some files) name lacks = refl
 
 -- the words from a line on
-pub words_at_line : (width : ℕ) (all : List (List ℕ)) (n : ℕ) (line : List ℕ) → slice_get all n ≡ Some line → words_in width (drop n all) ≡ before_words (word_in width line) (words_in width (drop (n + 1) all))
+pub words_at_line : (width : ℕ) (all : List (List ℕ)) (n : ℕ) (line : List ℕ)
+    → slice_get all n ≡ Some line → words_in width (drop n all) ≡ before_words
+    (word_in width line) (words_in width (drop (n + 1) all))
 words_at_line width all n line at = ap (words_in width) (left_some all n line at)
 
 pub words_at_end : (width : ℕ) (all : List (List ℕ)) (n : ℕ) → slice_get all n ≡ None → words_in width (drop n all) ≡ []
@@ -77,7 +81,9 @@ module _ (f : InputFile) (left : List ℕ) (old : Input) (file : List ℕ) (w : 
       let n = no_more (words_at_end f.width (lines_of file) old.reader.lines at) in
       record { none_left = n.0; at_end = fault_at_line f (lines_of file) old.reader.lines w.lines n.1 ∙ ap (fault_of_line f.name (old.reader.lines + 1)) at }
 
-  at_no_word : (line : List ℕ) → slice_get (lines_of file) old.reader.lines ≡ Some line → word_in f.width line ≡ None → (left ≡ []) × (fault_behind f ≡ fault_of_line f.name (old.reader.lines + 1) (Some line))
+  at_no_word : (line : List ℕ) → slice_get (lines_of file) old.reader.lines ≡ Some line
+      → word_in f.width line ≡ None → (left ≡ [])
+      × (fault_behind f ≡ fault_of_line f.name (old.reader.lines + 1) (Some line))
   at_no_word line at says =
       let e = words_at_line f.width (lines_of file) old.reader.lines line at ∙ ap (λ o. before_words o (words_in f.width (drop (old.reader.lines + 1) (lines_of file)))) says in
       let n = no_more e in
@@ -101,12 +107,17 @@ pub record IsRead (held : Held) (old : Input) (reader : WordReader) (word : Opti
   pub width : reader.width ≡ old.reader.width
   pub unrefused : reader.refusal ≡ None
   pub lacking : Lacks held old.reader.name → IsUnread old.reader → ⊥
-  pub line : (file : List ℕ) → Holds held old.reader.name file → Follows file old.reader → IsOfLine old.reader.name old.reader.width (old.reader.lines + 1) (slice_get (lines_of file) old.reader.lines) (Ok word)
+  pub line : (file : List ℕ) → Holds held old.reader.name file → Follows file old.reader
+      → IsOfLine old.reader.name old.reader.width (old.reader.lines + 1)
+      (slice_get (lines_of file) old.reader.lines) (Ok word)
   pub follows : (file : List ℕ) → Holds held old.reader.name file → Follows file old.reader → Follows file reader
   pub lines : reader.lines ≡ old.reader.lines + cond (is_some word) 1 0
 
 module _ (held : Held) (f : InputFile) (left : List ℕ) (old : Input) (reader : WordReader) where
-  read_within : (word : Option Word) (new : Input) → new.reader ≡ reader → new.waiting ≡ word → old.waiting ≡ None → IsRead held old reader word → (file : List ℕ) → Holds held old.reader.name file → f.width ≡ old.reader.width → IsWithin f file left old → IsWithin f file left new
+  read_within : (word : Option Word) (new : Input) → new.reader ≡ reader → new.waiting ≡ word
+      → old.waiting ≡ None → IsRead held old reader word → (file : List ℕ)
+      → Holds held old.reader.name file → f.width ≡ old.reader.width → IsWithin f file left old
+      → IsWithin f file left new
   read_within None new is waits none r file holds width w =
       let at : slice_get (lines_of file) old.reader.lines ≡ None = r.line file holds w.follows in
       let same : new.reader.lines ≡ old.reader.lines = ap (λ (x : WordReader). x.lines) is ∙ r.lines ∙ omega arith in
@@ -163,7 +174,9 @@ pub read_stopped :
     → old.waiting ≡ None
     → (e ≡ errors.ReadFault → counted ⊎ Lacks held old.reader.name)
     → (Lacks held old.reader.name → IsUnread old.reader → e ≡ errors.ReadFault)
-    → ((file : List ℕ) → Holds held old.reader.name file → Follows file old.reader → IsOfLine old.reader.name old.reader.width (old.reader.lines + 1) (slice_get (lines_of file) old.reader.lines) (Err e))
+    → ((file : List ℕ) → Holds held old.reader.name file → Follows file old.reader
+    → IsOfLine old.reader.name old.reader.width (old.reader.lines + 1)
+    (slice_get (lines_of file) old.reader.lines) (Err e))
     → (e ≡ errors.WriteFault → ⊥)
     → IsAt held f left old
     → Stops held counted f left (stop_of e)
@@ -206,7 +219,9 @@ pub turned : (a b : Bool) → a ≡ not b → b ≡ not a
 turned a true e = sym (ap not e)
 turned a false e = sym (ap not e)
 
-pub begins : (held : Held) (f : InputFile) (i : Input) → i.reader.name ≡ f.name → i.reader.width ≡ f.width → f.lines ≡ option_map lines_of (unwrap_or (file_of held f.name) None) → IsBegun i → IsAt held f (words_of f) i
+pub begins : (held : Held) (f : InputFile) (i : Input) → i.reader.name ≡ f.name
+    → i.reader.width ≡ f.width → f.lines ≡ option_map lines_of
+    (unwrap_or (file_of held f.name) None) → IsBegun i → IsAt held f (words_of f) i
 begins held f i name width lines b =
     record {
       name = name;

@@ -1,5 +1,7 @@
 -- A run on its bench: an edge more, and how it ends.
-use Rattle.std.proofs.Common.{◌≡◌, ℕ, ◌+◌, ◌<◌, ◌≤◌, Bool, true, false, not, cond, zero, suc, ◌&&◌, List, [], ◌∷◌, ◌++◌, length, map, drop, take, get_or, Option, Some, Result, Ok, Err, refl, sym, ap, ◌∙◌, subst, arith}
+use Rattle.std.proofs.Common.{◌≡◌, ℕ, ◌+◌, ◌<◌, ◌≤◌, Bool, true, false, not, cond, zero, suc, ◌&&◌}
+use Rattle.std.proofs.Common.{List, [], ◌∷◌, ◌++◌, length, map, drop, take, get_or, Option, Some}
+use Rattle.std.proofs.Common.{Result, Ok, Err, refl, sym, ap, ◌∙◌, subst, arith}
 use Rattle.std.specs.Prelude.{IsSome, IfOk, IfErr, OnOk, slice_get, option_and_then, nat_eq}
 use Rattle.std.proofs.lemmas.List.{length_push}
 use Rattle.std.proofs.lemmas.Option.{slice_get_within}
@@ -41,11 +43,18 @@ use Rattle.simulation.proofs.Stepping.{inputs_after, are_at_stays, outputs_after
 fits_of : (s : Setup) (sim : State) (c : AllContents) (m : Module) (v : Families) → IsOf s sim → contents sim ≡ c → FitsFlat sim.design m (contents sim) v → FitsFlat s.design m c v
 fits_of s sim c m v is e f = subst (λ (d : Design). FitsFlat d m c v) is.design (subst (λ (x : AllContents). FitsFlat sim.design m x v) e f)
 
-after_of : (s : Setup) (sim later : State) (c : AllContents) (m : Module) (v : Families) → IsOf s sim → contents sim ≡ c → contents later ≡ after_flat sim.design m (contents sim) v → contents later ≡ after_flat s.design m c v
+after_of : (s : Setup) (sim later : State) (c : AllContents) (m : Module) (v : Families)
+    → IsOf s sim → contents sim ≡ c → contents later ≡ after_flat sim.design m (contents sim) v
+    → contents later ≡ after_flat s.design m c v
 after_of s sim later c m v is e f = f ∙ ap (λ (x : AllContents). after_flat sim.design m x v) e ∙ ap (λ (d : Design). after_flat d m c v) is.design
 
-given_of : (s : Setup) (sim : State) (reset : Bool) (offers : List Offer) (accepts holds : List Bool) (v : Family) → IsOf s sim → Given sim.outer reset sim.steady offers accepts holds v → Given s.outer reset s.steady offers accepts holds v
-given_of s sim reset offers accepts holds v is g = subst (λ (x : List ℕ). Given s.outer reset x offers accepts holds v) is.steady (subst (λ (o : Outer). Given o reset sim.steady offers accepts holds v) is.outer g)
+given_of : (s : Setup) (sim : State) (reset : Bool) (offers : List Offer)
+    (accepts holds : List Bool) (v : Family) → IsOf s sim
+    → Given sim.outer reset sim.steady offers accepts holds v
+    → Given s.outer reset s.steady offers accepts holds v
+given_of s sim reset offers accepts holds v is g = subst
+    (λ (x : List ℕ). Given s.outer reset x offers accepts holds v) is.steady
+    (subst (λ (o : Outer). Given o reset sim.steady offers accepts holds v) is.outer g)
 
 alone_of : (s : Setup) (sim : State) (reset : Bool) (v : Family) → IsOf s sim → GivenAlone sim.outer reset sim.steady v → GivenAlone s.outer reset s.steady v
 alone_of s sim reset v is g = subst (λ (x : List ℕ). GivenAlone s.outer reset x v) is.steady (subst (λ (o : Outer). GivenAlone o reset sim.steady v) is.outer g)
@@ -106,7 +115,9 @@ pub went :
     → ChangesOnlyOutputs named held later → AreOther (map input_of ks) named
     → ArePut later (all_with_moved (all_moved s.outer.outputs (own_of (g.restart ∷ g.vs))) (drop (length sim.outer.inputs) events)) ps
     → Going stalls s later next ks ps (edge + 1)
-went stalls s held later edge sim next is js ks os ps stalled offers accepts holds events named told g not_done inputs takes outputs offered ports asked at ready accept hold r kept taken only other put =
+went stalls s held later edge sim next is js ks os ps stalled offers accepts holds events named
+    told g not_done inputs takes outputs offered ports asked at ready accept hold r kept taken
+    only other put =
     let c = contents_after s s.contents (g.restart ∷ g.vs) in
     let v = r.family in
     let o = s.outer in
@@ -119,7 +130,10 @@ went stalls s held later edge sim next is js ks os ps stalled offers accepts hol
     let seen : events ≡ map (event_of (v [])) (o.inputs ++ o.outputs) = r.events_are ∙ ap (λ (x : Outer). map (event_of (v [])) (x.inputs ++ x.outputs)) g.is.outer in
     let e = event_from stalled (length o.inputs) (length o.outputs) in
     let accept' : (k : ℕ) → k < length accepts → get_or accepts k false ≡ not (get_or stalled (length o.inputs + k) false) = λ k lt. accept k lt ∙ ap (λ n. not (get_or stalled (n + k) false)) ins in
-    let hold' : (k : ℕ) → get_or holds k false ≡ get_or stalled (length o.inputs + length o.outputs + k) false = λ k. hold k ∙ ap (λ n. get_or stalled (n + length sim.outer.outputs + k) false) ins ∙ ap (λ n. get_or stalled (length o.inputs + n + k) false) outs in
+    let hold' : (k : ℕ) → get_or holds k false ≡ get_or stalled
+    (length o.inputs + length o.outputs + k) false = λ k. hold k ∙ ap
+    (λ n. get_or stalled (n + length sim.outer.outputs + k) false) ins ∙ ap
+    (λ n. get_or stalled (length o.inputs + n + k) false) outs in
     let under = under_from held o s.steady s.inputs left js stalled offers accepts holds (v []) told at ready (inputs ∙ ins) given (offered ∙ ins) accept' hold' in
     let idle = idle_at_zero held o s.steady s.inputs left js stalled offers accepts holds (v []) told at ready (inputs ∙ ins) given (offered ∙ ins) in
     record {
@@ -134,11 +148,15 @@ went stalls s held later edge sim next is js ks os ps stalled offers accepts hol
       count = length_push g.vs v ∙ ap (λ n. n + 1) g.count;
       is = record { design = ap (λ (x : State). x.design) kept ∙ g.is.design; outer = ap (λ (x : State). x.outer) kept ∙ g.is.outer; steady = ap (λ (x : State). x.steady) kept ∙ g.is.steady };
       held = after_of s sim next c s.top v g.is g.held r.after ∙ sym (contents_snoc s s.contents (g.restart ∷ g.vs) v);
-      at = subst (λ (l : List (List ℕ)). AreAt later s.inputs l ks) (sym (ap (left_after o.inputs (map words_of s.inputs)) (own_snoc g.vs v) ∙ left_snoc o.inputs (map words_of s.inputs) (own_of g.vs) (v [])))
+      at = subst (λ (l : List (List ℕ)). AreAt later s.inputs l ks)
+          (sym (ap (left_after o.inputs (map words_of s.inputs))
+          (own_snoc g.vs v) ∙ left_snoc o.inputs (map words_of s.inputs) (own_of g.vs) (v [])))
           (are_at_stays held later s.inputs (left_of o.inputs left (v [])) ks named only other
           (inputs_after held s.inputs left js ks stalled offers events o.inputs o.outputs (v []) told at ready taken takes (inputs ∙ ins) seen given.valid));
       put = subst (λ (l : List Family). ArePut later (all_moved o.outputs l) ps) (sym (own_snoc (g.restart ∷ g.vs) v))
-          (outputs_after held later o.outputs (own_of (g.restart ∷ g.vs)) (v []) (drop (length o.inputs) events) ps (outputs ∙ outs) (λ k ch at. seen_output (v []) o.inputs o.outputs events k ch seen at)
+          (outputs_after held later o.outputs (own_of (g.restart
+          ∷ g.vs)) (v []) (drop (length o.inputs) events) ps (outputs ∙ outs)
+          (λ k ch at. seen_output (v []) o.inputs o.outputs events k ch seen at)
           (subst (λ n. ArePut later (all_with_moved (all_moved o.outputs (own_of (g.restart ∷ g.vs))) (drop n events)) ps) ins put));
     }
 
@@ -148,7 +166,9 @@ begun_of held chs vs os put = λ k ch n e at.
     let o = map_from output_of os k n at in
     let p = put k o.0 o.1 in
     let words : all_moved chs vs k ≡ moved ch vs = ap (λ (c : Option Channel). moved_at c vs) e in
-    let file : p.file ≡ lines_of_words n.1 (take p.count (moved ch vs)) = p.begun ∙ ap (λ ws. lines_of_words o.0.width (take p.count ws)) words ∙ ap (λ (x : Name × ℕ). lines_of_words x.1 (take p.count (moved ch vs))) o.2 in
+    let file : p.file ≡ lines_of_words n.1 (take p.count (moved ch vs)) = p.begun ∙ ap
+    (λ ws. lines_of_words o.0.width (take p.count ws)) words ∙ ap (λ (x : Name
+    × ℕ). lines_of_words x.1 (take p.count (moved ch vs))) o.2 in
     (p.count, subst (λ (x : Name). Holds held x (lines_of_words n.1 (take p.count (moved ch vs)))) (ap (λ (x : Name × ℕ). x.0) o.2) (subst (Holds held o.0.writer.name) file p.holds))
 
 pub written_of : (held : Held) (chs : List Channel) (vs : List Family) (named : List (Name × ℕ)) → AreWhole held (all_moved chs vs) named → AreWritten held vs chs named
@@ -228,7 +248,9 @@ module _ (stalls : Answers) (s : Setup) (held : Held) (sim : State) (is : List I
 
   -- the port done, or the most edges
   pub ends_done : edge ≤ s.edges → IsDone s.top sim true → Ends stalls s g.restart g.vs (Done edge)
-  ends_done le d = subst (λ n. Ends stalls s g.restart g.vs (Done n)) g.count (done g.run (let c = g.count in omega arith) (done_of s sim (contents_after s s.contents (g.restart ∷ g.vs)) true g.is g.held d))
+  ends_done le d = subst (λ n. Ends stalls s g.restart g.vs (Done n)) g.count
+      (done g.run (let c = g.count in omega arith) (done_of s sim
+      (contents_after s s.contents (g.restart ∷ g.vs)) true g.is g.held d))
 
   pub ends_limit : edge ≡ s.edges → IsDone s.top sim false → Ends stalls s g.restart g.vs (Limit edge)
   ends_limit same d = subst (λ n. Ends stalls s g.restart g.vs (Limit n)) g.count (limit g.run (g.count ∙ same) (done_of s sim (contents_after s s.contents (g.restart ∷ g.vs)) false g.is g.held d))

@@ -14,7 +14,10 @@ use Rattle.rtl_ir.specs.declared.design.Module.{Module}
 use Rattle.rtl_ir.specs.Formed.{IsFormedModule}
 use Rattle.rtl_ir.specs.Value.{width_of, net_width}
 use Rattle.rtl_ir.specs.Run.{Channel}
-use Rattle.rtl_ir.specs.Ports.{Shape, PortView, input_port, output_port, kernel_ports, scalar_ports, host_input_ports, host_output_ports, shape_ports, port_view, HasShape, port_net, net_at, channels_from, first_input, first_output, outer_of}
+use Rattle.rtl_ir.specs.Ports.{Shape, PortView, input_port, output_port, kernel_ports, scalar_ports}
+use Rattle.rtl_ir.specs.Ports.{host_input_ports, host_output_ports, shape_ports, port_view}
+use Rattle.rtl_ir.specs.Ports.{HasShape, port_net, net_at, channels_from, first_input, first_output}
+use Rattle.rtl_ir.specs.Ports.{outer_of}
 use Rattle.verilog_sim.specs.Start.{cells_of}
 use Rattle.verilog_sim.proofs.Shapes.{channels_get, length_channels, length_shape, port_at, net_is, ticks_at}
 use Rattle.verilog_sim.proofs.Outer.{steady_net}
@@ -33,7 +36,9 @@ of_input (y ∷ xs) (suc k) i x e at =
     let e' : i ≡ suc (suc (suc (3 * k))) = omega (arith, e) in
     ap (slice_get (host_input_ports (y ∷ xs))) e' ∙ of_input xs k (3 * k) x refl at
 
-of_output : (ys : List (List ℕ × ℕ)) (k i : ℕ) (y : List ℕ × ℕ) → i ≡ 3 * k → slice_get ys k ≡ Some y → slice_get (host_output_ports ys) i ≡ Some (output_port (codes "out$" ++ y.0 ++ codes "$data") y.1)
+of_output : (ys : List (List ℕ × ℕ)) (k i : ℕ) (y : List ℕ × ℕ) → i ≡ 3 * k
+    → slice_get ys k ≡ Some y → slice_get (host_output_ports ys) i ≡ Some
+    (output_port (codes "out$" ++ y.0 ++ codes "$data") y.1)
 of_output [] k i x e at = absurd (cc)
 of_output (y ∷ xs) zero i x e at =
     let q : y ≡ x = cc in
@@ -42,7 +47,9 @@ of_output (y ∷ xs) (suc k) i x e at =
     let e' : i ≡ suc (suc (suc (3 * k))) = omega (arith, e) in
     ap (slice_get (host_output_ports (y ∷ xs))) e' ∙ of_output xs k (3 * k) x refl at
 
-of_scalar : (ss : List (List ℕ × List ℕ × ℕ)) (k : ℕ) (s : List ℕ × List ℕ × ℕ) → slice_get ss k ≡ Some s → slice_get (scalar_ports ss) k ≡ Some (input_port (codes "scalar$" ++ s.0 ++ codes "$" ++ s.1) s.2)
+of_scalar : (ss : List (List ℕ × List ℕ × ℕ)) (k : ℕ) (s : List ℕ × List ℕ × ℕ)
+    → slice_get ss k ≡ Some s → slice_get (scalar_ports ss) k ≡ Some
+    (input_port (codes "scalar$" ++ s.0 ++ codes "$" ++ s.1) s.2)
 of_scalar [] k s at = absurd (cc)
 of_scalar (t ∷ ss) zero s at = let q : t ≡ s = cc in ap (λ (z : List ℕ × List ℕ × ℕ). Some (input_port (codes "scalar$" ++ z.0 ++ codes "$" ++ z.1) z.2)) q
 of_scalar (t ∷ ss) (suc k) s at = of_scalar ss k s at
@@ -73,19 +80,45 @@ word_net m n k xs ch at =
     let lt = slice_get_within (channels_from m n xs) k ch at in
     ap (λ (c : Channel). c.word) (sym (get_or_from_slice_get (channels_from m n xs) k ch ch at) ∙ channels_get m n k xs ch (omega (arith, length_channels m n xs)))
 
-pub input_width : (m : Module) (s : Shape) (k : ℕ) (x : List ℕ × ℕ) (ch : Channel) → HasShape m s → slice_get s.inputs k ≡ Some x → slice_get (outer_of s m).inputs k ≡ Some ch → x.1 ≡ width_of m ch.word
+pub input_width : (m : Module) (s : Shape) (k : ℕ) (x : List ℕ × ℕ) (ch : Channel)
+    → HasShape m s → slice_get s.inputs k ≡ Some x → slice_get (outer_of s m).inputs k ≡ Some ch
+    → x.1 ≡ width_of m ch.word
 input_width m s k x ch has at ch_at =
-    let place = behind_two (input_port (codes "clk") 1) (input_port (codes "reset") 1) (input_port (codes "in$" ++ x.0 ++ codes "$data") x.1) _ (first_input s + 3 * k) (2 * length s.kernels + length s.scalars + 3 * k) (omega arith)
+    let place = behind_two (input_port (codes "clk") 1) (input_port (codes "reset") 1)
+    (input_port (codes "in$" ++ x.0
+    ++ codes "$data") x.1) _ (first_input s + 3 * k)
+    (2 * length s.kernels + length s.scalars + 3 * k) (omega arith)
     (get_left (kernel_ports s.kernels ++ scalar_ports s.scalars ++ host_input_ports s.inputs ++ host_output_ports s.outputs) (output_port (codes "done") 1 ∷ []) _ _
     (get_left (kernel_ports s.kernels ++ scalar_ports s.scalars ++ host_input_ports s.inputs) (host_output_ports s.outputs) _ _
-    (get_right (kernel_ports s.kernels ++ scalar_ports s.scalars) (host_input_ports s.inputs) _ (3 * k) _ (omega (arith, length-append (kernel_ports s.kernels) (scalar_ports s.scalars), kernels_length s.kernels, scalars_length s.scalars)) (of_input s.inputs k (3 * k) x refl at)))) in
+    (get_right (kernel_ports s.kernels
+    ++ scalar_ports s.scalars) (host_input_ports s.inputs) _ (3 * k) _ (omega (
+      arith,
+      length-append (kernel_ports s.kernels) (scalar_ports s.scalars),
+      kernels_length s.kernels,
+      scalars_length s.scalars,
+    ))
+    (of_input s.inputs k (3 * k) x refl at)))) in
     sym (ap (width_of m) (word_net m (first_input s) k s.inputs ch ch_at) ∙ width_at m s (first_input s + 3 * k) _ has place)
 
-pub output_width : (m : Module) (s : Shape) (k : ℕ) (y : List ℕ × ℕ) (ch : Channel) → HasShape m s → slice_get s.outputs k ≡ Some y → slice_get (outer_of s m).outputs k ≡ Some ch → y.1 ≡ width_of m ch.word
+pub output_width : (m : Module) (s : Shape) (k : ℕ) (y : List ℕ × ℕ) (ch : Channel)
+    → HasShape m s → slice_get s.outputs k ≡ Some y
+    → slice_get (outer_of s m).outputs k ≡ Some ch → y.1 ≡ width_of m ch.word
 output_width m s k y ch has at ch_at =
-    let place = behind_two (input_port (codes "clk") 1) (input_port (codes "reset") 1) (output_port (codes "out$" ++ y.0 ++ codes "$data") y.1) _ (first_output s + 3 * k) (2 * length s.kernels + length s.scalars + 3 * length s.inputs + 3 * k) (omega arith)
+    let place = behind_two (input_port (codes "clk") 1) (input_port (codes "reset") 1)
+    (output_port (codes "out$" ++ y.0
+    ++ codes "$data") y.1) _ (first_output s + 3 * k)
+    (2 * length s.kernels + length s.scalars + 3 * length s.inputs + 3 * k) (omega arith)
     (get_left (kernel_ports s.kernels ++ scalar_ports s.scalars ++ host_input_ports s.inputs ++ host_output_ports s.outputs) (output_port (codes "done") 1 ∷ []) _ _
-    (get_right (kernel_ports s.kernels ++ scalar_ports s.scalars ++ host_input_ports s.inputs) (host_output_ports s.outputs) _ (3 * k) _ (omega (arith, length-append (kernel_ports s.kernels ++ scalar_ports s.scalars) (host_input_ports s.inputs), length-append (kernel_ports s.kernels) (scalar_ports s.scalars), kernels_length s.kernels, scalars_length s.scalars, inputs_length s.inputs)) (of_output s.outputs k (3 * k) y refl at))) in
+    (get_right (kernel_ports s.kernels ++ scalar_ports s.scalars
+    ++ host_input_ports s.inputs) (host_output_ports s.outputs) _ (3 * k) _ (omega (
+      arith,
+      length-append (kernel_ports s.kernels
+          ++ scalar_ports s.scalars) (host_input_ports s.inputs),
+      length-append (kernel_ports s.kernels) (scalar_ports s.scalars),
+      kernels_length s.kernels,
+      scalars_length s.scalars,
+      inputs_length s.inputs,
+    )) (of_output s.outputs k (3 * k) y refl at))) in
     sym (ap (width_of m) (word_net m (first_output s) k s.outputs ch ch_at) ∙ width_at m s (first_output s + 3 * k) _ has place)
 
 ticks_width : (m : Module) (s : Shape) (k : ℕ) → HasShape m s → k < length s.kernels → width_of m (get_or (outer_of s m).steady k 0) ≡ 48
@@ -93,10 +126,14 @@ ticks_width m s k has lt =
     let p = port_at m s (3 + 2 * k) 48 false has (ticks_at s k (3 + 2 * k) lt refl) in
     ap (width_of m) (steady_net m s k (3 + 2 * k) (omega arith) (λ _. refl) (λ le. absurd (omega arith)) ∙ net_is m (3 + 2 * k) 48 false p) ∙ p.width
 
-scalar_width : (m : Module) (s : Shape) (k j : ℕ) (a : List ℕ × List ℕ × ℕ) → HasShape m s → k ≡ length s.kernels + j → slice_get s.scalars j ≡ Some a → width_of m (get_or (outer_of s m).steady k 0) ≡ a.2
+scalar_width : (m : Module) (s : Shape) (k j : ℕ) (a : List ℕ × List ℕ × ℕ) → HasShape m s
+    → k ≡ length s.kernels + j → slice_get s.scalars j ≡ Some a
+    → width_of m (get_or (outer_of s m).steady k 0) ≡ a.2
 scalar_width m s k j a has e at =
     let lt = slice_get_within s.scalars j a at in
-    let place = behind_two (input_port (codes "clk") 1) (input_port (codes "reset") 1) (input_port (codes "scalar$" ++ a.0 ++ codes "$" ++ a.1) a.2) _ (2 + length s.kernels + k) (2 * length s.kernels + j) (omega (arith, e))
+    let place = behind_two (input_port (codes "clk") 1) (input_port (codes "reset") 1)
+    (input_port (codes "scalar$" ++ a.0 ++ codes "$"
+    ++ a.1) a.2) _ (2 + length s.kernels + k) (2 * length s.kernels + j) (omega (arith, e))
     (get_left (kernel_ports s.kernels ++ scalar_ports s.scalars ++ host_input_ports s.inputs ++ host_output_ports s.outputs) (output_port (codes "done") 1 ∷ []) _ _
     (get_left (kernel_ports s.kernels ++ scalar_ports s.scalars ++ host_input_ports s.inputs) (host_output_ports s.outputs) _ _
     (get_left (kernel_ports s.kernels ++ scalar_ports s.scalars) (host_input_ports s.inputs) _ _
@@ -104,7 +141,9 @@ scalar_width m s k j a has e at =
     ap (width_of m) (steady_net m s k (2 + length s.kernels + k) (omega (arith, e, lt)) (λ less. absurd (omega (arith, e))) (λ _. refl)) ∙ width_at m s (2 + length s.kernels + k) _ has place
 
 -- ---- the values of a plan
-pub steady_fit : (m : Module) (s : Shape) (p : Plan) → HasShape m s → FitsShape p s → (k value : ℕ) → slice_get (p.ticks ++ p.scalars) k ≡ Some value → value < 2 ^ width_of m (get_or (outer_of s m).steady k 0)
+pub steady_fit : (m : Module) (s : Shape) (p : Plan) → HasShape m s → FitsShape p s
+    → (k value : ℕ) → slice_get (p.ticks ++ p.scalars) k ≡ Some value
+    → value < 2 ^ width_of m (get_or (outer_of s m).steady k 0)
 steady_fit m s p has fits k value at = get_either p.ticks p.scalars k value at
     (λ e.
     let lt = slice_get_within p.ticks k value e in
@@ -171,8 +210,15 @@ ports_few earlier m formed =
     let eq : get_or nets j d ≡ q.0.net = get_or_from_slice_get nets j q.0.net d (map_at (λ (p : Port). p.net) m.ports j q.0 q.1) in
     let other : get_or nets i d ≢ get_or nets j d = λ same. (let z = formed.apart i j p.0 q.0 p.1 q.1 (sym ep ∙ same ∙ eq) in omega arith) in
     grind (arith, nat_tests, other))) in
-    omega (arith, length-map m.ports (λ (p : Port). p.net), length-le_from_distinct_below nets (length m.nets) distinct (λ q e. below_nets m.ports (length m.nets) q (λ i p at. (formed.ports i p at).net) e))
+    omega (
+      arith,
+      length-map m.ports (λ (p : Port). p.net),
+      length-le_from_distinct_below nets (length m.nets) distinct
+          (λ q e. below_nets m.ports (length m.nets) q (λ i p at. (formed.ports i p at).net) e),
+    )
 
 -- a design that is simulated has few ports
-pub few_ports : (earlier : List Module) (m : Module) (s : Shape) → IsFormedModule earlier m → HasShape m s → cells_of m ≤ 2 ^ 26 → 2 * length s.kernels + length s.scalars + 3 * length s.inputs + 3 * length s.outputs ≤ 2 ^ 26
+pub few_ports : (earlier : List Module) (m : Module) (s : Shape) → IsFormedModule earlier m
+    → HasShape m s → cells_of m ≤ 2 ^ 26
+    → 2 * length s.kernels + length s.scalars + 3 * length s.inputs + 3 * length s.outputs ≤ 2 ^ 26
 few_ports earlier m s formed has cells = omega (arith, ports_few earlier m formed, ports_length m s has, cells)

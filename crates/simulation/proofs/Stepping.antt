@@ -31,21 +31,29 @@ left_length [] lefts v = refl
 left_length (ch ∷ chs) [] v = refl
 left_length (ch ∷ chs) (ws ∷ lefts) v = let r = left_length chs lefts v in omega (arith, r)
 
-left_at : (chs : List Channel) (lefts : List (List ℕ)) (v : Family) (k : ℕ) (ch : Channel) (ws : List ℕ) → slice_get chs k ≡ Some ch → slice_get lefts k ≡ Some ws → slice_get (left_of chs lefts v) k ≡ Some (cond (moves ch v) (drop 1 ws) ws)
+left_at : (chs : List Channel) (lefts : List (List ℕ)) (v : Family) (k : ℕ) (ch : Channel)
+    (ws : List ℕ) → slice_get chs k ≡ Some ch → slice_get lefts k ≡ Some ws
+    → slice_get (left_of chs lefts v) k ≡ Some (cond (moves ch v) (drop 1 ws) ws)
 left_at [] lefts v k ch ws e f = absurd (cc)
 left_at (c ∷ chs) [] v k ch ws e f = absurd (cc)
-left_at (c ∷ chs) (x ∷ lefts) v zero ch ws e f = let p : c ≡ ch = cc in let q : x ≡ ws = cc in ap (λ (d : Channel). Some (cond (moves d v) (drop 1 x) x)) p ∙ ap (λ l. Some (cond (moves ch v) (drop 1 l) l)) q
+left_at (c ∷ chs) (x ∷ lefts) v zero ch ws e f = let p : c ≡ ch = cc in let q : x
+    ≡ ws = cc in ap (λ (d : Channel). Some (cond (moves d v) (drop 1 x) x)) p ∙ ap
+    (λ l. Some (cond (moves ch v) (drop 1 l) l)) q
 left_at (c ∷ chs) (x ∷ lefts) v (suc k) ch ws e f = left_at chs lefts v k ch ws e f
 
 -- ---- what is seen of the streams
-seen_input : (v : Family) (ins outs : List Channel) (events : List Seen) (k : ℕ) (ch : Channel) → events ≡ map (event_of v) (ins ++ outs) → slice_get ins k ≡ Some ch → get_or events k unmoved ≡ event_of v ch
+seen_input : (v : Family) (ins outs : List Channel) (events : List Seen) (k : ℕ) (ch : Channel)
+    → events ≡ map (event_of v) (ins ++ outs) → slice_get ins k ≡ Some ch
+    → get_or events k unmoved ≡ event_of v ch
 seen_input v ins outs events k ch is at =
     let lt = slice_get_within ins k ch at in
     ap (λ (l : List Seen). get_or l k unmoved) (is ∙ map-append (event_of v) ins outs)
     ∙ get_or_append_left (map (event_of v) ins) (map (event_of v) outs) unmoved k (omega (arith, length-map ins (event_of v)))
     ∙ get_or_from_slice_get (map (event_of v) ins) k (event_of v ch) unmoved (map_at (event_of v) ins k ch at)
 
-pub seen_output : (v : Family) (ins outs : List Channel) (events : List Seen) (k : ℕ) (ch : Channel) → events ≡ map (event_of v) (ins ++ outs) → slice_get outs k ≡ Some ch → get_or (drop (length ins) events) k unmoved ≡ event_of v ch
+pub seen_output : (v : Family) (ins outs : List Channel) (events : List Seen) (k : ℕ)
+    (ch : Channel) → events ≡ map (event_of v) (ins ++ outs) → slice_get outs k ≡ Some ch
+    → get_or (drop (length ins) events) k unmoved ≡ event_of v ch
 seen_output v ins outs events k ch is at =
     get_or-drop (length ins) events k unmoved
     ∙ ap (λ (l : List Seen). get_or l (length ins + k) unmoved) (is ∙ map-append (event_of v) ins outs)
@@ -54,7 +62,9 @@ seen_output v ins outs events k ch is at =
     ∙ get_or_from_slice_get (map (event_of v) outs) k (event_of v ch) unmoved (map_at (event_of v) outs k ch at)
 
 -- ---- an input whose word was taken
-same_within : (f : InputFile) (file left later : List ℕ) (i j : Input) → j.reader ≡ i.reader → later ≡ with_waiting j.waiting (words_behind f.width file i) → IsWithin f file left i → IsWithin f file later j
+same_within : (f : InputFile) (file left later : List ℕ) (i j : Input) → j.reader ≡ i.reader
+    → later ≡ with_waiting j.waiting (words_behind f.width file i) → IsWithin f file left i
+    → IsWithin f file later j
 same_within f file left later i j reader is w =
     let behind : words_behind f.width file j ≡ words_behind f.width file i = ap (λ (r : WordReader). words_in f.width (drop r.lines (lines_of file))) reader in
     record {
@@ -83,7 +93,9 @@ module _ (held : Held) (f : InputFile) (left : List ℕ) (i j : Input) (told : I
         name = ap (λ (r : WordReader). r.name) t.reader ∙ at.name;
         width = ap (λ (r : WordReader). r.width) t.reader ∙ at.width;
         unrefused = ap (λ (r : WordReader). r.refusal) t.reader ∙ at.unrefused;
-        within = λ file holds. same_within f file left left i j t.reader ((at.within file holds).left_is ∙ ap (λ w. with_waiting w (words_behind f.width file i)) (sym t.waiting)) (at.within file holds);
+        within = λ file holds. same_within f file left left i j t.reader
+            ((at.within file holds).left_is ∙ ap (λ w. with_waiting w
+            (words_behind f.width file i)) (sym t.waiting)) (at.within file holds);
         lacking = λ lacks. (let l = at.lacking lacks in record { lines = l.lines; none_left = l.none_left; none_waits = t.waiting ∙ l.none_waits; unread = subst IsUnread (sym t.reader) l.unread });
       }
 
@@ -99,13 +111,17 @@ module _ (held : Held) (f : InputFile) (left : List ℕ) (i j : Input) (told : I
         lacking = λ lacks. absurd (let n = (at.lacking lacks).none_waits in cc);
       }
 
-  moved_on : (stalled : Bool) (o : Offer) (ch : Channel) (v : Family) (moves_is : Bool) → moves ch v ≡ moves_is → IsReady held stalled f left i o → v ch.valid ≡ bit o.valid → IsTaken moves_is i j → IsAt held f (cond moves_is (drop 1 left) left) j
+  moved_on : (stalled : Bool) (o : Offer) (ch : Channel) (v : Family) (moves_is : Bool)
+      → moves ch v ≡ moves_is → IsReady held stalled f left i o → v ch.valid ≡ bit o.valid
+      → IsTaken moves_is i j → IsAt held f (cond moves_is (drop 1 left) left) j
   moved_on stalled o ch v true m r valid t =
       let w = valid_waits stalled i.waiting o r.offer_is (sym valid ∙ moved_valid ch v m) in
       taken t w.0 w.1
   moved_on stalled o ch v false m r valid t = not_taken t
 
-valid_at : (chs : List Channel) (offers : List Offer) (v : Family) (k : ℕ) (ch : Channel) → Same (map (λ (c : Channel). c.valid) chs) (map (λ (x : Offer). bit x.valid) offers) v → slice_get chs k ≡ Some ch → v ch.valid ≡ bit (get_or offers k nothing).valid
+valid_at : (chs : List Channel) (offers : List Offer) (v : Family) (k : ℕ) (ch : Channel)
+    → Same (map (λ (c : Channel). c.valid) chs) (map (λ (x : Offer). bit x.valid) offers) v
+    → slice_get chs k ≡ Some ch → v ch.valid ≡ bit (get_or offers k nothing).valid
 valid_at [] offers v k ch s e = absurd (cc)
 valid_at (c ∷ chs) [] v k ch s e = absurd s
 valid_at (c ∷ chs) (o ∷ offers) v zero ch s e = let q : c ≡ ch = cc in ap (λ (d : Channel). v d.valid) (sym q) ∙ s.0
@@ -131,7 +147,10 @@ inputs_after held fs lefts is js stalled offers events ins outs v told at ready 
           let same : left ≡ cond (moves ch.0 v) (drop 1 ws.0) ws.0 = (let q = left_at ins lefts v k ch.0 ws.0 ch.1 ws.1 in cc) in
           let t : IsTaken (moves ch.0 v) i.0 j = subst (λ (e : Seen). IsTaken e.moved i.0 j) (seen_input v ins outs events k ch.0 seen ch.1) (takes k i.0 j (slice_get_within is k i.0 i.1) i.1 ej) in
           subst (λ l. IsAt held f l j) (sym same)
-          (moved_on held f ws.0 i.0 j told here (get_or stalled k false) (get_or offers k nothing) ch.0 v (moves ch.0 v) refl (ready k f ws.0 i.0 (slice_get_within is k i.0 i.1) ef ws.1 i.1) (valid_at ins offers v k ch.0 valid ch.1) t));
+          (moved_on held f ws.0 i.0 j told here (get_or stalled k false)
+          (get_or offers k nothing) ch.0 v (moves ch.0 v) refl
+          (ready k f ws.0 i.0 (slice_get_within is k i.0 i.1) ef ws.1 i.1)
+          (valid_at ins offers v k ch.0 valid ch.1) t));
     }
 
 -- ---- files that don't change
@@ -139,7 +158,9 @@ at_stays : (held later : Held) (f : InputFile) (left : List ℕ) (i : Input) →
 at_stays held later f left i same at =
     record { name = at.name; width = at.width; unrefused = at.unrefused; within = λ file holds. at.within file (sym same ∙ holds); lacking = λ lacks. at.lacking (sym same ∙ lacks) }
 
-pub are_at_stays : (held later : Held) (fs : List InputFile) (lefts : List (List ℕ)) (is : List Input) (named : List (Name × ℕ)) → ChangesOnlyOutputs named held later → AreOther (map input_of is) named → AreAt held fs lefts is → AreAt later fs lefts is
+pub are_at_stays : (held later : Held) (fs : List InputFile) (lefts : List (List ℕ))
+    (is : List Input) (named : List (Name × ℕ)) → ChangesOnlyOutputs named held later
+    → AreOther (map input_of is) named → AreAt held fs lefts is → AreAt later fs lefts is
 are_at_stays held later fs lefts is named only other at =
     record {
       files = at.files;

@@ -10,14 +10,18 @@ use Rattle.simulation.proofs.Lists.{map_at, map_from, item_in, in_take, same_som
 use Rattle.simulation.proofs.Writing.{SomeWhole, RestPut}
 
 -- a call on one file changes none of the others
-others_stay : (named : List (Name × ℕ)) (held later : Held) (n k : ℕ) (x o : Name × ℕ) → DifferInName named → slice_get named n ≡ Some x → slice_get named k ≡ Some o → k ≢ n → ChangesOnly x.0 held later → file_of later o.0 ≡ file_of held o.0
+others_stay : (named : List (Name × ℕ)) (held later : Held) (n k : ℕ) (x o : Name × ℕ)
+    → DifferInName named → slice_get named n ≡ Some x → slice_get named k ≡ Some o → k ≢ n
+    → ChangesOnly x.0 held later → file_of later o.0 ≡ file_of held o.0
 others_stay named held later n k x o apart at there differ only = only.others o.0 (λ same. differ (apart k n o x there at same))
 
 -- the files from this one on are as they were
 abbrev pub StayBehind : ℕ → List (Name × ℕ) → Held → Held → Type 0
 StayBehind n named first held = (k : ℕ) (o : Name × ℕ) → n ≤ k → slice_get named k ≡ Some o → file_of held o.0 ≡ file_of first o.0
 
-pub stay_more : (named : List (Name × ℕ)) (first held later : Held) (n : ℕ) (x : Name × ℕ) → DifferInName named → slice_get named n ≡ Some x → ChangesOnly x.0 held later → StayBehind n named first held → StayBehind (n + 1) named first later
+pub stay_more : (named : List (Name × ℕ)) (first held later : Held) (n : ℕ) (x : Name × ℕ)
+    → DifferInName named → slice_get named n ≡ Some x → ChangesOnly x.0 held later
+    → StayBehind n named first held → StayBehind (n + 1) named first later
 stay_more named first held later n x apart at only stay k o le there =
     let differ : k ≢ n = omega arith in
     others_stay named held later n k x o apart at there differ only ∙ stay k o (omega arith) there
@@ -45,13 +49,17 @@ stopped_at first held later named os n x apart is size at only put stay = record
   where
     created : (k : ℕ) (o : Name × ℕ) → k < n → slice_get named k ≡ Some o → (y : Output) × (slice_get os k ≡ Some y) → Holds later o.0 []
     created k o lt there y =
-        let same : output_of y.0 ≡ o = same_some (slice_get named k) (output_of y.0) o (in_take n named k (output_of y.0) (ap (λ (l : List (Name × ℕ)). slice_get l k) (sym is) ∙ map_at output_of os k y.0 y.1)) there in
+        let same : output_of y.0 ≡ o = same_some (slice_get named k) (output_of y.0) o
+        (in_take n named k (output_of y.0) (ap (λ (l : List (Name
+        × ℕ)). slice_get l k) (sym is) ∙ map_at output_of os k y.0 y.1)) there in
         let empty : Holds held o.0 [] = subst (λ (z : Name × ℕ). Holds held z.0 []) same (is_empty held y.0 (put k y.0 y.1)) in
         let differ : k ≢ n = omega arith in
         others_stay named held later n k x o apart at there differ only ∙ empty
 
 -- the files that hold lines of words, where a call on one of them follows
-pub hold_but : (held later : Held) (named : List (Name × ℕ)) (n : ℕ) (x : Name × ℕ) → DifferInName named → slice_get named n ≡ Some x → ChangesOnly x.0 held later → HoldLinesBut n named held → HoldLinesBut n named later
+pub hold_but : (held later : Held) (named : List (Name × ℕ)) (n : ℕ) (x : Name × ℕ)
+    → DifferInName named → slice_get named n ≡ Some x → ChangesOnly x.0 held later
+    → HoldLinesBut n named held → HoldLinesBut n named later
 hold_but held later named n x apart at only hold k o differ there =
     let h = hold k o differ there in
     (h.0, others_stay named held later n k x o apart at there differ only ∙ h.1)
@@ -64,7 +72,9 @@ put_hold held words os named n is put k o differ there =
     let y = map_from output_of os k o (ap (λ (l : List (Name × ℕ)). slice_get l k) is ∙ there) in
     subst (λ (z : Name × ℕ). (ws : List ℕ) × Holds held z.0 (lines_of_words z.1 ws)) y.2 (put_holds held (words k) y.0 (put k y.0 y.1))
 
-pub whole_hold : (held : Held) (words : ℕ → List ℕ) (os : List Output) (named : List (Name × ℕ)) (n : ℕ) → map output_of os ≡ named → SomeWhole held words named n → RestPut held words os n → HoldLinesBut n named held
+pub whole_hold : (held : Held) (words : ℕ → List ℕ) (os : List Output) (named : List (Name
+    × ℕ)) (n : ℕ) → map output_of os ≡ named → SomeWhole held words named n
+    → RestPut held words os n → HoldLinesBut n named held
 whole_hold held words os named n is whole rest k o differ there = ⊎_elim
     (λ lt. (words k, whole k o lt there))
     (λ le.

@@ -1,5 +1,7 @@
 -- The lines of words put into the files of outputs.
-use Rattle.std.proofs.Common.{◌≡◌, ◌≢◌, ℕ, ◌+◌, ◌<◌, ◌≤◌, true, false, cond, nat_lt, List, [], ◌∷◌, ◌++◌, length, map, set, take, get_or, Some, inl, inr, refl, sym, ap, ◌∙◌, subst, ⊎_elim, append_assoc, arith}
+use Rattle.std.proofs.Common.{◌≡◌, ◌≢◌, ℕ, ◌+◌, ◌<◌, ◌≤◌, true, false, cond, nat_lt, List, [], ◌∷◌}
+use Rattle.std.proofs.Common.{◌++◌, length, map, set, take, get_or, Some, inl, inr, refl, sym, ap}
+use Rattle.std.proofs.Common.{◌∙◌, subst, ⊎_elim, append_assoc, arith}
 use Rattle.std.specs.Prelude.{IsSome, is_some, slice_get}
 use Rattle.std.proofs.lemmas.Bool.{cases_eq, cases_lt}
 use Rattle.std.proofs.lemmas.Bool.Decides.{nat_tests}
@@ -33,13 +35,21 @@ put_one held later words old new w p width written holds (inl put) =
     record {
       file = written;
       holds = holds;
-      all = ap (λ f. f ++ new.writer.waiting.items) put.0 ∙ ap (λ x. p.file ++ x) put.1 ∙ sym (append_assoc p.file old.writer.waiting.items (line old.width w)) ∙ ap (λ x. x ++ line old.width w) p.all ∙ sym (lines_push old.width words w) ∙ ap (λ n. lines_of_words n (words ++ w ∷ [])) (sym width);
+      all = ap (λ f. f ++ new.writer.waiting.items) put.0 ∙ ap (λ x. p.file
+          ++ x) put.1 ∙ sym (append_assoc p.file old.writer.waiting.items
+          (line old.width w)) ∙ ap (λ x. x
+          ++ line old.width w) p.all ∙ sym (lines_push old.width words w) ∙ ap
+          (λ n. lines_of_words n (words ++ w ∷ [])) (sym width);
       count = p.count;
       counted = (let q = p.counted in omega (arith, length_push words w));
       begun = put.0 ∙ p.begun ∙ ap (lines_of_words old.width) (sym (take-append-le p.count words (w ∷ []) p.counted)) ∙ ap (λ n. lines_of_words n (take p.count (words ++ w ∷ []))) (sym width);
     }
 put_one held later words old new w p width written holds (inr put) =
-    let all : written ≡ lines_of_words new.width (words ++ w ∷ []) = put.0 ∙ sym (append_assoc p.file old.writer.waiting.items (line old.width w)) ∙ ap (λ x. x ++ line old.width w) p.all ∙ sym (lines_push old.width words w) ∙ ap (λ n. lines_of_words n (words ++ w ∷ [])) (sym width) in
+    let all : written ≡ lines_of_words new.width (words ++ w
+    ∷ []) = put.0 ∙ sym (append_assoc p.file old.writer.waiting.items
+    (line old.width w)) ∙ ap (λ x. x
+    ++ line old.width w) p.all ∙ sym (lines_push old.width words w) ∙ ap
+    (λ n. lines_of_words n (words ++ w ∷ [])) (sym width) in
     record {
       file = written;
       holds = holds;
@@ -53,7 +63,9 @@ pub with_moved_true : (words : List ℕ) (e : Event) → e.moved ≡ true → wo
 with_moved_true words e moved = sym (ap (λ t. cond t (words ++ e.word ∷ []) words) moved)
 
 -- a call on one file of these changes no other
-pub only_more : (named : List (Name × ℕ)) (first held later : Held) (k : ℕ) (o : Name × ℕ) → slice_get named k ≡ Some o → ChangesOnlyOutputs named first held → ChangesOnly o.0 held later → ChangesOnlyOutputs named first later
+pub only_more : (named : List (Name × ℕ)) (first held later : Held) (k : ℕ) (o : Name × ℕ)
+    → slice_get named k ≡ Some o → ChangesOnlyOutputs named first held
+    → ChangesOnly o.0 held later → ChangesOnlyOutputs named first later
 only_more named first held later k o at before now =
     record { told = now.told ∙ before.told; others = λ q none. now.others q (none k o at) ∙ before.others q none }
 
@@ -65,10 +77,16 @@ pub put_stays : (held later : Held) (words : List ℕ) (o : Output) → file_of 
 put_stays held later words o same p = record { file = p.file; holds = same ∙ p.holds; all = p.all; count = p.count; counted = p.counted; begun = p.begun }
 
 -- the file of another output
-pub other_file : (os : List Output) (named : List (Name × ℕ)) (held later : Held) (j k : ℕ) (o x : Output) → map output_of os ≡ named → DifferInName named → slice_get os j ≡ Some o → slice_get os k ≡ Some x → j ≢ k → ChangesOnly x.writer.name held later → file_of later o.writer.name ≡ file_of held o.writer.name
+pub other_file : (os : List Output) (named : List (Name
+    × ℕ)) (held later : Held) (j k : ℕ) (o x : Output) → map output_of os ≡ named
+    → DifferInName named → slice_get os j ≡ Some o → slice_get os k ≡ Some x → j ≢ k
+    → ChangesOnly x.writer.name held later
+    → file_of later o.writer.name ≡ file_of held o.writer.name
 other_file os named held later j k o x is apart ej ek n only =
     only.others o.writer.name
-    (λ same. n (apart j k (output_of o) (output_of x) (ap (λ (l : List (Name × ℕ)). slice_get l j) (sym is) ∙ map_at output_of os j o ej) (ap (λ (l : List (Name × ℕ)). slice_get l k) (sym is) ∙ map_at output_of os k x ek) same))
+    (λ same. n (apart j k (output_of o) (output_of x) (ap (λ (l : List (Name
+    × ℕ)). slice_get l j) (sym is) ∙ map_at output_of os j o ej) (ap (λ (l : List (Name
+    × ℕ)). slice_get l k) (sym is) ∙ map_at output_of os k x ek) same))
 
 -- the words of the outputs before one, with those that moved
 abbrev pub some_moved : (ℕ → List ℕ) → List Event → ℕ → ℕ → List ℕ
@@ -92,7 +110,9 @@ some_other words events k j n = ⊎_elim
 pub put_none : (held : Held) (words : ℕ → List ℕ) (events : List Event) (os : List Output) → ArePut held words os → ArePut held (some_moved words events 0) os
 put_none held words events os put = λ j o e. subst (λ ws. IsPut held ws o) (sym (some_after words events 0 j (omega arith))) (put j o e)
 
-pub put_all : (held : Held) (words : ℕ → List ℕ) (events : List Event) (k : ℕ) (os : List Output) → length os ≤ k → ArePut held (some_moved words events k) os → ArePut held (all_with_moved words events) os
+pub put_all : (held : Held) (words : ℕ
+    → List ℕ) (events : List Event) (k : ℕ) (os : List Output) → length os ≤ k
+    → ArePut held (some_moved words events k) os → ArePut held (all_with_moved words events) os
 put_all held words events k os le put = λ j o e.
     subst (λ ws. IsPut held ws o) (some_before words events k j (let w = slice_get_within os j o e in omega arith)) (put j o e)
 
@@ -107,10 +127,14 @@ put_more held later words events named os k x new is apart at only step put = λ
     (subst (λ y. IsPut later (some_moved words events (k + 1) k) y) (sym same)
     (subst (λ ws. IsPut later ws new) (sym (some_before words events (k + 1) k (omega arith)))
     (step (words k) (subst (λ ws. IsPut held ws x) (some_after words events k k (omega arith)) (put k x at))))))
-    (λ n there. subst (λ ws. IsPut later ws o) (some_other words events k j n) (put_stays held later (some_moved words events k j) o (other_file os named held later j k o x is apart there at n only) (put j o there)))
+    (λ n there. subst (λ ws. IsPut later ws o) (some_other words events k j n)
+    (put_stays held later (some_moved words events k j) o
+    (other_file os named held later j k o x is apart there at n only) (put j o there)))
 
 -- a file that holds lines is not lacking
-pub not_lacking : (first held : Held) (os : List Output) (k : ℕ) (x : Output) → slice_get os k ≡ Some x → (is_some held ≡ is_some first) → (IsSome first → (words : ℕ → List ℕ) × ArePut held words os) → Lacks held x.writer.name → ⊥
+pub not_lacking : (first held : Held) (os : List Output) (k : ℕ) (x : Output)
+    → slice_get os k ≡ Some x → (is_some held ≡ is_some first)
+    → (IsSome first → (words : ℕ → List ℕ) × ArePut held words os) → Lacks held x.writer.name → ⊥
 not_lacking first held os k x at told put lacks =
     let p = put (sym told ∙ lacks_told held x.writer.name lacks) in
     let h = (p.1 k x at).holds in cc
@@ -134,7 +158,9 @@ whole_more held later words named os k x is apart at only here whole j o lt e = 
     subst (λ i. Holds later o.0 (lines_of_words o.1 (words i))) (sym q) (subst (λ (y : Name × ℕ). Holds later y.0 (lines_of_words y.1 (words k))) same here))
     (λ n.
     let there = map_from output_of os j o (ap (λ (l : List (Name × ℕ)). slice_get l j) is ∙ e) in
-    let stays : file_of later o.0 ≡ file_of held o.0 = subst (λ (y : Name × ℕ). file_of later y.0 ≡ file_of held y.0) there.2 (other_file os named held later j k there.0 x is apart there.1 at n only) in
+    let stays : file_of later o.0 ≡ file_of held o.0 = subst (λ (y : Name
+    × ℕ). file_of later y.0 ≡ file_of held y.0) there.2
+    (other_file os named held later j k there.0 x is apart there.1 at n only) in
     stays ∙ whole j o (omega arith) e)
     (cases_eq j k)
 

@@ -1,5 +1,7 @@
 -- The words that the inputs of a run offer: those of the lines of their files.
-use Rattle.std.specs.Prelude.{ℕ, ◌+◌, ◌^◌, nat_lt, List, [], ◌∷◌, length, map, Option, Some, None, is_some, unwrap_or, option_map, option_and_then, slice_get, if◌then◌else◌}
+use Rattle.std.specs.Prelude.{ℕ, ◌+◌, ◌^◌, nat_lt, List, [], ◌∷◌, length, map, Option, Some, None}
+use Rattle.std.specs.Prelude.{is_some, unwrap_or, option_map, option_and_then, slice_get}
+use Rattle.std.specs.Prelude.{if◌then◌else◌}
 use Rattle.mx_base.specs.Files.{Name, Held, file_of}
 use Rattle.word_files.specs.Hex.{word_of}
 use Rattle.word_files.specs.Lines.{lines_of}

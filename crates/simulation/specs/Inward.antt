@@ -1,5 +1,7 @@
 -- Where an input stands in its file, and what it offers.
-use Rattle.std.specs.Prelude.{◌≡◌, ◌⊎◌, ℕ, ◌+◌, ◌<◌, ◌≤◌, ◌^◌, Bool, true, false, if◌then◌else◌, List, [], ◌∷◌, length, drop, Option, Some, None, option_and_then, slice_get, slice_index_or, IsSome}
+use Rattle.std.specs.Prelude.{◌≡◌, ◌⊎◌, ℕ, ◌+◌, ◌<◌, ◌≤◌, ◌^◌, Bool, true, false, if◌then◌else◌}
+use Rattle.std.specs.Prelude.{List, [], ◌∷◌, length, drop, Option, Some, None, option_and_then}
+use Rattle.std.specs.Prelude.{slice_get, slice_index_or, IsSome}
 use Rattle.mx_base.specs.Files.{Name, Held, Holds, Lacks}
 use Rattle.mx_bits.specs.declared.word.Word.{Word}
 use Rattle.verilog_sim.specs.declared.offer.Offer.{Offer}

@@ -70,7 +70,10 @@ impl<'a> Bench<'a> {
         ensures begins { (m : Module) (s : Shape) → top_of design.now ≡ Some m → HasShape m s → IsSome (F.held files.old)
             → IfOk result (λ made. Begins (setup_of design.now m s plan (F.held files.old)) (F.held files.new) made.sim made.inputs.items made.outputs.items) }
         ensures cells { (n : ℕ) → result ≡ Err (stops.TooManyCells n) → (2 ^ 26 < all_cells design.now) × (n ≡ min (all_cells design.now) (2 ^ 64 - 1)) }
-        ensures too_many { 2 ^ 26 < all_cells design.now → IfErr result (λ e. (e ≡ stops.TooManyCells (min (all_cells design.now) (2 ^ 64 - 1))) ⊎ (e ≡ stops.NoMemory)) × (F.held files.new ≡ F.held files.old) × OnOk result ⊥ }
+        ensures too_many { 2 ^ 26 < all_cells design.now
+            → IfErr result (λ e. (e ≡ stops.TooManyCells
+            (min (all_cells design.now) (2 ^ 64 - 1))) ⊎ (e ≡ stops.NoMemory))
+            × (F.held files.new ≡ F.held files.old) × OnOk result ⊥ }
         ensures errors { IfErr result IsNewStop }
         ensures stopped { OnErr result (IsSome (F.held files.old) → (n : ℕ) × AreCreatedTo n plan.outputs (F.held files.old) (F.held files.new)) }
         ensures others { ChangesOnlyOutputs plan.outputs (F.held files.old) (F.held files.new) }
@@ -118,10 +121,15 @@ impl<'a> Bench<'a> {
         ensures errors { IfErr result IsEdgeStop }
         ensures goes { (s : Setup) (edges : ℕ) → IsSetup s pick edges → IsDone s.top self.old.sim false
             → (IsSome (F.held files.old) → Going (G.post stalls.now.test) s (F.held files.old) self.old.sim self.old.inputs.items self.old.outputs.items edge)
-            → OnOk result (IsSome (F.held files.old) → Going (G.post stalls.now.test) s (F.held files.new) self.new.sim self.new.inputs.items self.new.outputs.items (edge + 1)) }
+            → OnOk result (IsSome (F.held files.old)
+            → Going (G.post stalls.now.test) s
+            (F.held files.new) self.new.sim self.new.inputs.items self.new.outputs.items
+            (edge + 1)) }
         ensures tells { (s : Setup) (edges : ℕ) → IsSetup s pick edges → IsDone s.top self.old.sim false → edge < edges
             → (IsSome (F.held files.old) → Going (G.post stalls.now.test) s (F.held files.old) self.old.sim self.old.inputs.items self.old.outputs.items edge)
-            → IfErr result (λ e. IsSome (F.held files.old) → Tells (G.post stalls.now.test) s (map output_of self.old.outputs.items) (F.held files.new) (Err e)) }
+            → IfErr result (λ e. IsSome (F.held files.old)
+            → Tells (G.post stalls.now.test) s (map output_of self.old.outputs.items)
+            (F.held files.new) (Err e)) }
         ensures missing { (s : Setup) (edges : ℕ) → IsSetup s pick edges → (IsSome (F.held files.old) → IsDone s.top self.old.sim false) → edge < edges
             → (IsSome (F.held files.old) → Going (G.post stalls.now.test) s (F.held files.old) self.old.sim self.old.inputs.items self.old.outputs.items edge)
             → result ≡ Err stops.ReadFault → Rose (F.read_faults files.old) (F.read_faults files.new) ⊎ IsMissing (G.post stalls.now.test) s }

@@ -32,7 +32,8 @@ pub fn plan_of(alloc: Global, run: &RunFile, ports: &Interface) -> Result<Plan, 
     requires outputs { OutputsFit run.now ports.now }
     ensures plan { IfOk result (λ plan. IsPlanOf run.now ports.now plan) }
     ensures fits { (d : Data) → IsRunFile d run.now → IfOk result (λ plan. FitsShape plan (shape_of ports.now)) }
-    ensures apart { (d : Data) → IsRunFile d run.now → AllDiffer (map (λ (y : Name × ℕ). y.0) (shape_of ports.now).outputs) → IfOk result (λ plan. AreApart plan) }
+    ensures apart { (d : Data) → IsRunFile d run.now → AllDiffer (map (λ (y : Name
+        × ℕ). y.0) (shape_of ports.now).outputs) → IfOk result (λ plan. AreApart plan) }
 {
     let scalars = scalar_names(alloc, ports)?;
     Ok(Plan {

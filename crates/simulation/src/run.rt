@@ -62,7 +62,9 @@ pub fn simulate<F: Files, G: Fn(u64, u64, u32) -> bool>(
 
     // Too many cells, before any file is created.
     ensures cells { (n : ℕ) → result ≡ Err (stops.TooManyCells n) → (2 ^ 26 < all_cells design.now) × (n ≡ min (all_cells design.now) (2 ^ 64 - 1)) }
-    ensures too_many { 2 ^ 26 < all_cells design.now → IfErr result (λ e. (e ≡ stops.TooManyCells (min (all_cells design.now) (2 ^ 64 - 1))) ⊎ (e ≡ stops.NoMemory)) × (F.held files.new ≡ F.held files.old) × OnOk result ⊥ }
+    ensures too_many { 2 ^ 26 < all_cells design.now
+        → IfErr result (λ e. (e ≡ stops.TooManyCells (min (all_cells design.now) (2 ^ 64 - 1)))
+        ⊎ (e ≡ stops.NoMemory)) × (F.held files.new ≡ F.held files.old) × OnOk result ⊥ }
 
     // Failures, and what they count.
     ensures read_fault { (m : Module) (s : Shape) → top_of design.now ≡ Some m → HasShape m s → result ≡ Err stops.ReadFault

@@ -7,7 +7,8 @@ Answers = ℕ → ℕ → ℕ → Bool → Type 0
 
 -- the arguments decide the answer: no call may answer both true and false
 abbrev pub IsDecided : Answers → Type 0
-IsDecided answers = (pick edge port : ℕ) → pick < 2 ^ 64 → edge < 2 ^ 64 → port < 2 ^ 32 → (a b : Bool) → answers pick edge port a → answers pick edge port b → a ≡ b
+IsDecided answers = (pick edge port : ℕ) → pick < 2 ^ 64 → edge < 2 ^ 64 → port < 2 ^ 32
+    → (a b : Bool) → answers pick edge port a → answers pick edge port b → a ≡ b
 
 -- at pattern number 0 no port stalls
 abbrev pub IsFreeAtZero : Answers → Type 0

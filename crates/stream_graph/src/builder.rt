@@ -2,7 +2,10 @@
 ghost use Rattle.std.specs.Prelude.{◌≡◌, ◌+◌, ℕ, map};
 ghost use Rattle.std.specs.Option.{option_map};
 ghost use Rattle.kernel_calls.specs.declared.call.Call.{Call};
-ghost use Rattle.kernel_calls.specs.declared.call.Call.TheVariants.{Input, Output, Scalar, Constant, Operation, Offset, Feed, Connect, Hold, Counter, Chain, ChainDigit};
+ghost use Rattle.kernel_calls.specs.declared.call.Call.TheVariants.{Input, Output, Scalar};
+ghost use Rattle.kernel_calls.specs.declared.call.Call.TheVariants.{Constant, Operation, Offset};
+ghost use Rattle.kernel_calls.specs.declared.call.Call.TheVariants.{Feed, Connect, Hold, Counter};
+ghost use Rattle.kernel_calls.specs.declared.call.Call.TheVariants.{Chain, ChainDigit};
 
 use counter_chains::CounterDigit;
 use fix_arith::{RoundMode, StreamType};

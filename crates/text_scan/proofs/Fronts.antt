@@ -12,7 +12,9 @@ front_is text front rest e =
 
 module _ {T : Type 0} {token_of : List ℕ → Option T} {Apart : T → List ℕ → Type 0} where
   -- a word that is a token and that no longer one of the text begins with
-  pub taken : {text : List ℕ} (word rest : List ℕ) {t : T} → text ≡ word ++ rest → BeginsNoGap text → token_of word ≡ Some t → ((c : ℕ) (cs back : List ℕ) → rest ≡ c ∷ cs ++ back → IsSome (token_of (word ++ c ∷ cs)) → ⊥) → Apart t rest
+  pub taken : {text : List ℕ} (word rest : List ℕ) {t : T} → text ≡ word ++ rest
+      → BeginsNoGap text → token_of word ≡ Some t → ((c : ℕ) (cs back : List ℕ) → rest ≡ c ∷ cs
+      ++ back → IsSome (token_of (word ++ c ∷ cs)) → ⊥) → Apart t rest
       → (front : List ℕ) × (text ≡ front ++ rest) × IsNext Gaps token_of Apart front rest t
   taken {text = text} word rest {t = t} e gap is longer apart = (
     word,

@@ -81,7 +81,9 @@ open_comment text block e unclosed gap rest f (Gaps.line t c h) = slash_star (sa
 open_comment text block e unclosed gap rest f (Gaps.block t c) =
     unclosed t rest (same_tail (same_tail (sym e ∙ f)) ∙ append_assoc t (42 ∷ 47 ∷ []) rest)
 
-pub no_gap : (text : List ℕ) → ((rest : List ℕ) → text ≡ 47 ∷ 47 ∷ rest → ⊥) → ((rest : List ℕ) → text ≡ 47 ∷ 42 ∷ rest → ⊥) → ((b : ℕ) (rest : List ℕ) → text ≡ b ∷ rest → is_blank b ≡ false) → BeginsNoGap text
+pub no_gap : (text : List ℕ) → ((rest : List ℕ) → text ≡ 47 ∷ 47 ∷ rest → ⊥)
+    → ((rest : List ℕ) → text ≡ 47 ∷ 42 ∷ rest → ⊥) → ((b : ℕ) (rest : List ℕ) → text ≡ b ∷ rest
+    → is_blank b ≡ false) → BeginsNoGap text
 no_gap text line block blank gap rest f (Gaps.blank b h) = clash h (blank b rest f)
 no_gap text line block blank gap rest f (Gaps.line t c h) = line (t ++ rest) f
 no_gap text line block blank gap rest f (Gaps.block t c) = block ((t ++ 42 ∷ 47 ∷ []) ++ rest) f

@@ -39,15 +39,37 @@ ends_first (m ∷ n ∷ more) text rest back h f =
 lines : (text rest other back : List ℕ) → (Contains text 10 → ⊥) → (Contains other 10 → ⊥) → EndsLine rest → EndsLine back → text ++ rest ≡ other ++ back → Same text rest other back
 lines text rest other back h g e f same =
     elim (two_fronts text rest other back same) [
-      | inl w ↦ (let (more, p, q) = w in let none = no_more more text rest back (λ c. g (subst (λ l. Contains l 10) (sym p) c)) e q in (sym (p ∙ ap (λ l. text ++ l) none ∙ append-nil text), q ∙ ap (λ l. l ++ back) none))
-      | inr w ↦ (let (more, p, q) = w in let none = no_more more other back rest (λ c. h (subst (λ l. Contains l 10) (sym p) c)) f q in (p ∙ ap (λ l. other ++ l) none ∙ append-nil other, sym (q ∙ ap (λ l. l ++ rest) none)))
+      | inl w ↦ (let (more, p, q) = w in let none = no_more more text rest back
+          (λ c. g (subst (λ l. Contains l 10) (sym p) c)) e q in (
+            sym (p ∙ ap (λ l. text
+                ++ l) none ∙ append-nil text),
+            q ∙ ap (λ l. l ++ back) none,
+          ))
+      | inr w ↦ (let (more, p, q) = w in let none = no_more more other back rest
+          (λ c. h (subst (λ l. Contains l 10) (sym p) c)) f q in (
+            p ∙ ap (λ l. other
+                ++ l) none ∙ append-nil other,
+            sym (q ∙ ap (λ l. l ++ rest) none),
+          ))
     ]
 
 blocks : (text rest other back : List ℕ) → HasNoClose (text ++ 42 ∷ []) → HasNoClose (other ++ 42 ∷ []) → text ++ (42 ∷ 47 ∷ rest) ≡ other ++ (42 ∷ 47 ∷ back) → Same text rest other back
 blocks text rest other back h g same =
     elim (two_fronts text (42 ∷ 47 ∷ rest) other (42 ∷ 47 ∷ back) same) [
-      | inl w ↦ (let (more, p, q) = w in let none = ends_first more text rest back (subst (λ l. HasNoClose (l ++ 42 ∷ [])) p g) q in (sym (p ∙ ap (λ l. text ++ l) none ∙ append-nil text), same_tail (same_tail (q ∙ ap (λ l. l ++ (42 ∷ 47 ∷ back)) none))))
-      | inr w ↦ (let (more, p, q) = w in let none = ends_first more other back rest (subst (λ l. HasNoClose (l ++ 42 ∷ [])) p h) q in (p ∙ ap (λ l. other ++ l) none ∙ append-nil other, sym (same_tail (same_tail (q ∙ ap (λ l. l ++ (42 ∷ 47 ∷ rest)) none)))))
+      | inl w ↦ (let (more, p, q) = w in let none = ends_first more text rest back
+          (subst (λ l. HasNoClose (l ++ 42 ∷ [])) p g) q in (
+            sym (p ∙ ap (λ l. text
+                ++ l) none ∙ append-nil text),
+            same_tail (same_tail (q ∙ ap (λ l. l
+                ++ (42 ∷ 47 ∷ back)) none)),
+          ))
+      | inr w ↦ (let (more, p, q) = w in let none = ends_first more other back rest
+          (subst (λ l. HasNoClose (l ++ 42 ∷ [])) p h) q in (
+            p ∙ ap (λ l. other
+                ++ l) none ∙ append-nil other,
+            sym (same_tail (same_tail (q ∙ ap (λ l. l
+                ++ (42 ∷ 47 ∷ rest)) none))),
+          ))
     ]
 
 pub same_gap : {gap rest other back : List ℕ} → Gaps gap rest → Gaps other back → gap ++ rest ≡ other ++ back → Same gap rest other back
@@ -82,7 +104,10 @@ module _ {T : Type 0} {token_of : List ℕ → Option T} {Apart : T → List ℕ
   some_word {t = t} n e = let f : Some t ≡ None = sym n.is ∙ ap token_of e ∙ empty in absurd (cc)
 
   -- what is read of a text after what was read of it
-  rest_of : {m n : ℕ} {xs ys left : List ℕ} {ts us : List (PlacedToken T)} → ReadsAt token_of Apart n xs ts left → ReadsAt token_of Apart m ys us [] → n ≡ m → xs ≡ ys → (vs : List (PlacedToken T)) × (us ≡ ts ++ vs) × (k : ℕ) × ReadsAt token_of Apart k left vs []
+  rest_of : {m n : ℕ} {xs ys left : List ℕ} {ts us : List (PlacedToken T)}
+      → ReadsAt token_of Apart n xs ts left → ReadsAt token_of Apart m ys us [] → n ≡ m
+      → xs ≡ ys → (vs : List (PlacedToken T)) × (us ≡ ts ++ vs) × (k : ℕ)
+      × ReadsAt token_of Apart k left vs []
   rest_of {m = m} {ys = ys} {us = us} ReadsAt.end s p e = (us, refl, m, subst (λ l. ReadsAt token_of Apart m l us []) (sym e) s)
   rest_of (ReadsAt.skip {rest = rest} gap g r) ReadsAt.end p e = absurd (some_gap g (nil_front gap rest (sym e)))
   rest_of {m = m} {n = n} (ReadsAt.skip gap g r) (ReadsAt.skip other h s) p e =
@@ -115,7 +140,9 @@ module _ {T : Type 0} {token_of : List ℕ → Option T} {Apart : T → List ℕ
       sym f ∙ ap (map (λ (p : PlacedToken T). p.token)) (one_reading a b) ∙ e
 
   -- a text that is read to its end is read to its end from each place on
-  pub rest_behind : {bytes left : List ℕ} {ts us : List T} → Reads Gaps token_of Apart bytes ts left → Reads Gaps token_of Apart bytes us [] → (vs : List (PlacedToken T)) × (k : ℕ) × ReadsAt token_of Apart k left vs []
+  pub rest_behind : {bytes left : List ℕ} {ts us : List T}
+      → Reads Gaps token_of Apart bytes ts left → Reads Gaps token_of Apart bytes us []
+      → (vs : List (PlacedToken T)) × (k : ℕ) × ReadsAt token_of Apart k left vs []
   rest_behind r s =
       let (ps, e, a) = placed 0 r in
       let (qs, f, b) = placed 0 s in

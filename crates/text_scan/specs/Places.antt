@@ -11,6 +11,10 @@ pub record PlacedToken (T : Type 0) : Type 0 where
 -- the first of these bytes, which have the place n, are these tokens, and the rest is left
 pub data ReadsAt {T : Type 0} (token_of : List ℕ → Option T) (Apart : T → List ℕ → Type 0) : ℕ → List ℕ → List (PlacedToken T) → List ℕ → Type 0 where
   end : {n : ℕ} {bytes : List ℕ} → ReadsAt token_of Apart n bytes [] bytes
-  skip : {n : ℕ} {rest left : List ℕ} {ts : List (PlacedToken T)} (gap : List ℕ) → Gaps gap rest → ReadsAt token_of Apart (n + length gap) rest ts left → ReadsAt token_of Apart n (gap ++ rest) ts left
-  token : {n : ℕ} {rest left : List ℕ} {t : T} {ts : List (PlacedToken T)} (word : List ℕ) → IsNext Gaps token_of Apart word rest t → ReadsAt token_of Apart (n + length word) rest ts left
+  skip : {n : ℕ} {rest left : List ℕ} {ts : List (PlacedToken T)} (gap : List ℕ) → Gaps gap rest
+      → ReadsAt token_of Apart (n + length gap) rest ts left
+      → ReadsAt token_of Apart n (gap ++ rest) ts left
+  token : {n : ℕ} {rest left : List ℕ} {t : T} {ts : List (PlacedToken T)} (word : List ℕ)
+      → IsNext Gaps token_of Apart word rest t
+      → ReadsAt token_of Apart (n + length word) rest ts left
       → ReadsAt token_of Apart n (word ++ rest) (record { token = t; place = n } ∷ ts) left

@@ -48,7 +48,9 @@ found_one : (s : Scalar) (ss : List Scalar) (ks js : List Name) → from_kernel 
 found_one s ss [] js e h = absurd (cc)
 found_one s ss (k ∷ ks) js e h = by_test (λ g. found_one s ss ks js g h) (bytes_eq k s.0) refl e
   where
-    by_test : (from_kernel ks s.0 ≡ Some (after_scalar js) → AreByKernel ks (s ∷ ss)) → (t : Bool) → bytes_eq k s.0 ≡ t → cond t (Some (after_scalar (k ∷ ks))) (from_kernel ks s.0) ≡ Some (after_scalar js) → AreByKernel (k ∷ ks) (s ∷ ss)
+    by_test : (from_kernel ks s.0 ≡ Some (after_scalar js) → AreByKernel ks (s ∷ ss))
+        → (t : Bool) → bytes_eq k s.0 ≡ t → cond t (Some (after_scalar (k
+        ∷ ks))) (from_kernel ks s.0) ≡ Some (after_scalar js) → AreByKernel (k ∷ ks) (s ∷ ss)
     by_test more true f g =
         let same : js ≡ k ∷ ks = cc in
         let d : AreByKernel (k ∷ ks) ss = subst (λ (l : List Name). AreByKernel l ss) same h in
@@ -88,12 +90,18 @@ more_among k ks [] h = refl
 more_among k ks (s ∷ ss) h =
     let w = and_parts (is_scalar_of ks s) (list_all (is_scalar_of ks) ss) h in
     let v = and_parts (list_any (bytes_eq s.0) ks) (is_plain_name s.1) w.0 in
-    and_from (is_scalar_of (k ∷ ks) s) (list_all (is_scalar_of (k ∷ ks)) ss) (and_from (list_any (bytes_eq s.0) (k ∷ ks)) (is_plain_name s.1) (or_right (bytes_eq s.0 k) (list_any (bytes_eq s.0) ks) v.0) v.1) (more_among k ks ss w.1)
+    and_from (is_scalar_of (k ∷ ks) s) (list_all (is_scalar_of (k
+    ∷ ks)) ss) (and_from (list_any (bytes_eq s.0) (k
+    ∷ ks)) (is_plain_name s.1) (or_right (bytes_eq s.0 k)
+    (list_any (bytes_eq s.0) ks) v.0) v.1) (more_among k ks ss w.1)
 
 pub all_among : (ks : List Name) (ss : List Scalar) → AreByKernel ks ss → list_all is_plain_scalar ss ≡ true → list_all (is_scalar_of ks) ss ≡ true
 all_among ks ss none h = refl
 all_among ks ss (own {k} {ks = js} {scalars} name width d) h =
     let w = and_parts (is_plain_name k && is_plain_name name) (list_all is_plain_scalar scalars) h in
     let v = and_parts (is_plain_name k) (is_plain_name name) w.0 in
-    and_from (list_any (bytes_eq k) (k ∷ js) && is_plain_name name) (list_all (is_scalar_of (k ∷ js)) scalars) (and_from (list_any (bytes_eq k) (k ∷ js)) (is_plain_name name) (or_left (bytes_eq k k) (list_any (bytes_eq k) js) (bytes_refl k)) v.1) (all_among (k ∷ js) scalars d w.1)
+    and_from (list_any (bytes_eq k) (k ∷ js) && is_plain_name name) (list_all (is_scalar_of (k
+    ∷ js)) scalars) (and_from (list_any (bytes_eq k) (k
+    ∷ js)) (is_plain_name name) (or_left (bytes_eq k k) (list_any (bytes_eq k) js)
+    (bytes_refl k)) v.1) (all_among (k ∷ js) scalars d w.1)
 all_among ks ss (next {k} {ks = js} d) h = more_among k js ss (all_among js ss d h)

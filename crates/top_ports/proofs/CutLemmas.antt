@@ -1,5 +1,7 @@
 -- Names and their cuts at '$'.
-use Rattle.std.proofs.Common.{◌≡◌, ◌∙◌, inl, inr, ℕ, ◌+◌, ◌-◌, ◌≤◌, ◌<◌, Bool, true, false, not, cond, ◌&&◌, ◌||◌, List, [], ◌∷◌, ◌++◌, take, drop, length, get_or, Option, Some, None, refl, sym, ap, nat_eq}
+use Rattle.std.proofs.Common.{◌≡◌, ◌∙◌, inl, inr, ℕ, ◌+◌, ◌-◌, ◌≤◌, ◌<◌, Bool, true, false, not}
+use Rattle.std.proofs.Common.{cond, ◌&&◌, ◌||◌, List, [], ◌∷◌, ◌++◌, take, drop, length, get_or}
+use Rattle.std.proofs.Common.{Option, Some, None, refl, sym, ap, nat_eq}
 use Rattle.std.specs.List.{list_all}
 use Rattle.std.specs.Str.{bytes_eq}
 use Rattle.std.proofs.lemmas.Bool.{and_parts, cases_Bool, both_ways, eqb-true, or_left}
@@ -45,7 +47,10 @@ joined_cons : (b : ℕ) (head : Name) (rest : Option Name) → b ∷ joined head
 joined_cons b head None = refl
 joined_cons b head (Some rest) = refl
 
-uncut_step : (b : ℕ) (bs : Name) (t : Bool) → nat_eq b 36 ≡ t → bs ≡ joined (cut bs).head (cut bs).rest → let c = cond t (record { head = []; rest = Some bs }) (add_head b (cut bs)) in b ∷ bs ≡ joined c.head c.rest
+uncut_step : (b : ℕ) (bs : Name) (t : Bool) → nat_eq b 36 ≡ t
+    → bs ≡ joined (cut bs).head (cut bs).rest
+    → let c = cond t (record { head = []; rest = Some bs }) (add_head b (cut bs)) in b
+    ∷ bs ≡ joined c.head c.rest
 uncut_step b bs true e h = ap (λ x. x ∷ bs) (eqb-true b 36 e)
 uncut_step b bs false e h = ap (λ (l : Name). b ∷ l) h ∙ joined_cons b (cut bs).head (cut bs).rest
 
@@ -76,7 +81,10 @@ plain_is (b ∷ bs) h =
     ap (λ (t : Bool). t && list_all is_other bs) (plain_other b (letter_plain b w.0)) ∙ plain_others bs w.1
 
 -- a name that is read as far as its first '$', and one that is read to its end
-pub cut_here : (xs : Name) (i : ℕ) → i < length xs → get_or xs i 0 ≡ 36 → list_all is_other (take i xs) ≡ true → record { head = take i xs; rest = Some (take (length xs - (i + 1)) (drop (i + 1) xs)) } ≡ cut xs
+pub cut_here : (xs : Name) (i : ℕ) → i < length xs → get_or xs i 0 ≡ 36
+    → list_all is_other (take i xs) ≡ true
+    → record { head = take i xs; rest = Some (take (length xs - (i + 1)) (drop (i + 1) xs)) }
+    ≡ cut xs
 cut_here xs i lt at h =
     let e : xs ≡ take i xs ++ 36 ∷ drop (i + 1) xs =
     sym (take-append-drop i xs) ∙ ap (λ l. take i xs ++ l) (drop_more xs i 0 lt ∙ ap (λ b. b ∷ drop (i + 1) xs) at) in

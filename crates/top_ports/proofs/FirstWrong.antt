@@ -7,7 +7,11 @@ use Rattle.rtl_ir.specs.declared.design.Module.{Module}
 use Rattle.rtl_ir.specs.Ports.{Shape, PortView, ports_of, is_plain_name}
 use Rattle.top_ports.specs.Shapes.{Name, IsTop, BeginsTop, IsFirstWrong, at_port, too_few}
 use Rattle.top_ports.specs.Roles.{RoleView, clock, reset, hold, ticks, scalar, stream, done, is_plain_role, port_role}
-use Rattle.top_ports.specs.Stages.{StageView, start, after_clock, after_reset, after_hold, after_ticks, after_scalar, after_data, after_valid, after_ready, after_done, from_start, from_clock, from_reset, from_hold, from_ticks, from_scalar, from_ready, from_data, from_valid, same_side, next, next_of, run}
+use Rattle.top_ports.specs.Stages.{StageView, start, after_clock, after_reset, after_hold}
+use Rattle.top_ports.specs.Stages.{after_ticks, after_scalar, after_data, after_valid, after_ready}
+use Rattle.top_ports.specs.Stages.{after_done, from_start, from_clock, from_reset, from_hold}
+use Rattle.top_ports.specs.Stages.{from_ticks, from_scalar, from_ready, from_data, from_valid}
+use Rattle.top_ports.specs.Stages.{same_side, next, next_of, run}
 use Rattle.top_ports.specs.declared.role.Side.{Side}
 use Rattle.top_ports.specs.declared.role.Side.TheVariants.{Input, Output}
 use Rattle.top_ports.specs.declared.role.Part.TheVariants.{Data, Valid, Ready}
@@ -74,7 +78,9 @@ plain_run : (s : StageView) (ps : List PortView) (q : StageView) → IsPlainStag
 plain_run s [] q h e = let f : s ≡ q = cc in subst IsPlainStage f h
 plain_run s (p ∷ ps) q h e = by_role (λ t g f. plain_run t ps q g f) (port_role p) refl e
   where
-    by_stage : ((t : StageView) → IsPlainStage t → run (Some t) ps ≡ Some q → IsPlainStage q) → (r : RoleView) (o : Option StageView) → is_plain_role r ≡ true → next s r ≡ o → run o ps ≡ Some q → IsPlainStage q
+    by_stage : ((t : StageView) → IsPlainStage t → run (Some t) ps ≡ Some q → IsPlainStage q)
+        → (r : RoleView) (o : Option StageView) → is_plain_role r ≡ true → next s r ≡ o
+        → run o ps ≡ Some q → IsPlainStage q
     by_stage more r None w f g = let none = run_none ps in absurd (cc)
     by_stage more r (Some t) w f g = more t (plain_next s r t h w f) g
 
@@ -98,7 +104,9 @@ begins_none ps e b =
     let g : run (Some start) (ps ++ b.more) ≡ None = run_append (Some start) ps b.more ∙ ap (λ (o : Option StageView). run o b.more) e ∙ run_none b.more in
     cc
 
-pub wrong_port : (m : Module) (k : ℕ) (p : PortView) (q : StageView) → slice_get (ports_of m) k ≡ Some p → run (Some start) (take k (ports_of m)) ≡ Some q → run (Some start) (take (k + 1) (ports_of m)) ≡ None → IsFirstWrong (ports_of m) p.name
+pub wrong_port : (m : Module) (k : ℕ) (p : PortView) (q : StageView)
+    → slice_get (ports_of m) k ≡ Some p → run (Some start) (take k (ports_of m)) ≡ Some q
+    → run (Some start) (take (k + 1) (ports_of m)) ≡ None → IsFirstWrong (ports_of m) p.name
 wrong_port m k p q at e f = at_port k p at (begins (take k (ports_of m)) q e) (begins_none (take (k + 1) (ports_of m)) f)
 
 pub wrong_end : (m : Module) (q : StageView) → run (Some start) (ports_of m) ≡ Some q → (q ≡ after_done → ⊥) → IsFirstWrong (ports_of m) (codes "done")

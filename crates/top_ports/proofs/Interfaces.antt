@@ -12,7 +12,11 @@ use Rattle.rtl_ir.specs.declared.interface.KernelPorts.{KernelPorts}
 use Rattle.rtl_ir.specs.declared.interface.ScalarPort.{ScalarPort}
 use Rattle.rtl_ir.specs.declared.interface.StreamPorts.{StreamPorts}
 use Rattle.rtl_ir.specs.Interfaces.{IsInterface, shape_of, scalar_shape, stream_shape, stream_channel, nets_of}
-use Rattle.rtl_ir.specs.Ports.{Shape, PortView, kernel_ports, scalar_ports, host_input_ports, host_output_ports, port_view, ports_of, port_net, net_at, nets_from, second_nets_from, channels_from, first_scalar, first_input, first_output, done_port as done_place, outer_of, HasShape, is_plain_name}
+use Rattle.rtl_ir.specs.Ports.{Shape, PortView, kernel_ports, scalar_ports, host_input_ports}
+use Rattle.rtl_ir.specs.Ports.{host_output_ports, port_view, ports_of, port_net, net_at, nets_from}
+use Rattle.rtl_ir.specs.Ports.{second_nets_from, channels_from, first_scalar, first_input}
+use Rattle.rtl_ir.specs.Ports.{first_output, done_port as done_place, outer_of, HasShape}
+use Rattle.rtl_ir.specs.Ports.{is_plain_name}
 use Rattle.rtl_ir.specs.Run.{Channel, Outer}
 use Rattle.rtl_ir.specs.Value.{width_of}
 use Rattle.top_ports.specs.Shapes.{Name, IsTop}
@@ -35,7 +39,9 @@ Leads {B = B} at count first before k = (bs : List B) (last : ℕ) → AreRead a
 pub leads_first : {B : Type 0} (at : ℕ → Option B) (count first : ℕ) → Leads at count first [] first
 leads_first at count first bs last h = h
 
-pub leads_more : {B : Type 0} (at : ℕ → Option B) (count first : ℕ) (before : List B) (k : ℕ) (b : B) → at k ≡ Some b → Leads at count first before k → Leads at count first (before ++ b ∷ []) (k + count)
+pub leads_more : {B : Type 0} (at : ℕ
+    → Option B) (count first : ℕ) (before : List B) (k : ℕ) (b : B) → at k ≡ Some b
+    → Leads at count first before k → Leads at count first (before ++ b ∷ []) (k + count)
 leads_more at count first before k b is h bs last g =
     subst (λ l. AreRead at count first l last) (sym (append_assoc before (b ∷ []) bs)) (h (b ∷ bs) last (is, g))
 
@@ -98,7 +104,10 @@ module _ {A B : Type 0} (m : Module) (with : ℕ → Option RoleView → Option 
 
   all_read : ports [] ≡ [] → ((k : ℕ) (x : A) (xs : List A) (rest : List PortView) → good x ≡ true → drop k (ports_of m) ≡ ports (x ∷ xs) ++ rest → Stands k x xs rest)
       → (rest : List PortView) → ((k : ℕ) → with k (first_role rest) ≡ None)
-      → (xs : List A) (k : ℕ) (list : List B) (last : ℕ) → list_all good xs ≡ true → drop k (ports_of m) ≡ ports xs ++ rest → AreRead (λ n. with n (role_at m n)) count k list last → IsReadAll m make count k xs rest list last
+      → (xs : List A) (k : ℕ) (list : List B) (last : ℕ) → list_all good xs ≡ true
+      → drop k (ports_of m) ≡ ports xs ++ rest
+      → AreRead (λ n. with n (role_at m n)) count k list last
+      → IsReadAll m make count k xs rest list last
   all_read nil stands rest ends [] k [] last h e r =
       let left : drop k (ports_of m) ≡ rest = e ∙ ap (λ l. l ++ rest) nil in
       record { is = refl; place = omega (arith, r.1); left = ap (λ n. drop n (ports_of m)) r.1 ∙ left }
@@ -135,7 +144,9 @@ make_scalar m k s = record { kernel = s.0; name = s.1; width = s.2; net = net_at
 make_stream : Module → ℕ → Stream → StreamPorts
 make_stream m k x = record { name = x.0; width = x.1; word = net_at m k; valid = net_at m (k + 1); ready = net_at m (k + 2) }
 
-kernel_stands : (m : Module) (k : ℕ) (x : Name) (xs : List Name) (rest : List PortView) → is_plain_name x ≡ true → drop k (ports_of m) ≡ kernel_ports (x ∷ xs) ++ rest → Stands m (kernel_with m) (make_kernel m) 2 kernel_ports is_plain_name k x xs rest
+kernel_stands : (m : Module) (k : ℕ) (x : Name) (xs : List Name) (rest : List PortView)
+    → is_plain_name x ≡ true → drop k (ports_of m) ≡ kernel_ports (x ∷ xs) ++ rest
+    → Stands m (kernel_with m) (make_kernel m) 2 kernel_ports is_plain_name k x xs rest
 unfolding make_kernel
 kernel_stands m k x xs rest h e =
     record {
@@ -143,22 +154,42 @@ kernel_stands m k x xs rest h e =
       left = behind (ports_of m) (kernel_ports (x ∷ xs) ++ rest) k 2 e;
     }
 
-scalar_stands : (m : Module) (k : ℕ) (x : Scalar) (xs : List Scalar) (rest : List PortView) → is_plain_scalar x ≡ true → drop k (ports_of m) ≡ scalar_ports (x ∷ xs) ++ rest → Stands m (scalar_with m) (make_scalar m) 1 scalar_ports is_plain_scalar k x xs rest
+scalar_stands : (m : Module) (k : ℕ) (x : Scalar) (xs : List Scalar) (rest : List PortView)
+    → is_plain_scalar x ≡ true → drop k (ports_of m) ≡ scalar_ports (x ∷ xs) ++ rest
+    → Stands m (scalar_with m) (make_scalar m) 1 scalar_ports is_plain_scalar k x xs rest
 unfolding make_scalar
 scalar_stands m k x xs rest h e =
     record {
       is =
           ap (scalar_with m k) (role_is_of m k (scalar x.0 x.1) x.2 (scalar_ports xs ++ rest) h refl e)
-          ∙ ap (λ (w : ℕ). let s : ScalarPort = record { kernel = x.0; name = x.1; width = w; net = net_at m k } in Some s) (width_there m k (port_of (scalar x.0 x.1) x.2) (scalar_ports xs ++ rest) e);
+          ∙ ap (λ (w : ℕ). let s : ScalarPort = record
+          { kernel = x.0; name = x.1; width = w; net = net_at m k } in Some s)
+          (width_there m k (port_of (scalar x.0 x.1) x.2) (scalar_ports xs ++ rest) e);
       left = behind (ports_of m) (scalar_ports (x ∷ xs) ++ rest) k 1 e;
     }
 
-stream_is : (m : Module) (side : Side) (k : ℕ) (x : Stream) (ps : List PortView) → is_plain_stream x ≡ true → drop k (ports_of m) ≡ port_of (stream side Data x.0) x.1 ∷ ps → stream_with m side k (Some (stream side Data x.0)) ≡ Some (make_stream m k x)
+stream_is : (m : Module) (side : Side) (k : ℕ) (x : Stream) (ps : List PortView)
+    → is_plain_stream x ≡ true → drop k (ports_of m) ≡ port_of (stream side Data x.0) x.1 ∷ ps
+    → stream_with m side k (Some (stream side Data x.0)) ≡ Some (make_stream m k x)
 unfolding make_stream
-stream_is m Input k x ps h e = ap (λ (w : ℕ). let s : StreamPorts = record { name = x.0; width = w; word = net_at m k; valid = net_at m (k + 1); ready = net_at m (k + 2) } in Some s) (width_there m k (port_of (stream Input Data x.0) x.1) ps e)
-stream_is m Output k x ps h e = ap (λ (w : ℕ). let s : StreamPorts = record { name = x.0; width = w; word = net_at m k; valid = net_at m (k + 1); ready = net_at m (k + 2) } in Some s) (width_there m k (port_of (stream Output Data x.0) x.1) ps e)
+stream_is m Input k x ps h e = ap (λ (w : ℕ). let s : StreamPorts = record {
+  name = x.0;
+  width = w;
+  word = net_at m k;
+  valid = net_at m (k + 1);
+  ready = net_at m (k + 2);
+} in Some s) (width_there m k (port_of (stream Input Data x.0) x.1) ps e)
+stream_is m Output k x ps h e = ap (λ (w : ℕ). let s : StreamPorts = record {
+  name = x.0;
+  width = w;
+  word = net_at m k;
+  valid = net_at m (k + 1);
+  ready = net_at m (k + 2);
+} in Some s) (width_there m k (port_of (stream Output Data x.0) x.1) ps e)
 
-input_stands : (m : Module) (k : ℕ) (x : Stream) (xs : List Stream) (rest : List PortView) → is_plain_stream x ≡ true → drop k (ports_of m) ≡ host_input_ports (x ∷ xs) ++ rest → Stands m (stream_with m Input) (make_stream m) 3 host_input_ports is_plain_stream k x xs rest
+input_stands : (m : Module) (k : ℕ) (x : Stream) (xs : List Stream) (rest : List PortView)
+    → is_plain_stream x ≡ true → drop k (ports_of m) ≡ host_input_ports (x ∷ xs) ++ rest
+    → Stands m (stream_with m Input) (make_stream m) 3 host_input_ports is_plain_stream k x xs rest
 input_stands m k x xs rest h e =
     let ps = port_of (stream Input Valid x.0) 1 ∷ port_of (stream Input Ready x.0) 1 ∷ (host_input_ports xs ++ rest) in
     record {
@@ -166,7 +197,10 @@ input_stands m k x xs rest h e =
       left = behind (ports_of m) (host_input_ports (x ∷ xs) ++ rest) k 3 e;
     }
 
-output_stands : (m : Module) (k : ℕ) (x : Stream) (xs : List Stream) (rest : List PortView) → is_plain_stream x ≡ true → drop k (ports_of m) ≡ host_output_ports (x ∷ xs) ++ rest → Stands m (stream_with m Output) (make_stream m) 3 host_output_ports is_plain_stream k x xs rest
+output_stands : (m : Module) (k : ℕ) (x : Stream) (xs : List Stream) (rest : List PortView)
+    → is_plain_stream x ≡ true → drop k (ports_of m) ≡ host_output_ports (x ∷ xs) ++ rest
+    → Stands m (stream_with m Output)
+    (make_stream m) 3 host_output_ports is_plain_stream k x xs rest
 output_stands m k x xs rest h e =
     let ps = port_of (stream Output Valid x.0) 1 ∷ port_of (stream Output Ready x.0) 1 ∷ (host_output_ports xs ++ rest) in
     record {
@@ -191,7 +225,10 @@ no_more_scalars m [] [] h g k = ap (scalar_with m k) (role_first done 1 refl ref
 no_more_scalars m [] (y ∷ ys) h g k = ap (scalar_with m k) (role_first (stream Output Data y.0) y.1 (and_parts (is_plain_stream y) (list_all is_plain_stream ys) g).0 refl)
 no_more_scalars m (x ∷ xs) ys h g k = ap (scalar_with m k) (role_first (stream Input Data x.0) x.1 (and_parts (is_plain_stream x) (list_all is_plain_stream xs) h).0 refl)
 
-no_more_kernels : (m : Module) (ss : List Scalar) (xs ys : List Stream) → list_all is_plain_scalar ss ≡ true → list_all is_plain_stream xs ≡ true → list_all is_plain_stream ys ≡ true → (k : ℕ) → kernel_with m k (first_role (from_scalars ss xs ys)) ≡ None
+no_more_kernels : (m : Module) (ss : List Scalar) (xs ys : List Stream)
+    → list_all is_plain_scalar ss ≡ true → list_all is_plain_stream xs ≡ true
+    → list_all is_plain_stream ys ≡ true → (k : ℕ)
+    → kernel_with m k (first_role (from_scalars ss xs ys)) ≡ None
 no_more_kernels m [] [] [] f h g k = ap (kernel_with m k) (role_first done 1 refl refl)
 no_more_kernels m [] [] (y ∷ ys) f h g k = ap (kernel_with m k) (role_first (stream Output Data y.0) y.1 (and_parts (is_plain_stream y) (list_all is_plain_stream ys) g).0 refl)
 no_more_kernels m [] (x ∷ xs) ys f h g k = ap (kernel_with m k) (role_first (stream Input Data x.0) x.1 (and_parts (is_plain_stream x) (list_all is_plain_stream xs) h).0 refl)
@@ -290,9 +327,17 @@ is_interface m s i k1 k2 k3 k4 top clock reset r1 r2 r3 r4 last =
     let pi : list_all is_plain_stream s.inputs ≡ true = top.is.shape.inputs in
     let po : list_all is_plain_stream s.outputs ≡ true = top.is.shape.outputs in
     let start : drop 2 (ports_of m) ≡ kernel_ports s.kernels ++ from_scalars s.scalars s.inputs s.outputs = ap (drop 2) (top.has ∙ grouped s) in
-    let a = all_read m (kernel_with m) (make_kernel m) 2 kernel_ports is_plain_name refl (kernel_stands m) (from_scalars s.scalars s.inputs s.outputs) (no_more_kernels m s.scalars s.inputs s.outputs ps pi po) s.kernels 2 i.kernels k1 pk start r1 in
-    let b = all_read m (scalar_with m) (make_scalar m) 1 scalar_ports is_plain_scalar refl (scalar_stands m) (from_inputs s.inputs s.outputs) (no_more_scalars m s.inputs s.outputs pi po) s.scalars k1 i.scalars k2 ps a.left r2 in
-    let c = all_read m (stream_with m Input) (make_stream m) 3 host_input_ports is_plain_stream refl (input_stands m) (from_outputs s.outputs) (no_more_inputs m s.outputs po) s.inputs k2 i.inputs k3 pi b.left r3 in
+    let a = all_read m (kernel_with m) (make_kernel m) 2 kernel_ports is_plain_name refl
+    (kernel_stands m) (from_scalars s.scalars s.inputs s.outputs)
+    (no_more_kernels m s.scalars s.inputs s.outputs ps pi po) s.kernels 2 i.kernels k1 pk
+    start r1 in
+    let b = all_read m (scalar_with m) (make_scalar m) 1 scalar_ports is_plain_scalar refl
+    (scalar_stands m) (from_inputs s.inputs s.outputs)
+    (no_more_scalars m s.inputs s.outputs pi po) s.scalars k1 i.scalars k2 ps a.left r2 in
+    let c = all_read m (stream_with m Input)
+    (make_stream m) 3 host_input_ports is_plain_stream refl (input_stands m)
+    (from_outputs s.outputs)
+    (no_more_inputs m s.outputs po) s.inputs k2 i.inputs k3 pi b.left r3 in
     let d = all_read m (stream_with m Output) (make_stream m) 3 host_output_ports is_plain_stream refl (output_stands m) (done_port ∷ []) (no_more_outputs m) s.outputs k3 i.outputs k4 po c.left r4 in
     let at1 : k1 ≡ first_scalar s = a.place in
     let at2 : k2 ≡ first_input s = omega (arith, at1, b.place) in

@@ -6,7 +6,11 @@ use Rattle.std.proofs.lemmas.List.{append_assoc, append-nil}
 use Rattle.rtl_ir.specs.Ports.{PortView, kernel_ports}
 use Rattle.top_ports.specs.Shapes.{Name}
 use Rattle.top_ports.specs.Roles.{RoleView, clock, reset, hold, ticks, scalar, stream, done, HasRole, port_role}
-use Rattle.top_ports.specs.Stages.{StageView, start, after_clock, after_reset, after_hold, after_ticks, after_scalar, after_data, after_valid, after_ready, after_done, from_start, from_clock, from_reset, from_hold, from_ticks, from_scalar, from_ready, from_data, from_valid, same_side, next, next_of, run}
+use Rattle.top_ports.specs.Stages.{StageView, start, after_clock, after_reset, after_hold}
+use Rattle.top_ports.specs.Stages.{after_ticks, after_scalar, after_data, after_valid, after_ready}
+use Rattle.top_ports.specs.Stages.{after_done, from_start, from_clock, from_reset, from_hold}
+use Rattle.top_ports.specs.Stages.{from_ticks, from_scalar, from_ready, from_data, from_valid}
+use Rattle.top_ports.specs.Stages.{same_side, next, next_of, run}
 use Rattle.top_ports.specs.declared.role.Side.{Side}
 use Rattle.top_ports.specs.declared.role.Side.TheVariants.{Input, Output}
 use Rattle.top_ports.specs.declared.role.Part.TheVariants.{Data, Valid, Ready}
@@ -50,7 +54,9 @@ leads_ticks ks p (hold k) q ps w h e =
     subst (λ (s : StageView). Leads s (ps ++ p ∷ [])) f g
 leads_ticks ks p r q ps w h e = leads_scalar ks r q (ps ++ p ∷ []) e
 
-leads_hold : (ks : List Name) (k : Name) (p : PortView) (r : RoleView) (q : StageView) (ps : List PortView) → HasRole p r → Leads (after_hold ks k) ps → from_hold ks k r ≡ Some q → Leads q (ps ++ p ∷ [])
+leads_hold : (ks : List Name) (k : Name) (p : PortView) (r : RoleView) (q : StageView)
+    (ps : List PortView) → HasRole p r → Leads (after_hold ks k) ps → from_hold ks k r ≡ Some q
+    → Leads q (ps ++ p ∷ [])
 leads_hold ks k p (ticks j) q ps w h e =
     let v = if_same (bytes_eq k j) (after_ticks (ks ++ k ∷ [])) q e in
     let f : p ≡ port_of (ticks k) 48 = port_wide p (ticks j) 48 w (eqb-true p.width 48 w.width) ∙ ap (λ (n : Name). port_of (ticks n) 48) (sym (bytes_same k j v.0)) in
@@ -105,11 +111,15 @@ leads_run s ps [] q h e = let f : s ≡ q = cc in subst (λ (t : StageView). Lea
 leads_run s ps (p ∷ rest) q h e =
     subst (Leads q) (append_assoc ps (p ∷ []) rest) (by_role (λ t g f. leads_run t (ps ++ p ∷ []) rest q g f) (port_role p) refl e)
   where
-    by_stage : ((t : StageView) → Leads t (ps ++ p ∷ []) → run (Some t) rest ≡ Some q → Leads q ((ps ++ p ∷ []) ++ rest)) → (r : RoleView) (o : Option StageView) → HasRole p r → next s r ≡ o → run o rest ≡ Some q → Leads q ((ps ++ p ∷ []) ++ rest)
+    by_stage : ((t : StageView) → Leads t (ps ++ p ∷ []) → run (Some t) rest ≡ Some q
+        → Leads q ((ps ++ p ∷ []) ++ rest)) → (r : RoleView) (o : Option StageView)
+        → HasRole p r → next s r ≡ o → run o rest ≡ Some q → Leads q ((ps ++ p ∷ []) ++ rest)
     by_stage more r None w f g = let none = run_none rest in absurd (cc)
     by_stage more r (Some t) w f g = more t (leads_next s p r t ps w h f) g
 
-    by_role : ((t : StageView) → Leads t (ps ++ p ∷ []) → run (Some t) rest ≡ Some q → Leads q ((ps ++ p ∷ []) ++ rest)) → (o : Option RoleView) → port_role p ≡ o → run (next_of s o) rest ≡ Some q → Leads q ((ps ++ p ∷ []) ++ rest)
+    by_role : ((t : StageView) → Leads t (ps ++ p ∷ []) → run (Some t) rest ≡ Some q
+        → Leads q ((ps ++ p ∷ []) ++ rest)) → (o : Option RoleView) → port_role p ≡ o
+        → run (next_of s o) rest ≡ Some q → Leads q ((ps ++ p ∷ []) ++ rest)
     by_role more None f g = let none = run_none rest in absurd (cc)
     by_role more (Some r) f g = by_stage more r (next s r) (role_is p r f) refl g
 

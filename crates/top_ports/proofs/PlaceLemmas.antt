@@ -1,5 +1,7 @@
 -- The ports before a place, and the stage there.
-use Rattle.std.proofs.Common.{◌≡◌, ◌∙◌, ℕ, zero, suc, ◌+◌, ◌-◌, ◌≤◌, ◌<◌, Bool, true, false, cond, List, [], ◌∷◌, ◌++◌, take, drop, map, length, get_or, Option, Some, None, IfSome, IfNone, Bor, refl, sym, ap, subst, arith}
+use Rattle.std.proofs.Common.{◌≡◌, ◌∙◌, ℕ, zero, suc, ◌+◌, ◌-◌, ◌≤◌, ◌<◌, Bool, true, false, cond}
+use Rattle.std.proofs.Common.{List, [], ◌∷◌, ◌++◌, take, drop, map, length, get_or, Option, Some}
+use Rattle.std.proofs.Common.{None, IfSome, IfNone, Bor, refl, sym, ap, subst, arith}
 use Rattle.std.specs.Prelude.{slice_get, option_map}
 use Rattle.std.specs.Str.{bytes_eq}
 use Rattle.std.proofs.lemmas.List.{take-map, take_all, take_rest}
@@ -32,23 +34,36 @@ port_at m place p e = slice_get-map (port_view m) m.ports place ∙ ap (option_m
 pub ports_more : (m : Module) (place : ℕ) (p : Port) → slice_get m.ports place ≡ Some p → take (place + 1) (ports_of m) ≡ take place (ports_of m) ++ port_view m p ∷ []
 ports_more m place p e = take_more_at (ports_of m) place (port_view m p) (port_at m place p e)
 
-pub run_more : (m : Module) (place : ℕ) (p : Port) (q : StageView) → slice_get m.ports place ≡ Some p → run (Some start) (take place (ports_of m)) ≡ Some q → run (Some start) (take (place + 1) (ports_of m)) ≡ next_of q (port_role (port_view m p))
+pub run_more : (m : Module) (place : ℕ) (p : Port) (q : StageView)
+    → slice_get m.ports place ≡ Some p → run (Some start) (take place (ports_of m)) ≡ Some q
+    → run (Some start) (take (place + 1) (ports_of m)) ≡ next_of q (port_role (port_view m p))
 run_more m place p q e h =
     ap (run (Some start)) (ports_more m place p e)
     ∙ run_append (Some start) (take place (ports_of m)) (port_view m p ∷ [])
     ∙ ap (λ (o : Option StageView). run o (port_view m p ∷ [])) h
 
-pub none_more : (m : Module) (place : ℕ) (stage : Stage) (p : Port) → slice_get m.ports place ≡ Some p → Stands m place stage → port_role (port_view m p) ≡ None → run (Some start) (take (place + 1) (ports_of m)) ≡ None
+pub none_more : (m : Module) (place : ℕ) (stage : Stage) (p : Port)
+    → slice_get m.ports place ≡ Some p → Stands m place stage → port_role (port_view m p) ≡ None
+    → run (Some start) (take (place + 1) (ports_of m)) ≡ None
 none_more m place stage p e h f = run_more m place p h.0 e h.1.reached ∙ ap (next_of h.0) f
 
-some_stage : (m : Module) (place : ℕ) (p : Port) (q : StageView) (r : RoleView) (s : Stage) → slice_get m.ports place ≡ Some p → run (Some start) (take place (ports_of m)) ≡ Some q → port_role (port_view m p) ≡ Some r → Follows m (next q r) s → Stands m (place + 1) s
+some_stage : (m : Module) (place : ℕ) (p : Port) (q : StageView) (r : RoleView) (s : Stage)
+    → slice_get m.ports place ≡ Some p → run (Some start) (take place (ports_of m)) ≡ Some q
+    → port_role (port_view m p) ≡ Some r → Follows m (next q r) s → Stands m (place + 1) s
 some_stage m place p q r s e h f g = (g.view, record { reached = run_more m place p q e h ∙ ap (next_of q) f ∙ g.is; sees = g.sees })
 
-pub some_more : (m : Module) (place : ℕ) (p : Port) (q : StageView) (r : RoleView) (o : Option Stage) → slice_get m.ports place ≡ Some p → run (Some start) (take place (ports_of m)) ≡ Some q → port_role (port_view m p) ≡ Some r → IfSome o (Follows m (next q r)) → IfSome o (Stands m (place + 1))
+pub some_more : (m : Module) (place : ℕ) (p : Port) (q : StageView) (r : RoleView)
+    (o : Option Stage) → slice_get m.ports place ≡ Some p
+    → run (Some start) (take place (ports_of m)) ≡ Some q → port_role (port_view m p) ≡ Some r
+    → IfSome o (Follows m (next q r)) → IfSome o (Stands m (place + 1))
 some_more m place p q r None e h f g = tt
 some_more m place p q r (Some s) e h f g = some_stage m place p q r s e h f g
 
-pub stop_more : (m : Module) (place : ℕ) (p : Port) (q : StageView) (r : RoleView) (o : Option Stage) → slice_get m.ports place ≡ Some p → run (Some start) (take place (ports_of m)) ≡ Some q → port_role (port_view m p) ≡ Some r → IfNone o (next q r ≡ None) → IfNone o (run (Some start) (take (place + 1) (ports_of m)) ≡ None)
+pub stop_more : (m : Module) (place : ℕ) (p : Port) (q : StageView) (r : RoleView)
+    (o : Option Stage) → slice_get m.ports place ≡ Some p
+    → run (Some start) (take place (ports_of m)) ≡ Some q → port_role (port_view m p) ≡ Some r
+    → IfNone o (next q r ≡ None) → IfNone o (run (Some start) (take (place + 1) (ports_of m))
+    ≡ None)
 stop_more m place p q r None e h f g = run_more m place p q e h ∙ ap (next_of q) f ∙ g
 stop_more m place p q r (Some s) e h f g = tt
 
@@ -104,14 +119,21 @@ from_first k ks name t e = ap (λ (x : Bool). cond x (Some (after_scalar (k ∷ 
 abbrev pub IsFrom : Module → List Name → Name → List Port → Type 0
 IsFrom m ks name ports = (js : List Name) × (map (port_view m) ports ≡ kernel_ports js) × (from_kernel ks name ≡ from_kernel js name)
 
-pub from_found : (m : Module) (ks : List Name) (name : Name) (ports : List Port) (d : Port) (t : Bool) → IsFrom m ks name ports → 2 ≤ length ports → ((k : Name) → port_view m (get_or ports 0 d) ≡ port_of (hold k) 1 → t ≡ bytes_eq k name) → t ≡ true → (js : List Name) × (from_kernel ks name ≡ Some (after_scalar js)) × (map (port_view m) ports ≡ kernel_ports js)
+pub from_found : (m : Module) (ks : List Name) (name : Name) (ports : List Port) (d : Port)
+    (t : Bool) → IsFrom m ks name ports → 2 ≤ length ports
+    → ((k : Name) → port_view m (get_or ports 0 d) ≡ port_of (hold k) 1 → t ≡ bytes_eq k name)
+    → t ≡ true → (js : List Name) × (from_kernel ks name ≡ Some (after_scalar js))
+    × (map (port_view m) ports ≡ kernel_ports js)
 from_found m ks name ports d t h lt test is =
     let w = first m ports h.0 d h.1 lt in
     let e : from_kernel h.0 name ≡ Some (after_scalar h.0) =
     ap (λ (l : List Name). from_kernel l name) w.is ∙ from_first w.kernel w.behind name true (sym (test w.kernel w.hold) ∙ is) ∙ ap (λ (l : List Name). some (after_scalar l)) (sym w.is) in
     (h.0, h.2 ∙ e, h.1)
 
-pub from_behind : (m : Module) (ks : List Name) (name : Name) (ports : List Port) (d : Port) (t : Bool) → IsFrom m ks name ports → 2 ≤ length ports → ((k : Name) → port_view m (get_or ports 0 d) ≡ port_of (hold k) 1 → t ≡ bytes_eq k name) → t ≡ false → IsFrom m ks name (take (length ports - 2) (drop 2 ports))
+pub from_behind : (m : Module) (ks : List Name) (name : Name) (ports : List Port) (d : Port)
+    (t : Bool) → IsFrom m ks name ports → 2 ≤ length ports
+    → ((k : Name) → port_view m (get_or ports 0 d) ≡ port_of (hold k) 1 → t ≡ bytes_eq k name)
+    → t ≡ false → IsFrom m ks name (take (length ports - 2) (drop 2 ports))
 from_behind m ks name ports d t h lt test is =
     let w = first m ports h.0 d h.1 lt in
     (w.behind, w.rest, h.2 ∙ ap (λ (l : List Name). from_kernel l name) w.is ∙ from_first w.kernel w.behind name false (sym (test w.kernel w.hold) ∙ is))
@@ -121,7 +143,9 @@ from_none m ks name ports h lt = h.2 ∙ ap (λ (l : List Name). from_kernel l n
 
 -- the stage after ticks
 
-behind_two : (m : Module) (ports : List Port) (place : ℕ) (ks : List Name) → take place (map (port_view m) ports) ≡ port_of clock 1 ∷ port_of reset 1 ∷ kernel_ports ks → map (port_view m) (take (place - 2) (drop 2 ports)) ≡ kernel_ports ks
+behind_two : (m : Module) (ports : List Port) (place : ℕ) (ks : List Name)
+    → take place (map (port_view m) ports) ≡ port_of clock 1 ∷ port_of reset 1 ∷ kernel_ports ks
+    → map (port_view m) (take (place - 2) (drop 2 ports)) ≡ kernel_ports ks
 behind_two m ports zero ks e = absurd (cc)
 behind_two m [] (suc place) ks e = absurd (cc)
 behind_two m (p ∷ ports) (suc zero) ks e = absurd (cc)
@@ -145,7 +169,10 @@ pub record TicksNext (m : Module) (place : ℕ) (items : List Port) (role : Role
   pub ports : map (port_view m) (take (place - 2) (drop 2 items)) ≡ kernel_ports kernels
   pub next_is : next q (role_view role) ≡ from_scalar kernels (role_view role)
 
-pub ticks_next : (m : Module) (place : ℕ) (stage : Stage) (items : List Port) (role : Role) (q : StageView) → items ≡ m.ports → stage ≡ Last.Ticks → ((x : Bor (List ℕ)) → role ≡ Role.Hold x → ⊥) → IsAt m place stage q → TicksNext m place items role q
+pub ticks_next : (m : Module) (place : ℕ) (stage : Stage) (items : List Port) (role : Role)
+    (q : StageView) → items ≡ m.ports → stage ≡ Last.Ticks
+    → ((x : Bor (List ℕ)) → role ≡ Role.Hold x → ⊥) → IsAt m place stage q
+    → TicksNext m place items role q
 ticks_next m place stage items role q same is apart h =
     let sees = subst (λ (s : Stage). Sees m s q) is h.sees in
     let e = ticks_led (take place (ports_of m)) sees.0 (h.reached ∙ ap some sees.1) in

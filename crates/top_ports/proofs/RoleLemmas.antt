@@ -6,7 +6,11 @@ use Rattle.std.proofs.lemmas.Bool.{and_parts, and_from, cond-true}
 use Rattle.std.proofs.lemmas.List.{append_assoc}
 use Rattle.rtl_ir.specs.Ports.{PortView, is_plain_name}
 use Rattle.top_ports.specs.Shapes.{Name}
-use Rattle.top_ports.specs.Roles.{RoleView, clock, reset, hold, ticks, scalar, stream, done, role_name, is_plain_role, is_output, is_width, HasRole, cut, lone_role, kernel_role, side_of, part_of, of_side_and_part, inner_role, behind, plain_behind, cut_role, name_role, same_bit, fits, fitting, port_role, side_front, part_back}
+use Rattle.top_ports.specs.Roles.{RoleView, clock, reset, hold, ticks, scalar, stream, done}
+use Rattle.top_ports.specs.Roles.{role_name, is_plain_role, is_output, is_width, HasRole, cut}
+use Rattle.top_ports.specs.Roles.{lone_role, kernel_role, side_of, part_of, of_side_and_part}
+use Rattle.top_ports.specs.Roles.{inner_role, behind, plain_behind, cut_role, name_role, same_bit}
+use Rattle.top_ports.specs.Roles.{fits, fitting, port_role, side_front, part_back}
 use Rattle.top_ports.specs.declared.role.Side.{Side}
 use Rattle.top_ports.specs.declared.role.Side.TheVariants.{Input, Output}
 use Rattle.top_ports.specs.declared.role.Part.{Part}
@@ -118,7 +122,9 @@ part_is word part h =
       ]
     ]
 
-stream_is : (word x back : Name) (side : Option Side) (part : Option Part) (r : RoleView) → is_plain_name x ≡ true → side_of word ≡ side → part_of back ≡ part → of_side_and_part side part x ≡ Some r → Named (word ++ 36 ∷ (x ++ 36 ∷ back)) r
+stream_is : (word x back : Name) (side : Option Side) (part : Option Part) (r : RoleView)
+    → is_plain_name x ≡ true → side_of word ≡ side → part_of back ≡ part
+    → of_side_and_part side part x ≡ Some r → Named (word ++ 36 ∷ (x ++ 36 ∷ back)) r
 stream_is word x back None part r plain e f h = absurd (cc)
 stream_is word x back (Some side) None r plain e f h = absurd (cc)
 stream_is word x back (Some side) (Some part) r plain e f h =
@@ -132,7 +138,10 @@ stream_is word x back (Some side) (Some part) r plain e f h =
 inner_is : (word x back : Name) (r : RoleView) → is_plain_name x ≡ true → inner_role word x back ≡ Some r → Named (word ++ 36 ∷ (x ++ 36 ∷ back)) r
 inner_is word x back r plain h = by_test (bytes_eq word (codes "scalar")) refl h
   where
-    by_test : (t : Bool) → bytes_eq word (codes "scalar") ≡ t → cond t (cond (is_plain_name back) (Some (scalar x back)) None) (of_side_and_part (side_of word) (part_of back) x) ≡ Some r → Named (word ++ 36 ∷ (x ++ 36 ∷ back)) r
+    by_test : (t : Bool) → bytes_eq word (codes "scalar") ≡ t
+        → cond t (cond (is_plain_name back) (Some (scalar x back)) None)
+        (of_side_and_part (side_of word) (part_of back) x) ≡ Some r
+        → Named (word ++ 36 ∷ (x ++ 36 ∷ back)) r
     by_test true e f =
         let w = then_some (is_plain_name back) (Some (scalar x back)) r f in
         let g : word ++ 36 ∷ (x ++ 36 ∷ back) ≡ role_name (scalar x back) =

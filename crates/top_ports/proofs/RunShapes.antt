@@ -7,7 +7,11 @@ use Rattle.std.proofs.lemmas.List.{append_assoc, append-nil}
 use Rattle.rtl_ir.specs.Ports.{Shape, PortView, kernel_ports, shape_ports, is_plain_name}
 use Rattle.top_ports.specs.Shapes.{Name, IsTopShape}
 use Rattle.top_ports.specs.Roles.{RoleView, clock, reset, hold, ticks, scalar, stream, done, HasRole, port_role}
-use Rattle.top_ports.specs.Stages.{StageView, start, after_clock, after_reset, after_hold, after_ticks, after_scalar, after_data, after_valid, after_ready, after_done, from_start, from_clock, from_reset, from_hold, from_ticks, from_scalar, from_ready, from_data, from_valid, from_kernel, same_side, next, next_of, run}
+use Rattle.top_ports.specs.Stages.{StageView, start, after_clock, after_reset, after_hold}
+use Rattle.top_ports.specs.Stages.{after_ticks, after_scalar, after_data, after_valid, after_ready}
+use Rattle.top_ports.specs.Stages.{after_done, from_start, from_clock, from_reset, from_hold}
+use Rattle.top_ports.specs.Stages.{from_ticks, from_scalar, from_ready, from_data, from_valid}
+use Rattle.top_ports.specs.Stages.{from_kernel, same_side, next, next_of, run}
 use Rattle.top_ports.specs.declared.role.Side.{Side}
 use Rattle.top_ports.specs.declared.role.Side.TheVariants.{Input, Output}
 use Rattle.top_ports.specs.declared.role.Part.{Part}
@@ -205,7 +209,9 @@ sides_same Output Output e = refl
 sides_same Input Output e = absurd (cc)
 sides_same Output Input e = absurd (cc)
 
-before_ticks : (ks : List Name) (k : Name) (p : PortView) (r : RoleView) (q : StageView) (rest : List PortView) → HasRole p r → from_hold ks k r ≡ Some q → Follow q rest → Follow (after_hold ks k) (p ∷ rest)
+before_ticks : (ks : List Name) (k : Name) (p : PortView) (r : RoleView) (q : StageView)
+    (rest : List PortView) → HasRole p r → from_hold ks k r ≡ Some q → Follow q rest
+    → Follow (after_hold ks k) (p ∷ rest)
 before_ticks ks k p (ticks j) q rest r e h =
     let w = if_same (bytes_eq k j) (after_ticks (ks ++ k ∷ [])) q e in
     let f : p ≡ port_of (ticks k) 48 = port_wide p (ticks j) 48 r (eqb-true p.width 48 r.width) ∙ ap (λ (n : Name). port_of (ticks n) 48) (sym (bytes_same k j w.0)) in
@@ -217,14 +223,18 @@ same_stream side other part x y e =
     let w = and_parts (same_side side other) (bytes_eq x y) e in
     ap (λ (s : Side). port_of (stream s part y) 1) (sym (sides_same side other w.0)) ∙ ap (λ (n : Name). port_of (stream side part n) 1) (sym (bytes_same x y w.1))
 
-before_ready : (side : Side) (x : Name) (p : PortView) (r : RoleView) (q : StageView) (rest : List PortView) → HasRole p r → from_valid side x r ≡ Some q → Follow q rest → Follow (after_valid side x) (p ∷ rest)
+before_ready : (side : Side) (x : Name) (p : PortView) (r : RoleView) (q : StageView)
+    (rest : List PortView) → HasRole p r → from_valid side x r ≡ Some q → Follow q rest
+    → Follow (after_valid side x) (p ∷ rest)
 before_ready side x p (stream other Ready y) q rest r e h =
     let w = if_same (same_side side other && bytes_eq x y) (after_ready side) q e in
     let f = port_wide p (stream other Ready y) 1 r (eqb-true p.width 1 r.width) ∙ same_stream side other Ready x y w.0 in
     (rest, subst (λ (s : StageView). Follow s rest) (sym w.1) h, ap (λ (z : PortView). z ∷ rest) f)
 before_ready side x p r q rest w e h = absurd (cc)
 
-before_valid : (side : Side) (x : Name) (p : PortView) (r : RoleView) (q : StageView) (rest : List PortView) → HasRole p r → from_data side x r ≡ Some q → Follow q rest → Follow (after_data side x) (p ∷ rest)
+before_valid : (side : Side) (x : Name) (p : PortView) (r : RoleView) (q : StageView)
+    (rest : List PortView) → HasRole p r → from_data side x r ≡ Some q → Follow q rest
+    → Follow (after_data side x) (p ∷ rest)
 before_valid side x p (stream other Valid y) q rest r e h =
     let w = if_same (same_side side other && bytes_eq x y) (after_valid side x) q e in
     let f = port_wide p (stream other Valid y) 1 r (eqb-true p.width 1 r.width) ∙ same_stream side other Valid x y w.0 in

@@ -62,15 +62,22 @@ run_ready side x rest h =
     step (after_valid side x) (port_of (stream side Ready x) 1) (stream side Ready x) (Some (after_ready side)) rest (role_of_port (stream side Ready x) 1 h refl)
     (cond-true (same_side side side && bytes_eq x x) (Some (after_ready side)) None (same_stream side x))
 
-pub run_valid : (side : Side) (x : Name) (rest : List PortView) → is_plain_name x ≡ true → run (Some (after_data side x)) (port_of (stream side Valid x) 1 ∷ port_of (stream side Ready x) 1 ∷ rest) ≡ run (Some (after_ready side)) rest
+pub run_valid : (side : Side) (x : Name) (rest : List PortView) → is_plain_name x ≡ true
+    → run (Some (after_data side x)) (port_of (stream side Valid x) 1
+    ∷ port_of (stream side Ready x) 1 ∷ rest) ≡ run (Some (after_ready side)) rest
 run_valid side x rest h =
     step (after_data side x) (port_of (stream side Valid x) 1) (stream side Valid x) (Some (after_valid side x)) (port_of (stream side Ready x) 1 ∷ rest) (role_of_port (stream side Valid x) 1 h refl)
     (cond-true (same_side side side && bytes_eq x x) (Some (after_valid side x)) None (same_stream side x))
     ∙ run_ready side x rest h
 
-pub run_stream : (q : StageView) (side : Side) (x : Name) (width : ℕ) (rest : List PortView) → is_plain_name x ≡ true → next q (stream side Data x) ≡ Some (after_data side x) → run (Some q) (port_of (stream side Data x) width ∷ port_of (stream side Valid x) 1 ∷ port_of (stream side Ready x) 1 ∷ rest) ≡ run (Some (after_ready side)) rest
+pub run_stream : (q : StageView) (side : Side) (x : Name) (width : ℕ) (rest : List PortView)
+    → is_plain_name x ≡ true → next q (stream side Data x) ≡ Some (after_data side x)
+    → run (Some q) (port_of (stream side Data x) width ∷ port_of (stream side Valid x) 1
+    ∷ port_of (stream side Ready x) 1 ∷ rest) ≡ run (Some (after_ready side)) rest
 run_stream q side x width rest h e =
-    step q (port_of (stream side Data x) width) (stream side Data x) (Some (after_data side x)) (port_of (stream side Valid x) 1 ∷ port_of (stream side Ready x) 1 ∷ rest) (role_of_port (stream side Data x) width h refl) e
+    step q (port_of (stream side Data x) width) (stream side Data x) (Some (after_data side x))
+    (port_of (stream side Valid x) 1 ∷ port_of (stream side Ready x) 1
+    ∷ rest) (role_of_port (stream side Data x) width h refl) e
     ∙ run_valid side x rest h
 
 -- the shortest end that ports in some stage may have

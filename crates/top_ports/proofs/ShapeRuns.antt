@@ -45,7 +45,9 @@ pub record TakesStreams (q : StageView) : Type 0 where
   pub output : (x : Name) → next q (stream Output Data x) ≡ Some (after_data Output x)
   pub ends : next q done ≡ Some after_done
 
-pub outputs_run : (q : StageView) (ys : List Stream) → list_all is_plain_stream ys ≡ true → ((x : Name) → next q (stream Output Data x) ≡ Some (after_data Output x)) → next q done ≡ Some after_done → run (Some q) (from_outputs ys) ≡ Some after_done
+pub outputs_run : (q : StageView) (ys : List Stream) → list_all is_plain_stream ys ≡ true
+    → ((x : Name) → next q (stream Output Data x) ≡ Some (after_data Output x))
+    → next q done ≡ Some after_done → run (Some q) (from_outputs ys) ≡ Some after_done
 outputs_run q [] h o d = step q done_port done (Some after_done) [] (role_of_port done 1 refl refl) d
 outputs_run q (y ∷ ys) h o d =
     let w = and_parts (is_plain_stream y) (list_all is_plain_stream ys) h in
@@ -62,14 +64,20 @@ pub record TakesScalars (q : StageView) (ks : List Name) : Type 0 where
   pub scalars : (k a : Name) → next q (scalar k a) ≡ from_kernel ks k
   pub streams : TakesStreams q
 
-pub scalars_run : (q : StageView) (ks : List Name) (ss : List Scalar) (xs ys : List Stream) → list_all is_plain_scalar ss ≡ true → AreFound ks ss → list_all is_plain_stream xs ≡ true → list_all is_plain_stream ys ≡ true → TakesScalars q ks → run (Some q) (from_scalars ss xs ys) ≡ Some after_done
+pub scalars_run : (q : StageView) (ks : List Name) (ss : List Scalar) (xs ys : List Stream)
+    → list_all is_plain_scalar ss ≡ true → AreFound ks ss → list_all is_plain_stream xs ≡ true
+    → list_all is_plain_stream ys ≡ true → TakesScalars q ks
+    → run (Some q) (from_scalars ss xs ys) ≡ Some after_done
 scalars_run q ks [] xs ys h f i o t = inputs_run q xs ys i o t.streams
 scalars_run q ks (s ∷ ss) xs ys h f i o t =
     let w = and_parts (is_plain_scalar s) (list_all is_plain_scalar ss) h in
     step q (port_of (scalar s.0 s.1) s.2) (scalar s.0 s.1) (Some (after_scalar f.0)) (from_scalars ss xs ys) (role_of_port (scalar s.0 s.1) s.2 w.0 refl) (t.scalars s.0 s.1 ∙ f.1)
     ∙ scalars_run (after_scalar f.0) f.0 ss xs ys w.1 f.2 i o (record { scalars = λ k a. refl; streams = record { input = λ n. refl; output = λ n. refl; ends = refl } })
 
-kernel_run : (q : StageView) (ks : List Name) (k : Name) (rest : List PortView) → is_plain_name k ≡ true → next q (hold k) ≡ Some (after_hold ks k) → run (Some q) (port_of (hold k) 1 ∷ port_of (ticks k) 48 ∷ rest) ≡ run (Some (after_ticks (ks ++ k ∷ []))) rest
+kernel_run : (q : StageView) (ks : List Name) (k : Name) (rest : List PortView)
+    → is_plain_name k ≡ true → next q (hold k) ≡ Some (after_hold ks k)
+    → run (Some q) (port_of (hold k) 1 ∷ port_of (ticks k) 48
+    ∷ rest) ≡ run (Some (after_ticks (ks ++ k ∷ []))) rest
 kernel_run q ks k rest h e =
     step q (port_of (hold k) 1) (hold k) (Some (after_hold ks k)) (port_of (ticks k) 48 ∷ rest) (role_of_port (hold k) 1 h refl) e
     ∙ run_ticks ks k rest h
@@ -82,7 +90,11 @@ kernels_run ks (l ∷ ls) rest h =
     ∙ kernels_run (ks ++ l ∷ []) ls rest w.1
     ∙ ap (λ (m : List Name). run (Some (after_ticks m)) rest) (append_assoc ks (l ∷ []) ls)
 
-parts_run : (ks : List Name) (ss : List Scalar) (xs ys : List Stream) → 0 < length ks → list_all is_plain_name ks ≡ true → list_all is_plain_scalar ss ≡ true → AreFound ks ss → list_all is_plain_stream xs ≡ true → list_all is_plain_stream ys ≡ true → run (Some start) (port_of clock 1 ∷ port_of reset 1 ∷ (kernel_ports ks ++ from_scalars ss xs ys)) ≡ Some after_done
+parts_run : (ks : List Name) (ss : List Scalar) (xs ys : List Stream) → 0 < length ks
+    → list_all is_plain_name ks ≡ true → list_all is_plain_scalar ss ≡ true → AreFound ks ss
+    → list_all is_plain_stream xs ≡ true → list_all is_plain_stream ys ≡ true
+    → run (Some start) (port_of clock 1 ∷ port_of reset 1
+    ∷ (kernel_ports ks ++ from_scalars ss xs ys)) ≡ Some after_done
 parts_run [] ss xs ys some h g f i o = absurd (omega (arith, some))
 parts_run (k ∷ ks) ss xs ys some h g f i o =
     let w = and_parts (is_plain_name k) (list_all is_plain_name ks) h in
@@ -96,4 +108,6 @@ parts_run (k ∷ ks) ss xs ys some h g f i o =
 pub shape_run : (s : Shape) → IsTopShape s → run (Some start) (shape_ports s) ≡ Some after_done
 shape_run s h =
     ap (run (Some start)) (grouped s)
-    ∙ parts_run s.kernels s.scalars s.inputs s.outputs h.shape.some h.shape.kernels (all_plain s.kernels s.scalars h.shape.kernels h.shape.scalars) (are_found s.kernels s.scalars h.by_kernel) h.shape.inputs h.shape.outputs
+    ∙ parts_run s.kernels s.scalars s.inputs s.outputs h.shape.some h.shape.kernels
+    (all_plain s.kernels s.scalars h.shape.kernels h.shape.scalars)
+    (are_found s.kernels s.scalars h.by_kernel) h.shape.inputs h.shape.outputs

@@ -9,7 +9,8 @@ Name = List ℕ
 -- the scalars, of each its kernel, its name and its width, stand kernel by kernel, in the order of these kernels
 pub data AreByKernel : List Name → List (Name × Name × ℕ) → Type 0 where
   none : {kernels : List Name} → AreByKernel kernels []
-  own : {k : Name} {ks : List Name} {scalars : List (Name × Name × ℕ)} (name : Name) (width : ℕ) → AreByKernel (k ∷ ks) scalars → AreByKernel (k ∷ ks) ((k, name, width) ∷ scalars)
+  own : {k : Name} {ks : List Name} {scalars : List (Name × Name × ℕ)} (name : Name) (width : ℕ)
+      → AreByKernel (k ∷ ks) scalars → AreByKernel (k ∷ ks) ((k, name, width) ∷ scalars)
   next : {k : Name} {ks : List Name} {scalars : List (Name × Name × ℕ)} → AreByKernel ks scalars → AreByKernel (k ∷ ks) scalars
 
 -- the shape of a top module that can be run

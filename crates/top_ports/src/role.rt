@@ -4,7 +4,9 @@ ghost use Rattle.std.specs.List.{list_all};
 ghost use Rattle.rtl_ir.specs.Names.{is_letter, is_digit};
 ghost use Rattle.rtl_ir.specs.Ports.{is_plain_byte, is_plain_name, port_view};
 ghost use Rattle.rtl_ir.specs.Formed.{name_of};
-ghost use Rattle.top_ports.specs.Roles.{cut, RoleView, role_view, side_of, part_of, lone_role, kernel_role, inner_role, plain_behind, name_role, port_role, fits};
+ghost use Rattle.top_ports.specs.Roles.{cut, RoleView, role_view, side_of, part_of, lone_role};
+ghost use Rattle.top_ports.specs.Roles.{kernel_role, inner_role, plain_behind, name_role};
+ghost use Rattle.top_ports.specs.Roles.{port_role, fits};
 
 use crate::cut::cut_name;
 use rtl_ir::{Module, Port};

@@ -71,7 +71,8 @@ fn after_ready<'a>(side: Side, role: Role<'a>) -> Option<Stage<'a>>
 
 /// The stage behind these kernels, of which the first one may have scalars before it.
 fn after_scalar<'a>(top: &Module, kernels: &'a [Port], role: Role<'a>) -> Option<Stage<'a>>
-    ensures some { (ks : List Name) → map (port_view top.now) kernels.now ≡ kernel_ports ks → IfSome result (Follows top.now (from_scalar ks (role_view role.entry))) }
+    ensures some { (ks : List Name) → map (port_view top.now) kernels.now ≡ kernel_ports ks
+        → IfSome result (Follows top.now (from_scalar ks (role_view role.entry))) }
     ensures none { (ks : List Name) → map (port_view top.now) kernels.now ≡ kernel_ports ks → IfNone result (from_scalar ks (role_view role.entry) ≡ None) }
 {
     match role {

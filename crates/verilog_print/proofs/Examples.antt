@@ -14,7 +14,10 @@ abbrev keep : Module
 keep = record {
   name = codes "keep";
   ports = record { net = 3; output = false } ∷ record { net = 2; output = false } ∷ record { net = 1; output = true } ∷ [];
-  nets = record { name = codes "r"; width = 8; reg = true } ∷ record { name = codes "b"; width = 8; reg = false } ∷ record { name = codes "reset"; width = 1; reg = false } ∷ record { name = codes "clk"; width = 1; reg = false } ∷ [];
+  nets = record { name = codes "r"; width = 8; reg = true }
+      ∷ record { name = codes "b"; width = 8; reg = false }
+      ∷ record { name = codes "reset"; width = 1; reg = false }
+      ∷ record { name = codes "clk"; width = 1; reg = false } ∷ [];
   mems = [];
   assigns = record { target = 1; expr = exprs.Net 0 } ∷ [];
   updates = record { enable = 2; target = targets.Reg 0; value = 1 } ∷ [];
@@ -26,7 +29,9 @@ alone = record { modules = keep ∷ [] }
 
 lines_of_keep :
     design_lines alone
-    ≡ codes "module keep (" ∷ codes "input wire [0:0] clk," ∷ codes "input wire [0:0] reset," ∷ codes "output wire [7:0] b);" ∷ codes "reg [7:0] r;" ∷ codes "assign b = r;" ∷ codes "always @(posedge clk) begin"
+    ≡ codes "module keep (" ∷ codes "input wire [0:0] clk," ∷ codes "input wire [0:0] reset,"
+    ∷ codes "output wire [7:0] b);" ∷ codes "reg [7:0] r;" ∷ codes "assign b = r;"
+    ∷ codes "always @(posedge clk) begin"
     ∷ codes "if (reset) r <= b;" ∷ codes "end" ∷ codes "endmodule" ∷ []
 unfolding digits
 lines_of_keep = refl

@@ -64,15 +64,21 @@ any_some test (x ∷ xs) h = omega arith
 connected : (outer inner : Module) (p : Port) (n : ℕ) {ps : List Part} {rest : List ℕ} → AllNamed outer → AllNamed inner → p.net < length inner.nets → n < length outer.nets → Spells ps rest
     → Spells (Part.Connected (connection_tree outer.nets inner.nets (p, n)) ∷ ps) (connection_text outer.nets inner.nets (p, n) ++ rest)
 unfolding connection_tree
-connected outer inner p n named inside h k r = simp append_assoc (pick Choice.connected (lone refl refl (λ _ _. refl) (id (inside.net p.net h) refl (open_round (id (named.net n k) refl (close_round r))))))
+connected outer inner p n named inside h k r = simp append_assoc
+    (pick Choice.connected (lone refl refl (λ _ _. refl)
+    (id (inside.net p.net h) refl (open_round (id (named.net n k) refl (close_round r))))))
 
 more_connected : (outer inner : Module) (ports : List Port) (nets : List ℕ) {ps : List Part} {rest : List ℕ} → AllNamed outer → AllNamed inner
     → ((k : ℕ) (p : Port) → slice_get ports k ≡ Some p → IsFormedPort inner p) → ((k n : ℕ) → slice_get nets k ≡ Some n → n < length outer.nets) → Spells ps rest
-    → Spells (Part.MoreConnections (map (connection_tree outer.nets inner.nets) (zip ports nets)) ∷ ps) (flat_map (λ (j : Port × ℕ). codes ", " ++ connection_text outer.nets inner.nets j) (zip ports nets) ++ rest)
+    → Spells (Part.MoreConnections (map (connection_tree outer.nets inner.nets)
+    (zip ports nets)) ∷ ps) (flat_map (λ (j : Port × ℕ). codes ", "
+    ++ connection_text outer.nets inner.nets j) (zip ports nets) ++ rest)
 more_connected outer inner [] nets named inside f g r = pick Choice.no_more_connections r
 more_connected outer inner (p ∷ ports) [] named inside f g r = pick Choice.no_more_connections r
 more_connected outer inner (p ∷ ports) (n ∷ nets) {ps = ps} {rest = rest} named inside f g r =
-    let left : Spells (Part.MoreConnections (map (connection_tree outer.nets inner.nets) (zip ports nets)) ∷ ps) (flat_map (λ (j : Port × ℕ). codes ", " ++ connection_text outer.nets inner.nets j) (zip ports nets) ++ rest) =
+    let left : Spells (Part.MoreConnections (map (connection_tree outer.nets inner.nets)
+    (zip ports nets)) ∷ ps) (flat_map (λ (j : Port × ℕ). codes ", "
+    ++ connection_text outer.nets inner.nets j) (zip ports nets) ++ rest) =
     more_connected outer inner ports nets named inside (λ k q e. f (suc k) q e) (λ k q e. g (suc k) q e) r in
     rw append_assoc (pick Choice.more_connections (comma (blank refl (connected outer inner p n named inside (f 0 p refl).net (g 0 n refl) left))))
 
@@ -82,29 +88,39 @@ all_connected : (outer inner : Module) (ports : List Port) (nets : List ℕ) {ps
 all_connected outer inner [] nets some same named inside f g r = absurd (omega arith)
 all_connected outer inner (p ∷ ports) [] some same named inside f g r = absurd (omega arith)
 all_connected outer inner (p ∷ ports) (n ∷ nets) some same named inside f g r =
-    rw append_assoc (pick Choice.connections (connected outer inner p n named inside (f 0 p refl).net (g 0 n refl) (more_connected outer inner ports nets named inside (λ k q e. f (suc k) q e) (λ k q e. g (suc k) q e) r)))
+    rw append_assoc (pick Choice.connections (connected outer inner p n named inside
+    (f 0 p refl).net (g 0 n refl) (more_connected outer inner ports nets named inside
+    (λ k q e. f (suc k) q e) (λ k q e. g (suc k) q e) r)))
 
 six : (a b c d e f rest : List ℕ) → (a ++ b ++ c ++ d ++ e ++ f) ++ rest ≡ a ++ (b ++ (c ++ (d ++ (e ++ (f ++ rest)))))
 six a b c d e f rest = simp append_assoc
 
-instance_then : (outer inner : Module) (i : Instance) (earlier : List Module) (is : List ItemTree) {ps : List Part} {rest : List ℕ} → AllNamed outer → IsFormedModule earlier inner → is_name i.name ≡ true → length i.nets ≡ length inner.ports
+instance_then : (outer inner : Module) (i : Instance) (earlier : List Module)
+    (is : List ItemTree) {ps : List Part} {rest : List ℕ} → AllNamed outer
+    → IsFormedModule earlier inner → is_name i.name ≡ true → length i.nets ≡ length inner.ports
     → ((k n : ℕ) → slice_get i.nets k ≡ Some n → n < length outer.nets) → Spells (Part.Items is ∷ ps) rest
     → Spells (Part.Items (InstanceItem inner.name i.name (map (connection_tree outer.nets inner.nets) (zip inner.ports i.nets)) ∷ is) ∷ ps) (instance_line outer.nets i (Some inner) ++ rest)
 unfolding instance_line
 instance_then outer inner i earlier is {ps = ps} {rest = rest} named f h same g r =
     let joined : Spells (Part.Connections (map (connection_tree outer.nets inner.nets) (zip inner.ports i.nets)) ∷ Part.Sign_ (codes ")") ∷ Part.Sign_ (codes ";") ∷ Part.Items is ∷ ps)
     (connections_text outer.nets inner.nets (zip inner.ports i.nets) ++ (codes ");\n" ++ rest)) =
-    all_connected outer inner inner.ports i.nets (any_some (is_bit_input inner (codes "clk")) inner.ports f.clock) same named (all_named earlier inner f) f.ports g (close_round (semicolon (blank refl r))) in
+    all_connected outer inner inner.ports i.nets (any_some
+    (is_bit_input inner (codes "clk")) inner.ports f.clock) same named
+    (all_named earlier inner f) f.ports g (close_round (semicolon (blank refl r))) in
     rw (six inner.name (codes " ") i.name (codes " (") (connections_text outer.nets inner.nets (zip inner.ports i.nets)) (codes ");\n") rest)
     (pick Choice.more_items (pick Choice.instance (id f.name refl (blank refl (id h refl (blank refl (open_round joined)))))))
 
-instance_spells : (modules : List Module) (m : Module) (i : Instance) (earlier : List Module) (is : List ItemTree) {ps : List Part} {rest : List ℕ} → AllNamed m → InnerOf modules i → IsFormedInstance earlier m i → Spells (Part.Items is ∷ ps) rest
+instance_spells : (modules : List Module) (m : Module) (i : Instance) (earlier : List Module)
+    (is : List ItemTree) {ps : List Part} {rest : List ℕ} → AllNamed m → InnerOf modules i
+    → IsFormedInstance earlier m i → Spells (Part.Items is ∷ ps) rest
     → Spells (Part.Items (instance_item modules m i ∷ is) ∷ ps) (instance_text modules m i ++ rest)
 unfolding instance_item named_instance instance_tree
 instance_spells modules m i earlier is named o f r = rw o.of (instance_then m o.inner i o.earlier is named o.formed f.name o.nets f.nets r)
 
 pub instances_spell : (modules : List Module) (m : Module) (instances : List Instance) (earlier : List Module) (is : List ItemTree) {ps : List Part} {rest : List ℕ} → AllNamed m
-    → ((k : ℕ) (i : Instance) → slice_get instances k ≡ Some i → InnerOf modules i) → ((k : ℕ) (i : Instance) → slice_get instances k ≡ Some i → IsFormedInstance earlier m i) → Spells (Part.Items is ∷ ps) rest
+    → ((k : ℕ) (i : Instance) → slice_get instances k ≡ Some i → InnerOf modules i)
+    → ((k : ℕ) (i : Instance) → slice_get instances k ≡ Some i
+    → IsFormedInstance earlier m i) → Spells (Part.Items is ∷ ps) rest
     → Spells (Part.Items (map (instance_item modules m) instances ++ is) ∷ ps) (flat_map (instance_text modules m) instances ++ rest)
 instances_spell modules m [] earlier is named o f r = r
 instances_spell modules m (i ∷ instances) earlier is named o f r =

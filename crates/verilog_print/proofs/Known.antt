@@ -22,7 +22,10 @@ use Rattle.rtl_ir.specs.Operands.{target_mem}
 use Rattle.rtl_ir.specs.Formed.{IsFormedExpr, IsFormedAssign, IsFormedUpdate, IsFormedInstance, IsFormedModule, net_name, is_bit_input as is_bit_port}
 use Rattle.rtl_ir.specs.Rules.{AllDiffer, HasUpdates, IsAccepted, names_of as names_in}
 use Rattle.rtl_text.specs.Tree.{Name, PortTree, ItemTree, WireItem, RegisterItem, MemoryItem, AssignItem, AlwaysItem, InstanceItem, Connection, ModuleTree}
-use Rattle.rtl_reading.specs.Uses.{Scope, is_in, port_name, is_bit_input, module_named, ports_named, expr_uses, update_uses, updates_uses, item_uses, items_uses, port_uses, module_uses, text_uses, connection_uses, joined_uses, unknown_in}
+use Rattle.rtl_reading.specs.Uses.{Scope, is_in, port_name, is_bit_input, module_named, ports_named}
+use Rattle.rtl_reading.specs.Uses.{expr_uses, update_uses, updates_uses, item_uses, items_uses}
+use Rattle.rtl_reading.specs.Uses.{port_uses, module_uses, text_uses, connection_uses, joined_uses}
+use Rattle.rtl_reading.specs.Uses.{unknown_in}
 use Rattle.verilog_print.specs.Printed.{name_of}
 use Rattle.verilog_print.proofs.Names.{AllKnown, none_unknown, known_both, or_true, in_at}
 use Rattle.verilog_print.proofs.Knows.{Knows, knows_more, knows_all}
@@ -69,13 +72,17 @@ are_both : (m : Module) (modules : List ModuleTree) (ports : List PortTree) (is 
 are_both m modules ports [] js h k = k
 are_both m modules ports (i ∷ is) js (h, t) k = (h, are_both m modules ports is js t k)
 
-items_known : (m : Module) (modules : List ModuleTree) (ports : List PortTree) (before is : List ItemTree) → Knows m ports before → AreKnown m modules ports is → AllKnown (items_uses modules ports before is)
+items_known : (m : Module) (modules : List ModuleTree) (ports : List PortTree)
+    (before is : List ItemTree) → Knows m ports before → AreKnown m modules ports is
+    → AllKnown (items_uses modules ports before is)
 items_known m modules ports before [] k h = tt
 items_known m modules ports before (i ∷ is) k (h, t) =
     known_both (item_uses (record { modules = modules; ports = ports; items = before }) i) (items_uses modules ports (before ++ i ∷ []) is) (h before k)
     (items_known m modules ports (before ++ i ∷ []) is (knows_more m ports before (i ∷ []) k) t)
 
-assigns_known : (m : Module) (modules : List ModuleTree) (ports : List PortTree) (assigns : List Assign) → ((j : ℕ) (a : Assign) → slice_get assigns j ≡ Some a → IsFormedAssign m a) → AreKnown m modules ports (map (assign_item m) assigns)
+assigns_known : (m : Module) (modules : List ModuleTree) (ports : List PortTree)
+    (assigns : List Assign) → ((j : ℕ) (a : Assign) → slice_get assigns j ≡ Some a
+    → IsFormedAssign m a) → AreKnown m modules ports (map (assign_item m) assigns)
 unfolding assign_item
 assigns_known m modules ports [] f = tt
 assigns_known m modules ports (a ∷ assigns) f =
@@ -96,7 +103,10 @@ AreDeclarations (RegisterItem w name ∷ is) = AreDeclarations is
 AreDeclarations (MemoryItem w name n ∷ is) = AreDeclarations is
 AreDeclarations (_ ∷ is) = ⊥
 
-after_declarations : (modules : List ModuleTree) (ports : List PortTree) (before is more : List ItemTree) → AreDeclarations is → AllKnown (items_uses modules ports (before ++ is) more) → AllKnown (items_uses modules ports before (is ++ more))
+after_declarations : (modules : List ModuleTree) (ports : List PortTree)
+    (before is more : List ItemTree) → AreDeclarations is
+    → AllKnown (items_uses modules ports (before ++ is) more)
+    → AllKnown (items_uses modules ports before (is ++ more))
 after_declarations modules ports before [] more d h = rw append-nil at h
 after_declarations modules ports before (WireItem w name ∷ is) more d h = after_declarations modules ports (before ++ WireItem w name ∷ []) is more d (rw append_assoc h)
 after_declarations modules ports before (RegisterItem w name ∷ is) more d h = after_declarations modules ports (before ++ RegisterItem w name ∷ []) is more d (rw append_assoc h)
@@ -136,7 +146,9 @@ unfolding port_of
 bit_input true width name wanted h = cc
 bit_input false width name wanted h = h
 
-input_from : (m : Module) (wanted : Name) (p : Port) (ports : List PortTree) (others : Bool) → (others ≡ true → list_any (is_bit_input wanted) ports ≡ true) → (b : Bool) → is_bit_port m wanted p ≡ b → (b || others) ≡ true
+input_from : (m : Module) (wanted : Name) (p : Port) (ports : List PortTree) (others : Bool)
+    → (others ≡ true → list_any (is_bit_input wanted) ports ≡ true) → (b : Bool)
+    → is_bit_port m wanted p ≡ b → (b || others) ≡ true
     → list_any (is_bit_input wanted) (port_tree m.nets p ∷ ports) ≡ true
 unfolding port_tree
 input_from m wanted p ports others f true e h = rw (bit_input p.output (width_of m p.net) (net_name (slice_get m.nets p.net)) wanted e) refl
@@ -150,11 +162,19 @@ pub inputs_known : (earlier : List Module) (m : Module) → IsFormedModule earli
 inputs_known earlier m f = (input_known m (codes "clk") m.ports f.clock, (input_known m (codes "reset") m.ports f.reset, tt))
 
 -- instances
-named_known : (sc : Scope) (of name : Name) (cs : List Connection) (tree : ModuleTree) → module_named sc.modules of ≡ Some tree → AllKnown (connection_uses sc (map port_name tree.ports) [] cs ++ joined_uses [] (map port_name tree.ports) cs)
+named_known : (sc : Scope) (of name : Name) (cs : List Connection) (tree : ModuleTree)
+    → module_named sc.modules of ≡ Some tree
+    → AllKnown (connection_uses sc (map port_name tree.ports) [] cs
+    ++ joined_uses [] (map port_name tree.ports) cs)
     → AllKnown (item_uses sc (InstanceItem of name cs))
-named_known sc of name cs tree e h = subst (λ o. AllKnown (record { name = of; declared = is_some o } ∷ (connection_uses sc (ports_named o) [] cs ++ joined_uses [] (ports_named o) cs))) (sym e) (refl, h)
+named_known sc of name cs tree e h = subst (λ o. AllKnown
+    (record { name = of; declared = is_some o } ∷ (connection_uses sc (ports_named o) [] cs
+    ++ joined_uses [] (ports_named o) cs))) (sym e) (refl, h)
 
-instance_known : (modules earlier : List Module) (m : Module) (i : Instance) (ports : List PortTree) (before_inner : List Module) (inner : Module) → slice_get modules i.module ≡ Some inner → slice_get earlier i.module ≡ Some inner → NamesDiffer earlier
+instance_known : (modules earlier : List Module) (m : Module) (i : Instance)
+    (ports : List PortTree) (before_inner : List Module) (inner : Module)
+    → slice_get modules i.module ≡ Some inner → slice_get earlier i.module ≡ Some inner
+    → NamesDiffer earlier
     → IsFormedModule before_inner inner → AllDiffer (names_in inner) → length i.nets ≡ length inner.ports → ((k n : ℕ) → slice_get i.nets k ≡ Some n → n < length m.nets)
     → IsKnown m (map (module_tree modules) earlier) ports (instance_item modules m i)
 unfolding instance_item named_instance instance_tree module_tree
@@ -172,7 +192,10 @@ instance_known modules earlier m i ports before_inner inner of at differ f apart
     (connections_known sc names [] cs (λ j c e. in_at names j c.port (listed j c e)) (each_net sc m inner inner.ports i.nets k.net inside) differs)
     (all_joined [] names cs (λ j p e. subst (λ l. is_in p l ≡ true) (sym is) (in_at names j p e)) (ports_differ before_inner inner f apart))))
 
-instances_known : (modules : List Module) (earlier : List ModuleTree) (m : Module) (ports : List PortTree) (instances : List Instance) → ((j : ℕ) (i : Instance) → slice_get instances j ≡ Some i → IsKnown m earlier ports (instance_item modules m i))
+instances_known : (modules : List Module) (earlier : List ModuleTree) (m : Module)
+    (ports : List PortTree) (instances : List Instance)
+    → ((j : ℕ) (i : Instance) → slice_get instances j ≡ Some i
+    → IsKnown m earlier ports (instance_item modules m i))
     → AreKnown m earlier ports (map (instance_item modules m) instances)
 instances_known modules earlier m ports [] f = tt
 instances_known modules earlier m ports (i ∷ instances) f = (f 0 i refl, instances_known modules earlier m ports instances (λ j x e. f (suc j) x e))
@@ -184,11 +207,16 @@ name_taken modules k j m e = slice_get-map (λ (x : Module). x.name) modules j �
 earlier_differ : (d : Design) → IsAccepted d → (k : ℕ) → NamesDiffer (take k d.modules)
 earlier_differ d a k i j m n e g same = a.names i j n.name (name_taken d.modules k i m e ∙ ap Some same) (name_taken d.modules k j n g)
 
-part_known : (d : Design) → IsAccepted d → (k : ℕ) (m : Module) (ports : List PortTree) (i : Instance) → IsFormedInstance (take k d.modules) m i → IsKnown m (map (module_tree d.modules) (take k d.modules)) ports (instance_item d.modules m i)
+part_known : (d : Design) → IsAccepted d
+    → (k : ℕ) (m : Module) (ports : List PortTree) (i : Instance)
+    → IsFormedInstance (take k d.modules) m i
+    → IsKnown m (map (module_tree d.modules) (take k d.modules)) ports (instance_item d.modules m i)
 part_known d a k m ports i g =
     let (inner, at) = element_at (take k d.modules) i.module g.is_earlier in
     let of : slice_get d.modules i.module ≡ Some inner = slice_get_take d.modules k i.module inner at in
-    instance_known d.modules (take k d.modules) m i ports (take i.module d.modules) inner of at (earlier_differ d a k) (a.formed.each i.module inner of) (a.sound i.module inner of).names (g.ports inner at) g.nets
+    instance_known d.modules (take k d.modules) m i ports (take i.module d.modules) inner of at
+    (earlier_differ d a k) (a.formed.each i.module inner of)
+    (a.sound i.module inner of).names (g.ports inner at) g.nets
 
 module_known : (d : Design) → IsAccepted d → (k : ℕ) (m : Module) → slice_get d.modules k ≡ Some m → AllKnown (module_uses (map (module_tree d.modules) (take k d.modules)) (module_tree d.modules m))
 unfolding module_tree items_of
@@ -202,7 +230,9 @@ module_known d a k m e =
     let bs : List ItemTree = map (assign_item m) m.assigns ++ is in
     let always : AreKnown m modules ports us = are_both m modules ports (always_items m m.updates) [] (always_known m modules ports m.updates (λ j u g n t. (updated.only n j u g t).0) f.updates) tt in
     let joined : AreKnown m modules ports is =
-    are_both m modules ports (map (instance_item d.modules m) m.instances) us (instances_known d.modules modules m ports m.instances (λ j i g. part_known d a k m ports i (f.instances j i g))) always in
+    are_both m modules ports (map (instance_item d.modules m) m.instances) us
+    (instances_known d.modules modules m ports m.instances
+    (λ j i g. part_known d a k m ports i (f.instances j i g))) always in
     let assigned : AreKnown m modules ports bs = are_both m modules ports (map (assign_item m) m.assigns) is (assigns_known m modules ports m.assigns f.assigns) joined in
     known_both (port_uses ports) (items_uses modules ports [] (net_items m.ports 0 m.nets ++ (map memory_item m.mems ++ bs))) (inputs_known (take k d.modules) m f)
     (after_declarations modules ports [] (net_items m.ports 0 m.nets) (map memory_item m.mems ++ bs) (nets_declared m.ports 0 m.nets)
@@ -210,13 +240,18 @@ module_known d a k m e =
     (items_known m modules ports (net_items m.ports 0 m.nets ++ map memory_item m.mems) bs (knows_all m) assigned)))
 
 -- modules after these
-modules_known : (tree : Module → ModuleTree) (before some : List Module) → ((j : ℕ) (m : Module) → slice_get some j ≡ Some m → AllKnown (module_uses (map tree (before ++ take j some)) (tree m))) → AllKnown (text_uses (map tree before) (map tree some))
+modules_known : (tree : Module → ModuleTree) (before some : List Module)
+    → ((j : ℕ) (m : Module) → slice_get some j ≡ Some m
+    → AllKnown (module_uses (map tree (before ++ take j some)) (tree m)))
+    → AllKnown (text_uses (map tree before) (map tree some))
 modules_known tree before [] f = tt
 modules_known tree before (m ∷ some) f =
     let first : AllKnown (module_uses (map tree before) (tree m)) = subst (λ l. AllKnown (module_uses (map tree l) (tree m))) (append-nil before) (f 0 m refl) in
     let left : AllKnown (text_uses (map tree (before ++ m ∷ [])) (map tree some)) =
     modules_known tree (before ++ m ∷ []) some (λ j x e. subst (λ l. AllKnown (module_uses (map tree l) (tree x))) (sym (append_assoc before (m ∷ []) (take j some))) (f (suc j) x e)) in
-    known_both (module_uses (map tree before) (tree m)) (text_uses (map tree before ++ tree m ∷ []) (map tree some)) first (subst (λ l. AllKnown (text_uses l (map tree some))) (map-append tree before (m ∷ [])) left)
+    known_both (module_uses (map tree before) (tree m)) (text_uses (map tree before ++ tree m
+    ∷ []) (map tree some)) first (subst (λ l. AllKnown (text_uses l (map tree some)))
+    (map-append tree before (m ∷ [])) left)
 
 -- no name of an accepted design's trees is used before it is declared
 pub none_is_unknown : (d : Design) → IsAccepted d → unknown_in (map (module_tree d.modules) d.modules) ≡ None

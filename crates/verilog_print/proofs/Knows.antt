@@ -34,11 +34,15 @@ pub knows_more : (m : Module) (ports : List PortTree) (before more : List ItemTr
 knows_more m ports before more k =
     let j : Joined before more = joined before more in
     let wires : names_of (wires_in (before ++ more)) ≡ names_of (wires_in before) ++ names_of (wires_in more) = ap names_of j.wires ∙ names_append (wires_in before) (wires_in more) in
-    let registers : names_of (registers_in (before ++ more)) ≡ names_of (registers_in before) ++ names_of (registers_in more) = ap names_of j.registers ∙ names_append (registers_in before) (registers_in more) in
+    let registers : names_of (registers_in (before ++ more)) ≡ names_of (registers_in before)
+    ++ names_of (registers_in more) = ap names_of j.registers ∙ names_append
+    (registers_in before) (registers_in more) in
     let memories : memory_names (memories_in (before ++ more)) ≡ memory_names (memories_in before) ++ memory_names (memories_in more) =
     ap memory_names j.memories ∙ map-append (λ (d : DeclaredMemory). d.name) (memories_in before) (memories_in more) in
     record {
-      net = λ n h. rw (wires, registers) (in_wider (name_of m.nets n) (map port_name ports) (names_of (wires_in before)) (names_of (wires_in more)) (names_of (registers_in before)) (names_of (registers_in more)) (k.net n h));
+      net = λ n h. rw (wires, registers) (in_wider (name_of m.nets n) (map port_name ports)
+          (names_of (wires_in before)) (names_of (wires_in more))
+          (names_of (registers_in before)) (names_of (registers_in more)) (k.net n h));
       register = λ n h. rw registers (in_first (name_of m.nets n) (names_of (registers_in before)) (names_of (registers_in more)) (k.register n h));
       mem = λ n h. rw memories (in_first (mem_name (slice_get m.mems n)) (memory_names (memories_in before)) (memory_names (memories_in more)) (k.mem n h));
     }
@@ -53,7 +57,10 @@ pub tree_name : (nets : List Net) (p : Port) → port_name (port_tree nets p) �
 unfolding port_tree
 tree_name nets p = own_name p.output (net_width (slice_get nets p.net)) (net_name (slice_get nets p.net))
 
-port_among : (nets : List Net) (p : Port) (ports : List Port) (n : ℕ) → (is_port ports n ≡ true → is_in (name_of nets n) (map port_name (map (port_tree nets) ports)) ≡ true) → (b : Bool) → (p.net == n) ≡ b → (b || is_port ports n) ≡ true
+port_among : (nets : List Net) (p : Port) (ports : List Port) (n : ℕ)
+    → (is_port ports n ≡ true → is_in (name_of nets n) (map port_name
+    (map (port_tree nets) ports)) ≡ true) → (b : Bool) → (p.net == n) ≡ b
+    → (b || is_port ports n) ≡ true
     → is_in (name_of nets n) (map port_name (map (port_tree nets) (p ∷ ports))) ≡ true
 port_among nets p ports n f true e h =
     let same : p.net ≡ n = (Decides-eqb p.net n).0 e in
@@ -78,7 +85,9 @@ register_known [] n net e r = cc
 register_known (x ∷ nets) zero net e r = let same : x ≡ net = cc in let is : x.reg ≡ true = cc in rw is (in_at (x.name ∷ names_of (registers_of nets)) 0 net.name (ap (λ (y : Net). Some y.name) same))
 register_known (x ∷ nets) (suc n) net e r = kept x.reg net.name (record { name = x.name; width = x.width }) (registers_of nets) (register_known nets n net e r)
 
-wire_known : (ports : List Port) (k : ℕ) (nets : List Net) (n : ℕ) (net : Net) → slice_get nets n ≡ Some net → net.reg ≡ false → is_port ports (k + n) ≡ false → is_in net.name (names_of (wires_from ports k nets)) ≡ true
+wire_known : (ports : List Port) (k : ℕ) (nets : List Net) (n : ℕ) (net : Net)
+    → slice_get nets n ≡ Some net → net.reg ≡ false → is_port ports (k + n) ≡ false
+    → is_in net.name (names_of (wires_from ports k nets)) ≡ true
 wire_known ports k [] n net e r w = cc
 wire_known ports k (x ∷ nets) zero net e r w =
     let same : x ≡ net = cc in

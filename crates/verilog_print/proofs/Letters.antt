@@ -150,7 +150,9 @@ number_is d ds h =
     rw (e1, h) refl
 
 -- literals, and what ends them
-pub literal_stops : (d : ℕ) (ds : List ℕ) (e : ℕ) (es : List ℕ) (b : ℕ) → list_all is_digit (d ∷ ds) ≡ true → is_hex b ≡ false → (more : List ℕ) → token_of (d ∷ ds ++ 39 ∷ 104 ∷ e ∷ (es ++ b ∷ more)) ≡ None
+pub literal_stops : (d : ℕ) (ds : List ℕ) (e : ℕ) (es : List ℕ) (b : ℕ)
+    → list_all is_digit (d ∷ ds) ≡ true → is_hex b ≡ false → (more : List ℕ)
+    → token_of (d ∷ ds ++ 39 ∷ 104 ∷ e ∷ (es ++ b ∷ more)) ≡ None
 unfolding begins_well
 literal_stops d ds e es b h k more =
     let digit : is_digit d ≡ true = and_left (is_digit d) (list_all is_digit ds) h in
@@ -162,7 +164,9 @@ literal_stops d ds e es b h k more =
     let e3 : is_literal (d ∷ ds ++ 39 ∷ tail) ≡ false = rw e5 (and_false (is_number (before_first is_quote (d ∷ ds ++ 39 ∷ tail)))) in
     no_token (d ∷ ds ++ 39 ∷ tail) e1 e2 e3 (no_sign is_digit d (ds ++ 39 ∷ tail) refl digit)
 
-pub literal_is : (d : ℕ) (ds : List ℕ) (e : ℕ) (es : List ℕ) → list_all is_digit (d ∷ ds) ≡ true → list_all is_hex (e ∷ es) ≡ true → token_of (d ∷ ds ++ 39 ∷ 104 ∷ e ∷ es) ≡ Some (Token.Literal (decimal_value (d ∷ ds)) (hexadecimal (e ∷ es)))
+pub literal_is : (d : ℕ) (ds : List ℕ) (e : ℕ) (es : List ℕ) → list_all is_digit (d ∷ ds) ≡ true
+    → list_all is_hex (e ∷ es) ≡ true → token_of (d ∷ ds ++ 39 ∷ 104 ∷ e
+    ∷ es) ≡ Some (Token.Literal (decimal_value (d ∷ ds)) (hexadecimal (e ∷ es)))
 literal_is d ds e es h k =
     let digit : is_digit d ≡ true = and_left (is_digit d) (list_all is_digit ds) h in
     let tail : List ℕ = 104 ∷ e ∷ es in

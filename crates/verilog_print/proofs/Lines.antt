@@ -11,7 +11,11 @@ use Rattle.rtl_ir.specs.declared.design.Update.{Update}
 use Rattle.rtl_ir.specs.declared.design.Instance.{Instance}
 use Rattle.rtl_ir.specs.declared.design.Module.{Module}
 use Rattle.rtl_text.specs.Text.{is_port}
-use Rattle.verilog_print.specs.Printed.{digits, net_text, declared, name_of, port_text, ports_text, declaration_text, nets_text, memory_text, expr_text, assign_text, target_text, update_text, updates_text, connections_text, instance_line, instance_text, module_text, modules_text}
+use Rattle.verilog_print.specs.Printed.{digits, net_text, declared, name_of, port_text, ports_text}
+use Rattle.verilog_print.specs.Printed.{declaration_text, nets_text, memory_text, expr_text}
+use Rattle.verilog_print.specs.Printed.{assign_text, target_text, update_text, updates_text}
+use Rattle.verilog_print.specs.Printed.{connections_text, instance_line, instance_text, module_text}
+use Rattle.verilog_print.specs.Printed.{modules_text}
 use Rattle.verilog_print.specs.Lines.{text_of_lines, port_lines, register_line, wire_line, net_lines, memory_line, assign_line, part_lines, instance_lines, update_line, update_lines, module_lines}
 
 lines_both : (xs ys : List (List ℕ)) → text_of_lines (xs ++ ys) ≡ text_of_lines xs ++ text_of_lines ys
@@ -22,7 +26,9 @@ each_line : {A : Type 0} (f g : A → List ℕ) → ((x : A) → f x ≡ g x ++ 
 each_line f g h [] = refl
 each_line f g h (x ∷ xs) = ap (λ (l : List ℕ). l ++ flat_map f xs) (h x) ∙ ap (λ (l : List ℕ). (g x ++ codes "\n") ++ l) (each_line f g h xs)
 
-later_ports : (nets : List Net) (p : Port) (ports : List Port) → port_text nets p ++ (flat_map (λ (q : Port). codes ",\n" ++ port_text nets q) ports ++ codes ");\n") ≡ text_of_lines (port_lines nets (p ∷ ports))
+later_ports : (nets : List Net) (p : Port) (ports : List Port) → port_text nets p
+    ++ (flat_map (λ (q : Port). codes ",\n" ++ port_text nets q) ports
+    ++ codes ");\n") ≡ text_of_lines (port_lines nets (p ∷ ports))
 later_ports nets p [] = sym (append-nil ((port_text nets p ++ codes ");") ++ codes "\n") ∙ append_assoc (port_text nets p) (codes ");") (codes "\n"))
 later_ports nets p (q ∷ ports) =
     let first : List ℕ = port_text nets p in
@@ -82,7 +88,9 @@ updates_in_lines m (u ∷ us) =
     (ap (λ (l : List ℕ). l ++ codes "end\n") (each_line (update_text m) (update_line m) (update_in_line m) (u ∷ us)) ∙ sym (lines_both (map (update_line m) (u ∷ us)) (codes "end" ∷ [])))
 
 -- lists of lines, one behind another
-all_both : (a b c d e f g : List (List ℕ)) → text_of_lines (a ++ b ++ c ++ d ++ e ++ f ++ g) ≡ text_of_lines a ++ text_of_lines b ++ text_of_lines c ++ text_of_lines d ++ text_of_lines e ++ text_of_lines f ++ text_of_lines g
+all_both : (a b c d e f g : List (List ℕ)) → text_of_lines (a ++ b ++ c ++ d ++ e ++ f
+    ++ g) ≡ text_of_lines a ++ text_of_lines b ++ text_of_lines c ++ text_of_lines d
+    ++ text_of_lines e ++ text_of_lines f ++ text_of_lines g
 all_both a b c d e f g =
     lines_both (a ++ b ++ c ++ d ++ e ++ f) g
     ∙ ap (λ (l : List ℕ). l ++ text_of_lines g) (lines_both (a ++ b ++ c ++ d ++ e) f
@@ -104,9 +112,14 @@ module_in_lines modules m =
     let instances = instances_in_lines modules m m.instances in
     let updates = updates_in_lines m m.updates in
     let head : List ℕ = (codes "module " ++ m.name ++ codes " (") ++ codes "\n" in
-    regrouped (codes "module ") m.name (codes " (") (codes "\n") (ports_text m.nets m.ports) (codes ");\n") (nets_text m.ports 0 m.nets) (flat_map memory_text m.mems) (flat_map (assign_text m) m.assigns) (flat_map (instance_text modules m) m.instances) (updates_text m m.updates) (codes "endmodule\n")
+    regrouped (codes "module ") m.name (codes " (") (codes "\n") (ports_text m.nets m.ports)
+    (codes ");\n") (nets_text m.ports 0 m.nets) (flat_map memory_text m.mems)
+    (flat_map (assign_text m) m.assigns) (flat_map (instance_text modules m) m.instances)
+    (updates_text m m.updates) (codes "endmodule\n")
     ∙ (λ i. head ++ (ports i ++ nets i ++ mems i ++ assigns i ++ instances i ++ updates i ++ codes "endmodule\n"))
-    ∙ ap (λ (l : List ℕ). head ++ l) (sym (all_both (port_lines m.nets m.ports) (net_lines m.ports 0 m.nets) (map memory_line m.mems) (map (assign_line m) m.assigns) (instance_lines modules m m.instances) (update_lines m m.updates) (codes "endmodule" ∷ [])))
+    ∙ ap (λ (l : List ℕ). head ++ l) (sym (all_both (port_lines m.nets m.ports)
+    (net_lines m.ports 0 m.nets) (map memory_line m.mems) (map (assign_line m) m.assigns)
+    (instance_lines modules m m.instances) (update_lines m m.updates) (codes "endmodule" ∷ [])))
 
 some_in_lines : (modules some : List Module) → flat_map (module_text modules) some ≡ text_of_lines (flat_map (module_lines modules) some)
 some_in_lines modules [] = refl

@@ -10,6 +10,8 @@ pub marked : (items : List Bool) (ports : List Port) (i n : ℕ) (d : Port) → 
     → get_or (set items (get_or ports i d).net true) n false ≡ is_port (take (i + 1) ports) n
 marked items ports i n d h k old = let s = is_port_step ports i n d h in grind (arith, common_steps, s)
 
-pub unmarked : (items : List Bool) (ports : List Port) (i n : ℕ) (d : Port) → i < length ports → n < length items → length items ≤ (get_or ports i d).net → get_or items n false ≡ is_port (take i ports) n
+pub unmarked : (items : List Bool) (ports : List Port) (i n : ℕ) (d : Port) → i < length ports
+    → n < length items → length items ≤ (get_or ports i d).net
+    → get_or items n false ≡ is_port (take i ports) n
     → get_or items n false ≡ is_port (take (i + 1) ports) n
 unmarked items ports i n d h k q old = let s = is_port_step ports i n d h in grind (arith, common_steps, s)

@@ -8,7 +8,10 @@ use Rattle.rtl_text.specs.Tree.{ItemTree, ModuleTree}
 use Rattle.rtl_text.specs.Productions.{Part, Choice}
 use Rattle.verilog_print.specs.Printed.{ports_text, nets_text, modules_text, assign_text, memory_text, updates_text, instance_text, module_text}
 use Rattle.verilog_print.proofs.Spelling.{Spells, pick, blank, end, word, id}
-use Rattle.verilog_print.proofs.Trees.{AllNamed, all_named, open_round, close_round, semicolon, port_tree, net_items, memory_item, assign_item, always_items, ports_spell, nets_spell, memories_spell, assigns_spell, always_spells}
+use Rattle.verilog_print.proofs.Trees.{AllNamed, all_named, open_round, close_round, semicolon}
+use Rattle.verilog_print.proofs.Trees.{port_tree, net_items, memory_item, assign_item, always_items}
+use Rattle.verilog_print.proofs.Trees.{ports_spell, nets_spell, memories_spell, assigns_spell}
+use Rattle.verilog_print.proofs.Trees.{always_spells}
 use Rattle.verilog_print.proofs.Instances.{instance_item, instances_spell, IsPart, parts, any_some}
 
 -- the items of a module
@@ -31,7 +34,9 @@ items_spell modules m part r =
     nets_spell m.ports 0 m.nets _ f.nets (memories_spell m.mems _ f.mems (assigns_spell m m.assigns _ named f.assigns
     (instances_spell modules m m.instances part.earlier _ named part.inner f.instances (always_spells m m.updates [] named f.updates r))))
 
-module_spells : (modules : List Module) (m : Module) {ps : List Part} {rest : List ℕ} → IsPart modules m → Spells ps rest → Spells (Part.Module (module_tree modules m) ∷ ps) (module_text modules m ++ rest)
+module_spells : (modules : List Module) (m : Module) {ps : List Part} {rest : List ℕ}
+    → IsPart modules m → Spells ps rest → Spells (Part.Module (module_tree modules m)
+    ∷ ps) (module_text modules m ++ rest)
 unfolding module_tree module_text
 module_spells modules m {ps = ps} {rest = rest} part r =
     let f : IsFormedModule part.earlier m = part.formed in
@@ -39,18 +44,28 @@ module_spells modules m {ps = ps} {rest = rest} part r =
     let text : List ℕ = nets_text m.ports 0 m.nets
     ++ (flat_map memory_text m.mems ++ (flat_map (assign_text m) m.assigns ++ (flat_map (instance_text modules m) m.instances ++ (updates_text m m.updates ++ (codes "endmodule\n" ++ rest))))) in
     let items : Spells (Part.Items (items_of modules m) ∷ Part.Reserved (codes "endmodule") ∷ ps) text = items_spell modules m part ended in
-    let ported : Spells (Part.Ports (map (port_tree m.nets) m.ports) ∷ Part.Sign_ (codes ")") ∷ Part.Sign_ (codes ";") ∷ Part.Items (items_of modules m) ∷ Part.Reserved (codes "endmodule") ∷ ps) (ports_text m.nets m.ports ++ 41 ∷ 59 ∷ 10 ∷ text) =
+    let ported : Spells (Part.Ports (map (port_tree m.nets) m.ports) ∷ Part.Sign_ (codes ")")
+    ∷ Part.Sign_ (codes ";") ∷ Part.Items (items_of modules m)
+    ∷ Part.Reserved (codes "endmodule") ∷ ps) (ports_text m.nets m.ports ++ 41 ∷ 59 ∷ 10
+    ∷ text) =
     ports_spell part.earlier m m.ports (any_some (is_bit_input m (codes "clk")) m.ports f.clock) f f.ports (close_round (semicolon (blank refl items))) in
     subst (λ l. Spells (Part.Module (module_tree modules m) ∷ ps) l)
-    (sym (regrouped (codes "module ") m.name (codes " (\n") (ports_text m.nets m.ports) (codes ");\n") (nets_text m.ports 0 m.nets) (flat_map memory_text m.mems) (flat_map (assign_text m) m.assigns) (flat_map (instance_text modules m) m.instances) (updates_text m m.updates) (codes "endmodule\n") rest))
+    (sym (regrouped (codes "module ") m.name (codes " (\n") (ports_text m.nets m.ports)
+    (codes ");\n") (nets_text m.ports 0 m.nets) (flat_map memory_text m.mems)
+    (flat_map (assign_text m) m.assigns) (flat_map (instance_text modules m) m.instances)
+    (updates_text m m.updates) (codes "endmodule\n") rest))
     (pick Choice.module' (word (codes "module") 32 refl refl refl (blank refl (id f.name refl (blank refl (open_round (blank refl ported)))))))
 
 -- some of the modules
-some_spell : (modules some : List Module) → ((k : ℕ) (m : Module) → slice_get some k ≡ Some m → IsPart modules m) → Spells (Part.Modules (map (module_tree modules) some) ∷ []) (flat_map (module_text modules) some)
+some_spell : (modules some : List Module) → ((k : ℕ) (m : Module) → slice_get some k ≡ Some m
+    → IsPart modules m) → Spells (Part.Modules (map (module_tree modules) some)
+    ∷ []) (flat_map (module_text modules) some)
 some_spell modules [] f = pick Choice.no_modules end
 some_spell modules (m ∷ some) f = pick Choice.more_modules (module_spells modules m (f 0 m refl) (some_spell modules some (λ k x e. f (suc k) x e)))
 
-file_spell : (modules some : List Module) → 0 < length some → ((k : ℕ) (m : Module) → slice_get some k ≡ Some m → IsPart modules m) → Spells (Part.File (map (module_tree modules) some) ∷ []) (flat_map (module_text modules) some)
+file_spell : (modules some : List Module) → 0 < length some
+    → ((k : ℕ) (m : Module) → slice_get some k ≡ Some m → IsPart modules m)
+    → Spells (Part.File (map (module_tree modules) some) ∷ []) (flat_map (module_text modules) some)
 file_spell modules [] h f = absurd (omega arith)
 file_spell modules (m ∷ some) h f = pick Choice.file (module_spells modules m (f 0 m refl) (some_spell modules some (λ k x e. f (suc k) x e)))
 

@@ -15,7 +15,10 @@ use Rattle.rtl_ir.specs.declared.design.Instance.{Instance}
 use Rattle.rtl_ir.specs.declared.design.Module.{Module}
 use Rattle.rtl_ir.specs.declared.design.Design.{Design}
 use Rattle.rtl_ir.specs.Formed.{IsFormed}
-use Rattle.rtl_text.specs.Tree.{Name, PortTree, InputPort, OutputPort, ExprTree, PlainTree, LiteralTree, NotTree, BinaryTree, ConcatTree, RepeatTree, PartTree, ChooseTree, CellTree, UpdateTree, RegisterUpdate, CellUpdate, Connection, ModuleTree}
+use Rattle.rtl_text.specs.Tree.{Name, PortTree, InputPort, OutputPort, ExprTree, PlainTree}
+use Rattle.rtl_text.specs.Tree.{LiteralTree, NotTree, BinaryTree, ConcatTree, RepeatTree, PartTree}
+use Rattle.rtl_text.specs.Tree.{ChooseTree, CellTree, UpdateTree, RegisterUpdate, CellUpdate}
+use Rattle.rtl_text.specs.Tree.{Connection, ModuleTree}
 use Rattle.rtl_text.specs.Text.{Pairwise, IsNet, IsMem, PortIs, ExprIs, AssignIs, UpdateIs, IsJoined, InstanceIs, ModuleIs, NamedAssign, NamedInstance, assigns_in, updates_in, instances_in}
 use Rattle.rtl_reading.specs.Reads.{IsNumbered}
 use Rattle.rtl_reading.specs.Renumbered.{port_as, expr_as, assign_as, target_as, update_as, instance_as, IsRenumbered, AreRenumbered}
@@ -24,7 +27,9 @@ use Rattle.verilog_print.proofs.Modules.{module_tree}
 use Rattle.verilog_print.proofs.Same.{module_is}
 use Rattle.verilog_print.proofs.Renumber.{number_of, renumbered, is_renumbered, is_numbered, same_wires, same_registers}
 
-pairwise_moved : {A B : Type 0} {R : A → B → Type 0} (S : A → B → Type 0) (g : B → B) → ((x : A) (y : B) → R x y → S x (g y)) → (xs : List A) (ys : List B) → Pairwise R xs ys → Pairwise S xs (map g ys)
+pairwise_moved : {A B : Type 0} {R : A → B → Type 0} (S : A → B → Type 0) (g : B → B)
+    → ((x : A) (y : B) → R x y → S x (g y)) → (xs : List A) (ys : List B) → Pairwise R xs ys
+    → Pairwise S xs (map g ys)
 pairwise_moved S g f [] [] p = tt
 pairwise_moved S g f (x ∷ xs) (y ∷ ys) p = (f x y p.0, pairwise_moved S g f xs ys p.1)
 pairwise_moved S g f [] (y ∷ ys) p = absurd p
@@ -81,11 +86,22 @@ module _ {m x : Module} (r : IsRenumbered m x) where
     writes = net_named value u.value h.writes;
   }
 
-  joined_moves : {inner other : Module} → IsRenumbered inner other → (f g : ℕ → ℕ) → ((name : Name) (n : ℕ) → IsNet inner name n → IsNet other name (g n)) → ((name : Name) (n : ℕ) → IsNet m name n → IsNet x name (f n)) → (cs : List Connection) (ports : List Port) (nets : List ℕ)
+  joined_moves : {inner other : Module} → IsRenumbered inner other → (f g : ℕ → ℕ)
+      → ((name : Name) (n : ℕ) → IsNet inner name n → IsNet other name (g n))
+      → ((name : Name) (n : ℕ) → IsNet m name n → IsNet x name (f n))
+      → (cs : List Connection) (ports : List Port) (nets : List ℕ)
       → Pairwise (IsJoined m inner cs) ports nets → Pairwise (IsJoined x other cs) (map (port_as g) ports) (map f nets)
   joined_moves s f g inside outside cs [] [] p = tt
-  joined_moves s f g inside outside cs (q ∷ ports) (n ∷ nets) p =
-      (record { port = p.0.port; net = p.0.net; listed = p.0.listed; named = inside p.0.port q.net p.0.named; joined = outside p.0.net n p.0.joined }, joined_moves s f g inside outside cs ports nets p.1)
+  joined_moves s f g inside outside cs (q ∷ ports) (n ∷ nets) p = (
+    record {
+      port = p.0.port;
+      net = p.0.net;
+      listed = p.0.listed;
+      named = inside p.0.port q.net p.0.named;
+      joined = outside p.0.net n p.0.joined;
+    },
+    joined_moves s f g inside outside cs ports nets p.1,
+  )
   joined_moves s f g inside outside cs [] (n ∷ nets) p = absurd p
   joined_moves s f g inside outside cs (q ∷ ports) [] p = absurd p
 
@@ -127,11 +143,15 @@ module _ (d : Design) (f : IsFormed d.modules) where
       }
 
   -- some of the modules
-  some_move : (some : List Module) → ((k : ℕ) (m : Module) → slice_get some k ≡ Some m → IsPart d.modules m) → Pairwise (ModuleIs (moved_design d)) (map (module_tree d.modules) some) (map (renumbered d.modules) some)
+  some_move : (some : List Module) → ((k : ℕ) (m : Module) → slice_get some k ≡ Some m
+      → IsPart d.modules m) → Pairwise (ModuleIs (moved_design d))
+      (map (module_tree d.modules) some) (map (renumbered d.modules) some)
   some_move [] g = tt
   some_move (m ∷ some) g = (module_moves m (g 0 m refl), some_move some (λ k x e. g (suc k) x e))
 
-  some_numbered : (some : List Module) → ((k : ℕ) (m : Module) → slice_get some k ≡ Some m → IsPart d.modules m) → Pairwise IsNumbered (map (module_tree d.modules) some) (map (renumbered d.modules) some)
+  some_numbered : (some : List Module) → ((k : ℕ) (m : Module) → slice_get some k ≡ Some m
+      → IsPart d.modules m) → Pairwise IsNumbered (map (module_tree d.modules) some)
+      (map (renumbered d.modules) some)
   some_numbered [] g = tt
   some_numbered (m ∷ some) g = (is_numbered d.modules m (g 0 m refl).formed, some_numbered some (λ k x e. g (suc k) x e))
 

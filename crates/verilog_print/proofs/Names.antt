@@ -45,8 +45,15 @@ wider false false false false e h = cc
 -- where the second and the third of three lists grow
 pub in_wider : (name : Name) (xs ys more zs others : List Name) → is_in name (xs ++ ys ++ zs) ≡ true → is_in name (xs ++ (ys ++ more) ++ (zs ++ others)) ≡ true
 in_wider name xs ys more zs others h =
-    let old : ((is_in name xs || is_in name ys) || is_in name zs) ≡ true = ap (λ b. b || is_in name zs) (sym (list_any-append (bytes_eq name) xs ys)) ∙ sym (list_any-append (bytes_eq name) (xs ++ ys) zs) ∙ h in
-    rw (list_any-append (bytes_eq name) (xs ++ (ys ++ more)) (zs ++ others), list_any-append (bytes_eq name) xs (ys ++ more), list_any-append (bytes_eq name) ys more, list_any-append (bytes_eq name) zs others)
+    let old : ((is_in name xs || is_in name ys) || is_in name zs) ≡ true = ap
+    (λ b. b || is_in name zs) (sym (list_any-append (bytes_eq name) xs ys)) ∙ sym
+    (list_any-append (bytes_eq name) (xs ++ ys) zs) ∙ h in
+    rw (
+      list_any-append (bytes_eq name) (xs ++ (ys ++ more)) (zs ++ others),
+      list_any-append (bytes_eq name) xs (ys ++ more),
+      list_any-append (bytes_eq name) ys more,
+      list_any-append (bytes_eq name) zs others,
+    )
     (wider (is_in name xs) (is_in name ys) (is_in name more) (is_in name zs) (is_in name others) old)
 
 -- an element is in its list
@@ -55,7 +62,9 @@ in_at [] k name e = cc
 in_at (x ∷ xs) zero name e = let same : name ≡ x = cc in rw ((bytes_eq-Decides name x).1 same) refl
 in_at (x ∷ xs) (suc k) name e = rw (in_at xs k name e) (or_true (bytes_eq name x))
 
-place_from : (name x : Name) (xs : List Name) → (is_in name xs ≡ true → (k : ℕ) × (slice_get xs k ≡ Some name)) → (b : Bool) → bytes_eq name x ≡ b → (b || is_in name xs) ≡ true → (k : ℕ) × (slice_get (x ∷ xs) k ≡ Some name)
+place_from : (name x : Name) (xs : List Name) → (is_in name xs ≡ true → (k : ℕ)
+    × (slice_get xs k ≡ Some name)) → (b : Bool) → bytes_eq name x ≡ b
+    → (b || is_in name xs) ≡ true → (k : ℕ) × (slice_get (x ∷ xs) k ≡ Some name)
 place_from name x xs f true e h = let same : name ≡ x = (bytes_eq-Decides name x).0 e in (zero, ap Some (sym same))
 place_from name x xs f false e h = let (k, at) = f h in (suc k, at)
 
@@ -76,4 +85,9 @@ get_seam (x ∷ xs) y ys = get_seam xs y ys
 -- where all names differ, none is among those before it
 pub not_before : (xs : List Name) (y : Name) (ys : List Name) → AllDiffer (xs ++ y ∷ ys) → is_in y xs ≡ false
 not_before xs y ys d =
-    not_so (is_in y xs) (λ h. let (k, at) = place_of y xs h in let within : k < length xs = slice_get_within xs k y at in let same : k ≡ length xs = d k (length xs) y (get_first xs (y ∷ ys) k y at) (get_seam xs y ys) in absurd (omega arith))
+    not_so (is_in y xs) (λ h. let (
+      k,
+      at,
+    ) = place_of y xs h in let within : k
+    < length xs = slice_get_within xs k y at in let same : k ≡ length xs = d k (length xs) y
+    (get_first xs (y ∷ ys) k y at) (get_seam xs y ys) in absurd (omega arith))

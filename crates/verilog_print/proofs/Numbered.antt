@@ -109,7 +109,9 @@ no_item n true is e = cc
 no_item n false is e = refl
 
 -- the nets from number k on: those of these ports, and then those that are no port's
-nets_in_order : (all : List Port) (m : Module) (ports : List Port) (nets : List Net) (k : ℕ) → map (λ (p : Port). p.net) ports ≡ numbers_from k ports → ((j : ℕ) → slice_get m.nets (k + j) ≡ slice_get nets j)
+nets_in_order : (all : List Port) (m : Module) (ports : List Port) (nets : List Net) (k : ℕ)
+    → map (λ (p : Port). p.net) ports ≡ numbers_from k ports
+    → ((j : ℕ) → slice_get m.nets (k + j) ≡ slice_get nets j)
     → ((n : ℕ) → k ≤ n → n < k + length ports → is_port all n ≡ true) → ((n : ℕ) → k + length ports ≤ n → is_port all n ≡ false) → ((j : ℕ) (p : Port) → slice_get ports j ≡ Some p → IsFormedPort m p)
     → nets ≡ map port_net (map (port_tree m.nets) ports) ++ item_nets (net_items all k nets)
 unfolding net_items
@@ -132,7 +134,10 @@ nets_in_order all m (p ∷ ports) (n ∷ nets) k e at f g formed =
     nets_in_order all m ports nets (k + 1) others moved (λ j h l. f j (omega arith) (omega arith)) (λ j h. g j (omega arith)) (λ j q d. formed (suc j) q d) in
     let skipped : net_item n.reg (is_port all k) n ++ net_items all (k + 1) nets ≡ net_items all (k + 1) nets =
     subst (λ b. net_item n.reg b n ++ net_items all (k + 1) nets ≡ net_items all (k + 1) nets) (sym marked) (no_item n n.reg (net_items all (k + 1) nets) wire) in
-    let behind : nets ≡ map port_net (map (port_tree m.nets) ports) ++ item_nets (net_item n.reg (is_port all k) n ++ net_items all (k + 1) nets) = left ∙ ap (λ l. map port_net (map (port_tree m.nets) ports) ++ item_nets l) (sym skipped) in
+    let behind : nets ≡ map port_net (map (port_tree m.nets) ports)
+    ++ item_nets (net_item n.reg (is_port all k) n
+    ++ net_items all (k + 1) nets) = left ∙ ap (λ l. map port_net
+    (map (port_tree m.nets) ports) ++ item_nets l) (sym skipped) in
     ap (λ x. x ∷ nets) (sym (port_net_is m.nets p n own wire)) ∙ ap (λ l. port_net (port_tree m.nets p) ∷ l) behind
 
 pub numbers_same : {A B : Type 0} (f : A → B) (k : ℕ) (xs : List A) → numbers_from k (map f xs) ≡ numbers_from k xs
@@ -154,7 +159,10 @@ unfolding module_tree
 module_numbered modules earlier m f first =
     let zero_at : (j : ℕ) → slice_get m.nets (0 + j) ≡ slice_get m.nets j = λ j. let same : 0 + j ≡ j = omega arith in ap (slice_get m.nets) same in
     record {
-      nets = nets_in_order m.ports m m.ports m.nets 0 first zero_at (λ n h l. is_port_within m.ports 0 n first h l) (λ n h. is_port_past m.ports 0 n first h) f.ports ∙ ap (λ l. map port_net (map (port_tree m.nets) m.ports) ++ l) (sym (items_declare modules m));
+      nets = nets_in_order m.ports m m.ports m.nets 0 first zero_at
+          (λ n h l. is_port_within m.ports 0 n first h l)
+          (λ n h. is_port_past m.ports 0 n first h) f.ports ∙ ap
+          (λ l. map port_net (map (port_tree m.nets) m.ports) ++ l) (sym (items_declare modules m));
       ports = first ∙ sym (numbers_same (port_tree m.nets) 0 m.ports);
     }
 

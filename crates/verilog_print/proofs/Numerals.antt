@@ -24,7 +24,9 @@ pub record AreDigits (base : ℕ) (test : ℕ → Bool) (n : ℕ) (ds : List ℕ
 one_digit : (base : ℕ) (test : ℕ → Bool) → ((d : ℕ) → d < base → test (digit_byte d) ≡ true) → base ≤ 16 → (n : ℕ) → n < base → AreDigits base test n (digit_byte n ∷ [])
 one_digit base test p u n h = record { first = digit_byte n; rest = []; some = refl; pass = rw (p n h) refl; say = rw (byte_value n (omega arith)) (omega arith) }
 
-more_digits : (base : ℕ) (test : ℕ → Bool) → ((d : ℕ) → d < base → test (digit_byte d) ≡ true) → 2 ≤ base → base ≤ 16 → (n : ℕ) (ds : List ℕ) → AreDigits base test (n / base) ds → AreDigits base test n (ds ++ digit_byte (n % base) ∷ [])
+more_digits : (base : ℕ) (test : ℕ → Bool) → ((d : ℕ) → d < base → test (digit_byte d) ≡ true)
+    → 2 ≤ base → base ≤ 16 → (n : ℕ) (ds : List ℕ) → AreDigits base test (n / base) ds
+    → AreDigits base test n (ds ++ digit_byte (n % base) ∷ [])
 more_digits base test p l u n ds a =
     let low : n % base < base = omega arith in
     record {

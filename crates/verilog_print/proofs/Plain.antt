@@ -151,7 +151,9 @@ module _ {m : Module} (p : ArePlain m) where
 
   update_plain : (u : Update) → IsLine (update_line m u)
   update_plain u =
-      behind (behind (behind (behind (behind (behind (text (codes "if (") refl) (name_at u.enable)) (text (codes ") ") refl)) (target_plain u.target)) (text (codes " <= ") refl)) (name_at u.value)) (text (codes ";") refl)
+      behind (behind (behind (behind (behind (behind (text (codes "if (") refl)
+      (name_at u.enable)) (text (codes ") ") refl)) (target_plain u.target))
+      (text (codes " <= ") refl)) (name_at u.value)) (text (codes ";") refl)
 
 -- lists of lines
 pub record AreLines (xs : List (List ℕ)) : Type 0 where
@@ -187,7 +189,9 @@ nets_plain ports k (n ∷ nets) h = go n.reg (is_port ports k) (range_plain n (h
 
 memory_plain : (x : Mem) → IsLine x.name → IsLine (memory_line x)
 memory_plain x h =
-    behind (behind (behind (behind (behind (behind (text (codes "reg [") refl) (decimal_plain (x.width - 1))) (text (codes ":0] ") refl)) h) (text (codes " [0:") refl)) (decimal_plain (x.depth - 1))) (text (codes "];") refl)
+    behind (behind (behind (behind (behind (behind (text (codes "reg [") refl)
+    (decimal_plain (x.width - 1))) (text (codes ":0] ") refl)) h)
+    (text (codes " [0:") refl)) (decimal_plain (x.depth - 1))) (text (codes "];") refl)
 
 updates_plain : {m : Module} → ArePlain m → (us : List Update) → AreLines (update_lines m us)
 updates_plain p [] = lines [] refl
@@ -209,12 +213,16 @@ module _ {outer inner : Module} (p : ArePlain outer) (q : ArePlain inner) where
 
   part_plain : (i : Instance) → IsLine i.name → AreLines (part_lines outer.nets i (Some inner))
   part_plain i h =
-      line_before (behind (behind (behind (behind (behind q.own (text (codes " ") refl)) h) (text (codes " (") refl)) (connections_plain (zip inner.ports i.nets))) (text (codes ");") refl)) (lines [] refl)
+      line_before (behind (behind (behind (behind (behind q.own (text (codes " ") refl)) h)
+      (text (codes " (") refl)) (connections_plain (zip inner.ports i.nets)))
+      (text (codes ");") refl)) (lines [] refl)
 
 abbrev pub AllPlain : List Module → Type 0
 AllPlain modules = (k : ℕ) (m : Module) → slice_get modules k ≡ Some m → ArePlain m
 
-instances_plain : (modules : List Module) {m : Module} → AllPlain modules → ArePlain m → (instances : List Instance) → ((k : ℕ) (i : Instance) → slice_get instances k ≡ Some i → IsLine i.name) → AreLines (instance_lines modules m instances)
+instances_plain : (modules : List Module) {m : Module} → AllPlain modules → ArePlain m
+    → (instances : List Instance) → ((k : ℕ) (i : Instance) → slice_get instances k ≡ Some i
+    → IsLine i.name) → AreLines (instance_lines modules m instances)
 instances_plain modules all p [] h = lines [] refl
 instances_plain modules {m = m} all p (i ∷ instances) h = are_both (go (slice_get modules i.«module») refl) (instances_plain modules all p instances (λ k x e. h (suc k) x e))
   where

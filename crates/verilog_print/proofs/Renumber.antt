@@ -39,7 +39,9 @@ renumbered modules m = record {
 abbrev found : List Net → List (Option Net)
 found nets = map (λ (n : Net). Some n) nets
 
-ports_found : (nets : List Net) (m : Module) (ports : List Port) → m.nets ≡ nets → ((k : ℕ) (p : Port) → slice_get ports k ≡ Some p → IsFormedPort m p) → found (map port_net (map (port_tree nets) ports)) ≡ map (slice_get nets) (port_numbers ports)
+ports_found : (nets : List Net) (m : Module) (ports : List Port) → m.nets ≡ nets
+    → ((k : ℕ) (p : Port) → slice_get ports k ≡ Some p → IsFormedPort m p)
+    → found (map port_net (map (port_tree nets) ports)) ≡ map (slice_get nets) (port_numbers ports)
 ports_found nets m [] same f = refl
 ports_found nets m (p ∷ ports) same f =
     let g : IsFormedPort m p = f 0 p refl in
@@ -48,9 +50,13 @@ ports_found nets m (p ∷ ports) same f =
     let here : slice_get m.nets p.net ≡ Some net = ap (λ (l : List Net). slice_get l p.net) same ∙ at in
     let wire : net.reg ≡ false = rw here at g.wire in
     let first : Some (port_net (port_tree nets p)) ≡ slice_get nets p.net = ap (λ (n : Net). Some n) (port_net_is nets p net at wire) ∙ sym at in
-    ap (λ (o : Option Net). o ∷ found (map port_net (map (port_tree nets) ports))) first ∙ ap (λ (l : List (Option Net)). slice_get nets p.net ∷ l) (ports_found nets m ports same (λ k q e. f (suc k) q e))
+    ap (λ (o : Option Net). o ∷ found (map port_net (map (port_tree nets) ports))) first ∙ ap
+    (λ (l : List (Option Net)). slice_get nets p.net
+    ∷ l) (ports_found nets m ports same (λ k q e. f (suc k) q e))
 
-others_found : (nets : List Net) (ports : List Port) (k : ℕ) (left : List Net) → ((j : ℕ) → slice_get nets (k + j) ≡ slice_get left j) → ((j : ℕ) (x : Net) → slice_get left j ≡ Some x → is_port ports (k + j) ≡ true → x.reg ≡ false)
+others_found : (nets : List Net) (ports : List Port) (k : ℕ) (left : List Net)
+    → ((j : ℕ) → slice_get nets (k + j) ≡ slice_get left j)
+    → ((j : ℕ) (x : Net) → slice_get left j ≡ Some x → is_port ports (k + j) ≡ true → x.reg ≡ false)
     → found (item_nets (net_items ports k left)) ≡ map (slice_get nets) (others_from ports k left)
 unfolding net_items
 others_found nets ports k [] at wire = refl
@@ -61,11 +67,16 @@ others_found nets ports k (x ∷ left) at wire =
     let own : slice_get nets k ≡ Some x = ap (slice_get nets) (sym here) ∙ at 0 in
     go (is_port ports k) refl own (λ yes. wire 0 x refl (subst (λ (v : ℕ). is_port ports v ≡ true) (sym here) yes)) later
   where
-    go : (b : Bool) → is_port ports k ≡ b → slice_get nets k ≡ Some x → (is_port ports k ≡ true → x.reg ≡ false) → found (item_nets (net_items ports (k + 1) left)) ≡ map (slice_get nets) (others_from ports (k + 1) left)
+    go : (b : Bool) → is_port ports k ≡ b → slice_get nets k ≡ Some x
+        → (is_port ports k ≡ true → x.reg ≡ false)
+        → found (item_nets (net_items ports (k + 1) left)) ≡ map (slice_get nets)
+        (others_from ports (k + 1) left)
         → found (item_nets (net_item x.reg b x ++ net_items ports (k + 1) left)) ≡ map (slice_get nets) (if b then others_from ports (k + 1) left else k ∷ others_from ports (k + 1) left)
     go true e own f later = ap (λ (l : List ItemTree). found (item_nets l)) (no_item x x.reg (net_items ports (k + 1) left) (f e)) ∙ later
     go false e own f later =
-        ap found (own_net x x.reg (net_items ports (k + 1) left) refl) ∙ ap (λ (o : Option Net). o ∷ found (item_nets (net_items ports (k + 1) left))) (sym own) ∙ ap (λ (l : List (Option Net)). slice_get nets k ∷ l) later
+        ap found (own_net x x.reg (net_items ports (k + 1) left) refl) ∙ ap
+        (λ (o : Option Net). o ∷ found (item_nets (net_items ports (k + 1) left)))
+        (sym own) ∙ ap (λ (l : List (Option Net)). slice_get nets k ∷ l) later
 
 nets_found : (modules : List Module) (m : Module) {earlier : List Module} → IsFormedModule earlier m → found (nets_of modules m) ≡ map (slice_get m.nets) (order m)
 nets_found modules m f =
@@ -86,10 +97,14 @@ unwrapped : (o q : Option Net) → option_map (λ (n : Net). Some n) o ≡ Some 
 unwrapped None q e = absurd (cc)
 unwrapped (Some x) q e = cc
 
-pub net_there : (modules : List Module) (m : Module) {earlier : List Module} → IsFormedModule earlier m → (i n : ℕ) → slice_get (order m) i ≡ Some n → slice_get (nets_of modules m) i ≡ slice_get m.nets n
+pub net_there : (modules : List Module) (m : Module) {earlier : List Module}
+    → IsFormedModule earlier m → (i n : ℕ) → slice_get (order m) i ≡ Some n
+    → slice_get (nets_of modules m) i ≡ slice_get m.nets n
 net_there modules m f i n e =
     unwrapped (slice_get (nets_of modules m) i) (slice_get m.nets n)
-    (sym (slice_get-map (λ (x : Net). Some x) (nets_of modules m) i) ∙ ap (λ (l : List (Option Net)). slice_get l i) (nets_found modules m f) ∙ slice_get-map (slice_get m.nets) (order m) i ∙ ap (option_map (slice_get m.nets)) e)
+    (sym (slice_get-map (λ (x : Net). Some x) (nets_of modules m) i) ∙ ap
+    (λ (l : List (Option Net)). slice_get l i) (nets_found modules m f) ∙ slice_get-map
+    (slice_get m.nets) (order m) i ∙ ap (option_map (slice_get m.nets)) e)
 
 pub same_count : (modules : List Module) (m : Module) {earlier : List Module} → IsFormedModule earlier m → length (nets_of modules m) ≡ length (order m)
 same_count modules m f = sym (length-map (nets_of modules m) (λ (x : Net). Some x)) ∙ ap (λ (l : List (Option Net)). length l) (nets_found modules m f) ∙ length-map (order m) (slice_get m.nets)
@@ -148,7 +163,9 @@ unfolding module_tree
 is_numbered modules m f = record { nets = refl; ports = numbered_ports m f ∙ sym (numbers_same (port_tree m.nets) 0 m.ports) }
 
 -- what the nets in that order declare
-wires_past : (all : List Port) (ts : List PortTree) (k : ℕ) (left : List Net) → ((n : ℕ) → k ≤ n → n < k + length ts → is_port all n ≡ true) → wires_from all k (map port_net ts ++ left) ≡ wires_from all (k + length ts) left
+wires_past : (all : List Port) (ts : List PortTree) (k : ℕ) (left : List Net)
+    → ((n : ℕ) → k ≤ n → n < k + length ts → is_port all n ≡ true)
+    → wires_from all k (map port_net ts ++ left) ≡ wires_from all (k + length ts) left
 wires_past all [] k left f = let same : k ≡ k + 0 = omega arith in ap (λ (i : ℕ). wires_from all i left) same
 wires_past all (t ∷ ts) k left f =
     skip (port_net t).reg (is_port all k) (f k (omega arith) (omega arith))
@@ -156,7 +173,10 @@ wires_past all (t ∷ ts) k left f =
     ∙ (let same : k + 1 + length ts ≡ k + suc (length ts) = omega arith in ap (λ (i : ℕ). wires_from all i left) same)
   where
     skip : (r b : Bool) → b ≡ true
-        → (if r || b then wires_from all (k + 1) (map port_net ts ++ left) else record { name = (port_net t).name; width = (port_net t).width } ∷ wires_from all (k + 1) (map port_net ts ++ left)) ≡ wires_from all (k + 1) (map port_net ts ++ left)
+        → (if r || b then wires_from all (k + 1) (map port_net ts
+        ++ left) else record { name = (port_net t).name; width = (port_net t).width }
+        ∷ wires_from all (k + 1) (map port_net ts
+        ++ left)) ≡ wires_from all (k + 1) (map port_net ts ++ left)
     skip true b e = refl
     skip false true e = refl
     skip false false e = absurd (cc)
@@ -189,10 +209,14 @@ registers_left (InstanceItem of name cs ∷ is) = registers_left is
 pub same_registers : (modules : List Module) (m : Module) → registers_in (items_of modules m) ≡ registers_of (nets_of modules m)
 same_registers modules m = sym (registers_past (map (port_tree m.nets) m.ports) (item_nets (items_of modules m)) ∙ registers_left (items_of modules m))
 
-pub same_wires : (modules : List Module) (m : Module) {earlier : List Module} → IsFormedModule earlier m → wires_in (items_of modules m) ≡ wires_from (map (port_as (number_of m)) m.ports) 0 (nets_of modules m)
+pub same_wires : (modules : List Module) (m : Module) {earlier : List Module}
+    → IsFormedModule earlier m → wires_in (items_of modules m) ≡ wires_from
+    (map (port_as (number_of m)) m.ports) 0 (nets_of modules m)
 same_wires modules m f =
     let all : List Port = map (port_as (number_of m)) m.ports in
     let ts : List PortTree = map (port_tree m.nets) m.ports in
     let first : IsPortsFirst (renumbered modules m) = numbered_ports m f ∙ sym (numbers_same (port_as (number_of m)) 0 m.ports) in
     let count : length ts ≡ length all = length-map m.ports (port_tree m.nets) ∙ sym (length-map m.ports (port_as (number_of m))) in
-    sym (wires_past all ts 0 (item_nets (items_of modules m)) (λ n h l. is_port_within all 0 n first h (omega arith)) ∙ wires_left all (items_of modules m) (0 + length ts) (λ n h. is_port_past all 0 n first (omega arith)))
+    sym (wires_past all ts 0 (item_nets (items_of modules m))
+    (λ n h l. is_port_within all 0 n first h (omega arith)) ∙ wires_left all
+    (items_of modules m) (0 + length ts) (λ n h. is_port_past all 0 n first (omega arith)))

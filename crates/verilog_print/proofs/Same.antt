@@ -18,7 +18,11 @@ use Rattle.rtl_ir.specs.declared.design.Module.{Module}
 use Rattle.rtl_ir.specs.declared.design.Design.{Design}
 use Rattle.rtl_ir.specs.Formed.{IsFormedPort, IsFormedExpr, IsFormedAssign, IsFormedUpdate, IsFormedInstance, IsFormedModule, IsFormed}
 use Rattle.rtl_text.specs.Tree.{Connection, ItemTree, UpdateTree, WireItem, RegisterItem, MemoryItem, AssignItem, AlwaysItem, InstanceItem}
-use Rattle.rtl_text.specs.Text.{Pairwise, IsNet, PortIs, ExprIs, AssignIs, ModuleIs, is_port, wires_in, wires_from, registers_in, registers_of, memories_in, memories_of, assigns_in, updates_in, instances_in, UpdateIs, IsJoined, InstanceIs, IsMem, Declared, DeclaredMemory, NamedAssign, NamedInstance}
+use Rattle.rtl_text.specs.Text.{Pairwise, IsNet, PortIs, ExprIs, AssignIs, ModuleIs, is_port}
+use Rattle.rtl_text.specs.Text.{wires_in, wires_from, registers_in, registers_of, memories_in}
+use Rattle.rtl_text.specs.Text.{memories_of, assigns_in, updates_in, instances_in, UpdateIs}
+use Rattle.rtl_text.specs.Text.{IsJoined, InstanceIs, IsMem, Declared, DeclaredMemory, NamedAssign}
+use Rattle.rtl_text.specs.Text.{NamedInstance}
 use Rattle.verilog_print.specs.Printed.{name_of, mem_name}
 use Rattle.verilog_print.proofs.Trees.{element_at, port_tree, port_of, expr_tree, net_item, net_items, memory_item, assign_item, update_of, update_tree, always_items}
 use Rattle.verilog_print.proofs.Instances.{connection_tree, instance_tree, named_instance, instance_item, InnerOf, IsPart, parts}
@@ -66,12 +70,54 @@ pub record Joined (is js : List ItemTree) : Type 0 where
 
 pub joined : (is js : List ItemTree) → Joined is js
 joined [] js = record { wires = refl; registers = refl; memories = refl; assigns = refl; updates = refl; instances = refl }
-joined (WireItem w n ∷ is) js = let r = joined is js in let own : Declared = record { name = n; width = w } in record { wires = ap (λ l. own ∷ l) r.wires; registers = r.registers; memories = r.memories; assigns = r.assigns; updates = r.updates; instances = r.instances }
-joined (RegisterItem w n ∷ is) js = let r = joined is js in record { wires = r.wires; registers = (let own : Declared = record { name = n; width = w } in ap (λ l. own ∷ l) r.registers); memories = r.memories; assigns = r.assigns; updates = r.updates; instances = r.instances }
-joined (MemoryItem w n d ∷ is) js = let r = joined is js in record { wires = r.wires; registers = r.registers; memories = (let own : DeclaredMemory = record { name = n; width = w; depth = d } in ap (λ l. own ∷ l) r.memories); assigns = r.assigns; updates = r.updates; instances = r.instances }
-joined (AssignItem n e ∷ is) js = let r = joined is js in record { wires = r.wires; registers = r.registers; memories = r.memories; assigns = (let own : NamedAssign = record { target = n; expr = e } in ap (λ l. own ∷ l) r.assigns); updates = r.updates; instances = r.instances }
-joined (AlwaysItem us ∷ is) js = let r = joined is js in record { wires = r.wires; registers = r.registers; memories = r.memories; assigns = r.assigns; updates = ap (λ l. us ++ l) r.updates ∙ sym (append_assoc us (updates_in is) (updates_in js)); instances = r.instances }
-joined (InstanceItem o n cs ∷ is) js = let r = joined is js in record { wires = r.wires; registers = r.registers; memories = r.memories; assigns = r.assigns; updates = r.updates; instances = (let own : NamedInstance = record { of = o; name = n; connections = cs } in ap (λ l. own ∷ l) r.instances) }
+joined (WireItem w n ∷ is) js = let r = joined is js in let own : Declared = record { name = n; width = w } in record {
+  wires = ap (λ l. own ∷ l) r.wires;
+  registers = r.registers;
+  memories = r.memories;
+  assigns = r.assigns;
+  updates = r.updates;
+  instances = r.instances;
+}
+joined (RegisterItem w n ∷ is) js = let r = joined is js in record {
+  wires = r.wires;
+  registers = (let own : Declared = record { name = n; width = w } in ap (λ l. own ∷ l) r.registers);
+  memories = r.memories;
+  assigns = r.assigns;
+  updates = r.updates;
+  instances = r.instances;
+}
+joined (MemoryItem w n d ∷ is) js = let r = joined is js in record {
+  wires = r.wires;
+  registers = r.registers;
+  memories = (let own : DeclaredMemory = record { name = n; width = w; depth = d } in ap (λ l. own ∷ l) r.memories);
+  assigns = r.assigns;
+  updates = r.updates;
+  instances = r.instances;
+}
+joined (AssignItem n e ∷ is) js = let r = joined is js in record {
+  wires = r.wires;
+  registers = r.registers;
+  memories = r.memories;
+  assigns = (let own : NamedAssign = record { target = n; expr = e } in ap (λ l. own ∷ l) r.assigns);
+  updates = r.updates;
+  instances = r.instances;
+}
+joined (AlwaysItem us ∷ is) js = let r = joined is js in record {
+  wires = r.wires;
+  registers = r.registers;
+  memories = r.memories;
+  assigns = r.assigns;
+  updates = ap (λ l. us ++ l) r.updates ∙ sym (append_assoc us (updates_in is) (updates_in js));
+  instances = r.instances;
+}
+joined (InstanceItem o n cs ∷ is) js = let r = joined is js in record {
+  wires = r.wires;
+  registers = r.registers;
+  memories = r.memories;
+  assigns = r.assigns;
+  updates = r.updates;
+  instances = (let own : NamedInstance = record { of = o; name = n; connections = cs } in ap (λ l. own ∷ l) r.instances);
+}
 
 -- what a list of items declares
 pub record Declares (is : List ItemTree) (ws rs : List Declared) (ms : List DeclaredMemory) (bs : List NamedAssign) (us : List UpdateTree) (ns : List NamedInstance) : Type 0 where
@@ -82,7 +128,10 @@ pub record Declares (is : List ItemTree) (ws rs : List Declared) (ms : List Decl
   pub updates : updates_in is ≡ us
   pub instances : instances_in is ≡ ns
 
-net_declares : (reg port : Bool) (n : Net) → Declares (net_item reg port n) (if reg || port then [] else record { name = n.name; width = n.width } ∷ []) (if reg then record { name = n.name; width = n.width } ∷ [] else []) [] [] [] []
+net_declares : (reg port : Bool) (n : Net)
+    → Declares (net_item reg port n) (if reg || port then [] else record
+    { name = n.name; width = n.width }
+    ∷ []) (if reg then record { name = n.name; width = n.width } ∷ [] else []) [] [] [] []
 unfolding net_item
 net_declares true port n = record { wires = refl; registers = refl; memories = refl; assigns = refl; updates = refl; instances = refl }
 net_declares false true n = record { wires = refl; registers = refl; memories = refl; assigns = refl; updates = refl; instances = refl }
@@ -105,8 +154,13 @@ nets_declare ports k (n ∷ ns) =
     let r = nets_declare ports (k + 1) ns in
     let j = joined (net_item n.reg (is_port ports k) n) (net_items ports (k + 1) ns) in
     record {
-      wires = j.wires ∙ ap (λ l. l ++ wires_in (net_items ports (k + 1) ns)) o.wires ∙ ap (λ l. (if n.reg || is_port ports k then [] else own ∷ []) ++ l) r.wires ∙ shift (n.reg || is_port ports k) own (wires_from ports (k + 1) ns);
-      registers = j.registers ∙ ap (λ l. l ++ registers_in (net_items ports (k + 1) ns)) o.registers ∙ ap (λ l. (if n.reg then own ∷ [] else []) ++ l) r.registers ∙ shift_other n.reg own (registers_of ns);
+      wires = j.wires ∙ ap (λ l. l ++ wires_in (net_items ports (k + 1) ns)) o.wires ∙ ap
+          (λ l. (if n.reg || is_port ports k then [] else own ∷ [])
+          ++ l) r.wires ∙ shift (n.reg || is_port ports k) own (wires_from ports (k + 1) ns);
+      registers = j.registers ∙ ap (λ l. l
+          ++ registers_in (net_items ports (k + 1) ns)) o.registers ∙ ap
+          (λ l. (if n.reg then own ∷ [] else [])
+          ++ l) r.registers ∙ shift_other n.reg own (registers_of ns);
       memories = j.memories ∙ ap (λ l. l ++ memories_in (net_items ports (k + 1) ns)) o.memories ∙ r.memories;
       assigns = j.assigns ∙ ap (λ l. l ++ assigns_in (net_items ports (k + 1) ns)) o.assigns ∙ r.assigns;
       updates = j.updates ∙ ap (λ l. l ++ updates_in (net_items ports (k + 1) ns)) o.updates ∙ r.updates;
@@ -116,7 +170,14 @@ nets_declare ports k (n ∷ ns) =
 pub memories_declare : (mems : List Mem) → Declares (map memory_item mems) [] [] (memories_of mems) [] [] []
 unfolding memory_item
 memories_declare [] = record { wires = refl; registers = refl; memories = refl; assigns = refl; updates = refl; instances = refl }
-memories_declare (x ∷ mems) = let r = memories_declare mems in record { wires = r.wires; registers = r.registers; memories = (let own : DeclaredMemory = record { name = x.name; width = x.width; depth = x.depth } in ap (λ l. own ∷ l) r.memories); assigns = r.assigns; updates = r.updates; instances = r.instances }
+memories_declare (x ∷ mems) = let r = memories_declare mems in record {
+  wires = r.wires;
+  registers = r.registers;
+  memories = (let own : DeclaredMemory = record { name = x.name; width = x.width; depth = x.depth } in ap (λ l. own ∷ l) r.memories);
+  assigns = r.assigns;
+  updates = r.updates;
+  instances = r.instances;
+}
 
 named_assign : Module → Assign → NamedAssign
 named_assign m a = record { target = name_of m.nets a.target; expr = expr_tree m a.expr }
@@ -124,7 +185,14 @@ named_assign m a = record { target = name_of m.nets a.target; expr = expr_tree m
 assigns_declare : (m : Module) (assigns : List Assign) → Declares (map (assign_item m) assigns) [] [] [] (map (named_assign m) assigns) [] []
 unfolding assign_item named_assign
 assigns_declare m [] = record { wires = refl; registers = refl; memories = refl; assigns = refl; updates = refl; instances = refl }
-assigns_declare m (a ∷ assigns) = let r = assigns_declare m assigns in record { wires = r.wires; registers = r.registers; memories = r.memories; assigns = ap (λ l. named_assign m a ∷ l) r.assigns; updates = r.updates; instances = r.instances }
+assigns_declare m (a ∷ assigns) = let r = assigns_declare m assigns in record {
+  wires = r.wires;
+  registers = r.registers;
+  memories = r.memories;
+  assigns = ap (λ l. named_assign m a ∷ l) r.assigns;
+  updates = r.updates;
+  instances = r.instances;
+}
 
 always_declare : (m : Module) (us : List Update) → Declares (always_items m us) [] [] [] [] (map (update_tree m) us) []
 unfolding always_items
@@ -140,7 +208,15 @@ update_is : (m : Module) (u : Update) (t : Target) → u.target ≡ t → IsForm
 unfolding update_of
 update_is m u (Reg n) e f = record { register = n; target = e; named = named m n (rw e at f.net); enabled = named m u.enable f.enable; writes = named m u.value f.value }
 update_is m u (Word k n) e f =
-    record { memory = k; at = n; target = e; named = mem_named m k (f.mem k (ap target_mem e)); addressed = named m n (rw e at f.net); enabled = named m u.enable f.enable; writes = named m u.value f.value }
+    record {
+      memory = k;
+      at = n;
+      target = e;
+      named = mem_named m k (f.mem k (ap target_mem e));
+      addressed = named m n (rw e at f.net);
+      enabled = named m u.enable f.enable;
+      writes = named m u.value f.value;
+    }
 
 updates_are : (m : Module) (us : List Update) → ((k : ℕ) (u : Update) → slice_get us k ≡ Some u → IsFormedUpdate m u) → Pairwise (UpdateIs m) (map (update_tree m) us) us
 unfolding update_tree
@@ -161,10 +237,19 @@ empty_both whole xs ws h e k = h ∙ ap (λ l. l ++ ws) e ∙ k
 instances_declare : (modules : List Module) (m : Module) (instances : List Instance) → Declares (map (instance_item modules m) instances) [] [] [] [] [] (map (named_instance modules m) instances)
 unfolding instance_item
 instances_declare modules m [] = record { wires = refl; registers = refl; memories = refl; assigns = refl; updates = refl; instances = refl }
-instances_declare modules m (i ∷ instances) = let r = instances_declare modules m instances in record { wires = r.wires; registers = r.registers; memories = r.memories; assigns = r.assigns; updates = r.updates; instances = ap (λ l. named_instance modules m i ∷ l) r.instances }
+instances_declare modules m (i ∷ instances) = let r = instances_declare modules m instances in record {
+  wires = r.wires;
+  registers = r.registers;
+  memories = r.memories;
+  assigns = r.assigns;
+  updates = r.updates;
+  instances = ap (λ l. named_instance modules m i ∷ l) r.instances;
+}
 
 -- with one connection more
-joined_later : (m inner : Module) (c : Connection) (cs : List Connection) (ports : List Port) (nets : List ℕ) → Pairwise (IsJoined m inner cs) ports nets → Pairwise (IsJoined m inner (c ∷ cs)) ports nets
+joined_later : (m inner : Module) (c : Connection) (cs : List Connection) (ports : List Port)
+    (nets : List ℕ) → Pairwise (IsJoined m inner cs) ports nets
+    → Pairwise (IsJoined m inner (c ∷ cs)) ports nets
 joined_later m inner c cs [] [] h = tt
 joined_later m inner c cs [] (n ∷ nets) h = h
 joined_later m inner c cs (p ∷ ports) [] h = h
@@ -172,7 +257,9 @@ joined_later m inner c cs (p ∷ ports) (n ∷ nets) (h, k) =
     let (j, within, is) = h.listed in
     (record { port = h.port; net = h.net; listed = (suc j, omega arith, is); named = h.named; joined = h.joined }, joined_later m inner c cs ports nets k)
 
-joined_each : (m inner : Module) (ports : List Port) (nets : List ℕ) → length nets ≡ length ports → ((k : ℕ) (p : Port) → slice_get ports k ≡ Some p → IsFormedPort inner p) → ((k n : ℕ) → slice_get nets k ≡ Some n → n < length m.nets)
+joined_each : (m inner : Module) (ports : List Port) (nets : List ℕ)
+    → length nets ≡ length ports → ((k : ℕ) (p : Port) → slice_get ports k ≡ Some p
+    → IsFormedPort inner p) → ((k n : ℕ) → slice_get nets k ≡ Some n → n < length m.nets)
     → Pairwise (IsJoined m inner (map (connection_tree m.nets inner.nets) (zip ports nets))) ports nets
 unfolding connection_tree
 joined_each m inner [] [] same f g = tt
@@ -192,7 +279,14 @@ instance_is : (d : Design) (m : Module) (i : Instance) (earlier : List Module) �
 unfolding named_instance instance_tree
 instance_is d m i earlier o f =
     subst (λ inner. InstanceIs d m (instance_tree m.nets i inner) i) (sym o.of)
-    (record { inner = o.inner; of = o.of; module_named = refl; named = refl; joined = joined_each m o.inner o.inner.ports i.nets o.nets o.formed.ports f.nets; each_once = connection_each m.nets o.inner.nets o.inner.ports i.nets o.nets })
+    (record {
+      inner = o.inner;
+      of = o.of;
+      module_named = refl;
+      named = refl;
+      joined = joined_each m o.inner o.inner.ports i.nets o.nets o.formed.ports f.nets;
+      each_once = connection_each m.nets o.inner.nets o.inner.ports i.nets o.nets;
+    })
 
 instances_are : (d : Design) (m : Module) (instances : List Instance) (earlier : List Module) → ((k : ℕ) (i : Instance) → slice_get instances k ≡ Some i → InnerOf d.modules i)
     → ((k : ℕ) (i : Instance) → slice_get instances k ≡ Some i → IsFormedInstance earlier m i) → Pairwise (InstanceIs d m) (map (named_instance d.modules m) instances) instances
@@ -220,7 +314,9 @@ module_is d m part =
     let wires : wires_in (net_items m.ports 0 m.nets ++ ms) ≡ wires_from m.ports 0 m.nets =
     kept_first _ _ _ j.wires n.wires (empty_both _ _ _ k.wires x.wires (empty_both _ _ _ l.wires a.wires (empty_both _ _ _ o.wires i.wires (ap wires_in e ∙ u.wires)))) in
     let registers : registers_in (net_items m.ports 0 m.nets ++ ms) ≡ registers_of m.nets =
-    kept_first _ _ _ j.registers n.registers (empty_both _ _ _ k.registers x.registers (empty_both _ _ _ l.registers a.registers (empty_both _ _ _ o.registers i.registers (ap registers_in e ∙ u.registers)))) in
+    kept_first _ _ _ j.registers n.registers (empty_both _ _ _ k.registers x.registers
+    (empty_both _ _ _ l.registers a.registers (empty_both _ _ _ o.registers i.registers
+    (ap registers_in e ∙ u.registers)))) in
     let memories : memories_in (net_items m.ports 0 m.nets ++ ms) ≡ memories_of m.mems =
     kept_last _ _ _ j.memories n.memories (kept_first _ _ _ k.memories x.memories (empty_both _ _ _ l.memories a.memories (empty_both _ _ _ o.memories i.memories (ap memories_in e ∙ u.memories)))) in
     let assigns : assigns_in (net_items m.ports 0 m.nets ++ ms) ≡ map (named_assign m) m.assigns =
@@ -228,7 +324,9 @@ module_is d m part =
     let updates : updates_in (net_items m.ports 0 m.nets ++ ms) ≡ map (update_tree m) m.updates =
     kept_last _ _ _ j.updates n.updates (kept_last _ _ _ k.updates x.updates (kept_last _ _ _ l.updates a.updates (kept_last _ _ _ o.updates i.updates (ap updates_in e ∙ u.updates)))) in
     let instances : instances_in (net_items m.ports 0 m.nets ++ ms) ≡ map (named_instance d.modules m) m.instances =
-    kept_last _ _ _ j.instances n.instances (kept_last _ _ _ k.instances x.instances (kept_last _ _ _ l.instances a.instances (kept_first _ _ _ o.instances i.instances (ap instances_in e ∙ u.instances)))) in
+    kept_last _ _ _ j.instances n.instances (kept_last _ _ _ k.instances x.instances
+    (kept_last _ _ _ l.instances a.instances (kept_first _ _ _ o.instances i.instances
+    (ap instances_in e ∙ u.instances)))) in
     record {
       named = refl;
       ports = ports_are m m.ports f.ports;

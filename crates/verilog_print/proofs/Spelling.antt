@@ -10,7 +10,9 @@ use Rattle.rtl_ir.specs.Names.{begins_name, continues_name, is_name, is_reserved
 use Rattle.rtl_text.specs.Tree.{Name}
 use Rattle.rtl_text.specs.Productions.{Part, Is, Choice}
 use Rattle.verilog_print.specs.Printed.{digits}
-use Rattle.verilog_print.proofs.Letters.{sign_stops, and_left, and_right, name_stops, name_is, name_no_blank, name_no_slash, number_stops, number_is, literal_stops, literal_is, digit_no_blank, digit_no_slash}
+use Rattle.verilog_print.proofs.Letters.{sign_stops, and_left, and_right, name_stops, name_is}
+use Rattle.verilog_print.proofs.Letters.{name_no_blank, name_no_slash, number_stops, number_is}
+use Rattle.verilog_print.proofs.Letters.{literal_stops, literal_is, digit_no_blank, digit_no_slash}
 use Rattle.verilog_print.proofs.Numerals.{AreDigits, decimal_digits, hex_digits}
 
 pub record Spells (ps : List Part) (bytes : List ℕ) : Type 0 where
@@ -50,7 +52,9 @@ eat_before w rest t i is s g a r = record {
   derived = Runs.eat i r.derived;
 }
 
-pub eat : {p : Part} {ps : List Part} {rest : List ℕ} (w : List ℕ) (b : ℕ) (t : Token) → Is p t → token_of w ≡ Some t → Stops w b → NoGap (w ++ b ∷ rest) → Apart t (b ∷ rest) → Spells ps (b ∷ rest) → Spells (p ∷ ps) (w ++ b ∷ rest)
+pub eat : {p : Part} {ps : List Part} {rest : List ℕ} (w : List ℕ) (b : ℕ) (t : Token) → Is p t
+    → token_of w ≡ Some t → Stops w b → NoGap (w ++ b ∷ rest) → Apart t (b ∷ rest)
+    → Spells ps (b ∷ rest) → Spells (p ∷ ps) (w ++ b ∷ rest)
 eat {rest = rest} w b t i is s g a r =
     eat_before w (b ∷ rest) t i is (λ c cs back e. let same : b ≡ c = cc in subst (λ x. token_of (w ++ x ∷ cs) ≡ None) same (s cs)) g a r
 
@@ -100,16 +104,26 @@ no_slash_apart : (s : ℕ) (rest : List ℕ) → (s == 47) ≡ false → Apart (
 no_slash_apart s rest h same _ = let slash : s ≡ 47 = cc in let other : (47 == 47) ≡ false = rw slash at h in cc
 
 -- a sign of one byte that is part of no other, whatever follows
-pub lone : {s : ℕ} {ps : List Part} {rest : List ℕ} → token_of (s ∷ []) ≡ Some (Token.Sign (s ∷ [])) → is_other s ≡ true → ((b : ℕ) (more : List ℕ) → is_sign (s ∷ b ∷ more) ≡ false) → Spells ps rest → Spells (Part.Sign_ (s ∷ []) ∷ ps) (s ∷ rest)
+pub lone : {s : ℕ} {ps : List Part} {rest : List ℕ} → token_of (s
+    ∷ []) ≡ Some (Token.Sign (s ∷ [])) → is_other s ≡ true
+    → ((b : ℕ) (more : List ℕ) → is_sign (s ∷ b ∷ more) ≡ false) → Spells ps rest
+    → Spells (Part.Sign_ (s ∷ []) ∷ ps) (s ∷ rest)
 lone {s = s} {rest = rest} is o stops r =
     let k : IsOther s = others s o in
-    eat_before (s ∷ []) rest (Token.Sign (s ∷ [])) refl is (λ c cs back e. sign_stops s c cs k.no_name k.no_digit k.no_quote (stops c cs)) (no_gap s rest k.no_blank k.no_slash) (no_slash_apart s rest k.no_slash) r
+    eat_before (s ∷ []) rest (Token.Sign (s
+    ∷ [])) refl is (λ c cs back e. sign_stops s c cs k.no_name k.no_digit k.no_quote
+    (stops c cs)) (no_gap s rest k.no_blank k.no_slash) (no_slash_apart s rest k.no_slash) r
 
 -- a sign of one byte before this one
-pub sign : {s b : ℕ} {ps : List Part} {rest : List ℕ} → token_of (s ∷ []) ≡ Some (Token.Sign (s ∷ [])) → is_other s ≡ true → ((more : List ℕ) → is_sign (s ∷ b ∷ more) ≡ false) → Spells ps (b ∷ rest) → Spells (Part.Sign_ (s ∷ []) ∷ ps) (s ∷ b ∷ rest)
+pub sign : {s b : ℕ} {ps : List Part} {rest : List ℕ} → token_of (s
+    ∷ []) ≡ Some (Token.Sign (s ∷ [])) → is_other s ≡ true
+    → ((more : List ℕ) → is_sign (s ∷ b ∷ more) ≡ false) → Spells ps (b ∷ rest)
+    → Spells (Part.Sign_ (s ∷ []) ∷ ps) (s ∷ b ∷ rest)
 sign {s = s} {b = b} {rest = rest} is o stops r =
     let k : IsOther s = others s o in
-    eat (s ∷ []) b (Token.Sign (s ∷ [])) refl is (λ more. sign_stops s b more k.no_name k.no_digit k.no_quote (stops more)) (no_gap s (b ∷ rest) k.no_blank k.no_slash) (no_slash_apart s (b ∷ rest) k.no_slash) r
+    eat (s ∷ []) b (Token.Sign (s ∷ [])) refl is
+    (λ more. sign_stops s b more k.no_name k.no_digit k.no_quote (stops more)) (no_gap s (b
+    ∷ rest) k.no_blank k.no_slash) (no_slash_apart s (b ∷ rest) k.no_slash) r
 
 -- `/`, `<=` and `==`, with a blank behind them
 pub slash : {ps : List Part} {rest : List ℕ} → Spells ps (32 ∷ rest) → Spells (Part.Sign_ (codes "/") ∷ ps) (47 ∷ 32 ∷ rest)
@@ -121,7 +135,9 @@ at_most {rest = rest} r = eat (codes "<=") 32 (Token.Sign (codes "<=")) refl ref
 pub equal : {ps : List Part} {rest : List ℕ} → Spells ps (32 ∷ rest) → Spells (Part.Sign_ (codes "==") ∷ ps) (61 ∷ 61 ∷ 32 ∷ rest)
 equal {rest = rest} r = eat (codes "==") 32 (Token.Sign (codes "==")) refl refl (λ more. sign_stops 61 61 (32 ∷ more) refl refl refl refl) (no_gap 61 (61 ∷ 32 ∷ rest) refl refl) (λ same _. cc) r
 
-word_then : {ps : List Part} {rest : List ℕ} {p : Part} (n : ℕ) (ns : List ℕ) (b : ℕ) → Is p (Token.Word (n ∷ ns)) → is_word (n ∷ ns) ≡ true → continues_name b ≡ false → Spells ps (b ∷ rest) → Spells (p ∷ ps) (n ∷ ns ++ b ∷ rest)
+word_then : {ps : List Part} {rest : List ℕ} {p : Part} (n : ℕ) (ns : List ℕ) (b : ℕ)
+    → Is p (Token.Word (n ∷ ns)) → is_word (n ∷ ns) ≡ true → continues_name b ≡ false
+    → Spells ps (b ∷ rest) → Spells (p ∷ ps) (n ∷ ns ++ b ∷ rest)
 word_then {rest = rest} n ns b i h k r =
     let start : begins_name n ≡ true = and_left (begins_name n) (list_all continues_name ns) h in
     eat (n ∷ ns) b (Token.Word (n ∷ ns)) i (name_is n ns h) (name_stops n ns b start k) (no_gap n (ns ++ b ∷ rest) (name_no_blank n start) (name_no_slash n start)) tt r
@@ -141,19 +157,26 @@ pub number_then : {ps : List Part} {rest : List ℕ} (d : ℕ) (ds : List ℕ) (
     → Spells ps (b ∷ rest) → Spells (Part.Number n ∷ ps) (d ∷ ds ++ b ∷ rest)
 number_then {rest = rest} d ds n b h e k q r =
     let digit : is_digit d ≡ true = and_left (is_digit d) (list_all is_digit ds) h in
-    eat (d ∷ ds) b (Token.Number n) refl (number_is d ds h ∙ ap (λ v. Some (Token.Number v)) e) (number_stops d ds b h k q) (no_gap d (ds ++ b ∷ rest) (digit_no_blank d digit) (digit_no_slash d digit)) tt r
+    eat (d ∷ ds) b (Token.Number n) refl (number_is d ds h ∙ ap (λ v. Some (Token.Number v)) e)
+    (number_stops d ds b h k q) (no_gap d (ds ++ b
+    ∷ rest) (digit_no_blank d digit) (digit_no_slash d digit)) tt r
 
 pub number : {n b : ℕ} {ps : List Part} {rest : List ℕ} → is_digit b ≡ false → is_quote b ≡ false → Spells ps (b ∷ rest) → Spells (Part.Number n ∷ ps) (digits 10 n ++ b ∷ rest)
 number {n = n} {b = b} {rest = rest} h k r =
     let a : AreDigits 10 is_digit n (digits 10 n) = decimal_digits n in
     rw a.some (number_then a.first a.rest n b (rw a.some at a.pass) (rw a.some at a.say) h k r)
 
-literal_then : {ps : List Part} {rest : List ℕ} (d : ℕ) (ds : List ℕ) (e : ℕ) (es : List ℕ) (w n b : ℕ) → list_all is_digit (d ∷ ds) ≡ true → decimal_value (d ∷ ds) ≡ w → list_all is_hex (e ∷ es) ≡ true → hexadecimal (e ∷ es) ≡ n → is_hex b ≡ false
+literal_then : {ps : List Part} {rest : List ℕ} (d : ℕ) (ds : List ℕ) (e : ℕ) (es : List ℕ)
+    (w n b : ℕ) → list_all is_digit (d ∷ ds) ≡ true → decimal_value (d ∷ ds) ≡ w
+    → list_all is_hex (e ∷ es) ≡ true → hexadecimal (e ∷ es) ≡ n → is_hex b ≡ false
     → Spells ps (b ∷ rest) → Spells (Part.Literal w n ∷ ps) (d ∷ ds ++ 39 ∷ 104 ∷ (e ∷ es ++ b ∷ rest))
 literal_then {ps = ps} {rest = rest} d ds e es w n b h wide k value stop r =
     let digit : is_digit d ≡ true = and_left (is_digit d) (list_all is_digit ds) h in
     let body : List ℕ = 39 ∷ 104 ∷ e ∷ es in
-    let is : token_of (d ∷ ds ++ body) ≡ Some (Token.Literal w n) = literal_is d ds e es h k ∙ ap (λ v. Some (Token.Literal v (hexadecimal (e ∷ es)))) wide ∙ ap (λ v. Some (Token.Literal w v)) value in
+    let is : token_of (d ∷ ds ++ body) ≡ Some
+    (Token.Literal w n) = literal_is d ds e es h k ∙ ap
+    (λ v. Some (Token.Literal v (hexadecimal (e
+    ∷ es)))) wide ∙ ap (λ v. Some (Token.Literal w v)) value in
     let stops : Stops (d ∷ ds ++ body) b = λ more. subst (λ l. token_of l ≡ None) (sym (append_assoc (d ∷ ds) body (b ∷ more))) (literal_stops d ds e es b h stop more) in
     subst (λ l. Spells (Part.Literal w n ∷ ps) l) (append_assoc (d ∷ ds) body (b ∷ rest))
     (eat (d ∷ ds ++ body) b (Token.Literal w n) refl is stops (no_gap d ((ds ++ body) ++ b ∷ rest) (digit_no_blank d digit) (digit_no_slash d digit)) tt r)

@@ -1,5 +1,7 @@
 -- One step of the loops that print.
-use Rattle.std.proofs.Common.{◌≡◌, ◌∙◌, ◌<◌, ◌≤◌, ◌+◌, ◌/◌, ◌%◌, ◌||◌, ◌==◌, ℕ, zero, suc, Bool, true, false, List, [], ◌∷◌, ◌++◌, length, take, get_or, refl, sym, ap, arith, append_assoc, add-one, ◌⊎◌, inl, inr, if◌then◌else◌}
+use Rattle.std.proofs.Common.{◌≡◌, ◌∙◌, ◌<◌, ◌≤◌, ◌+◌, ◌/◌, ◌%◌, ◌||◌, ◌==◌, ℕ, zero, suc, Bool}
+use Rattle.std.proofs.Common.{true, false, List, [], ◌∷◌, ◌++◌, length, take, get_or, refl, sym, ap}
+use Rattle.std.proofs.Common.{arith, append_assoc, add-one, ◌⊎◌, inl, inr, if◌then◌else◌}
 use Rattle.std.proofs.Math.Seq.{take-suc}
 use Rattle.std.proofs.Math.Nat.{div-lt_self, div-eq_of_lt}
 use Rattle.std.proofs.lemmas.Bool.{lt-ltb, le-ltb}
@@ -45,7 +47,10 @@ net_printed ports nets marks i mark net start old now h same marked m e o p =
     let is : get_or marks i false ≡ is_port ports i = marked i h in
     let k : mark ≡ is_port ports i = grind (arith, common_steps) in
     let step : nets_text ports 0 (take (i + 1) nets) ≡ nets_text ports 0 (take i nets) ++ declaration_text (is_port ports i) (get_or nets i net) = nets_text_step ports nets i net h in
-    let assoc : (start ++ nets_text ports 0 (take i nets)) ++ declaration_text mark net ≡ start ++ (nets_text ports 0 (take i nets) ++ declaration_text mark net) = append_assoc start (nets_text ports 0 (take i nets)) (declaration_text mark net) in
+    let assoc : (start ++ nets_text ports 0 (take i nets)) ++ declaration_text mark net ≡ start
+    ++ (nets_text ports 0 (take i nets)
+    ++ declaration_text mark net) = append_assoc start (nets_text ports 0 (take i nets))
+    (declaration_text mark net) in
     cc
 
 -- the digits, whatever fuel is left
@@ -64,7 +69,9 @@ same_digits : (base f g n : ℕ) → 2 ≤ base → n ≤ f → n ≤ g → digi
 same_digits base zero g n l h k = sym (small base g n (omega arith))
 same_digits base (suc f) zero n l h k = small base (suc f) n (omega arith)
 same_digits base (suc f) (suc g) n l h k =
-    elim (ltb n base) as (λ b. (if b then digit_byte n ∷ [] else digits_from base f (n / base) ++ digit_byte (n % base) ∷ []) ≡ (if b then digit_byte n ∷ [] else digits_from base g (n / base) ++ digit_byte (n % base) ∷ []))
+    elim (ltb n base) as (λ b. (if b then digit_byte n ∷ [] else digits_from base f (n / base)
+    ++ digit_byte (n % base) ∷ []) ≡ (if b then digit_byte n
+    ∷ [] else digits_from base g (n / base) ++ digit_byte (n % base) ∷ []))
     [ true ↦ refl | false ↦ ap (λ t. t ++ digit_byte (n % base) ∷ []) (same_digits base f g (n / base) l (by_less base n f l h) (by_less base n g l k)) ]
 
 pub digits_small : (base n : ℕ) → n < base → digits base n ≡ digit_byte n ∷ []
@@ -88,7 +95,10 @@ updates_some m [] h = absurd (omega arith)
 updates_some m (u ∷ us) h = refl
 
 -- a head, a line for each, and a tail
-pub lines_printed : {A : Type 0} (line : A → List ℕ) (xs : List A) (i : ℕ) (head tail start a b c : List ℕ) → length xs ≤ i → a ≡ start ++ head → b ≡ a ++ flat_map line (take i xs) → c ≡ b ++ tail → c ≡ start ++ (head ++ flat_map line xs ++ tail)
+pub lines_printed : {A : Type 0} (line : A
+    → List ℕ) (xs : List A) (i : ℕ) (head tail start a b c : List ℕ) → length xs ≤ i → a ≡ start
+    ++ head → b ≡ a ++ flat_map line (take i xs) → c ≡ b ++ tail → c ≡ start
+    ++ (head ++ flat_map line xs ++ tail)
 lines_printed line xs i head tail start a b c h p q r =
     let all : take i xs ≡ xs = take_all i xs h in
     let lines : flat_map line (take i xs) ≡ flat_map line xs = ap (flat_map line) all in

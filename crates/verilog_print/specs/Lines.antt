@@ -52,7 +52,8 @@ assign_line m a = codes "assign " ++ name_of m.nets a.target ++ codes " = " ++ e
 -- a line for an instance of this module
 abbrev pub part_lines : List Net → Instance → Option Module → List (List ℕ)
 part_lines outer i None = []
-part_lines outer i (Some inner) = (inner.name ++ codes " " ++ i.name ++ codes " (" ++ connections_text outer inner.nets (zip inner.ports i.nets) ++ codes ");") ∷ []
+part_lines outer i (Some inner) = (inner.name ++ codes " " ++ i.name ++ codes " ("
+    ++ connections_text outer inner.nets (zip inner.ports i.nets) ++ codes ");") ∷ []
 
 abbrev pub instance_lines : List Module → Module → List Instance → List (List ℕ)
 instance_lines modules m instances = flat_map (λ (i : Instance). part_lines m.nets i (slice_get modules i.«module»)) instances

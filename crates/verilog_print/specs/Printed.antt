@@ -115,7 +115,8 @@ connections_text outer inner joined = join_by (connection_text outer inner) (cod
 -- `module name (.port(net), .port(net));` for an instance of this module, and nothing for one of no module
 unfoldable pub instance_line : List Net → Instance → Option Module → List ℕ
 instance_line outer i None = []
-instance_line outer i (Some inner) = inner.name ++ codes " " ++ i.name ++ codes " (" ++ connections_text outer inner.nets (zip inner.ports i.nets) ++ codes ");\n"
+instance_line outer i (Some inner) = inner.name ++ codes " " ++ i.name ++ codes " ("
+    ++ connections_text outer inner.nets (zip inner.ports i.nets) ++ codes ");\n"
 
 -- an instance in a module, of one of these modules
 abbrev pub instance_text : List Module → Module → Instance → List ℕ
@@ -125,7 +126,9 @@ instance_text modules m i = instance_line m.nets i (slice_get modules i.module)
 unfoldable pub module_text : List Module → Module → List ℕ
 module_text modules m =
     codes "module " ++ m.name ++ codes " (\n" ++ ports_text m.nets m.ports ++ codes ");\n" ++ nets_text m.ports 0 m.nets
-    ++ flat_map memory_text m.mems ++ flat_map (assign_text m) m.assigns ++ flat_map (instance_text modules m) m.instances ++ updates_text m m.updates ++ codes "endmodule\n"
+    ++ flat_map memory_text m.mems ++ flat_map (assign_text m) m.assigns
+    ++ flat_map (instance_text modules m) m.instances ++ updates_text m m.updates
+    ++ codes "endmodule\n"
 
 abbrev pub modules_text : List Module → List ℕ
 modules_text modules = flat_map (module_text modules) modules

@@ -70,7 +70,9 @@ impl Printer {
         left: NetId,
         right: NetId,
     ) -> Result<(), NoMemory>
-        ensures ok { OnOk result (self.new.text ≡ self.old.text ++ (name_of nets.now left ++ codes " " ++ sign_bytes sign ++ codes " " ++ name_of nets.now right)) }
+        ensures ok { OnOk result (self.new.text ≡ self.old.text
+            ++ (name_of nets.now left ++ codes " " ++ sign_bytes sign ++ codes " "
+            ++ name_of nets.now right)) }
         ensures kept { self.new.before ≡ self.old.before }
     {
         self.name(nets, left)?;
@@ -103,7 +105,9 @@ impl Printer {
     }
 
     fn part(&mut self, nets: &[Net], net: NetId, high: u8, low: u8) -> Result<(), NoMemory>
-        ensures ok { OnOk result (self.new.text ≡ self.old.text ++ (name_of nets.now net ++ codes "[" ++ digits 10 high ++ codes ":" ++ digits 10 low ++ codes "]")) }
+        ensures ok { OnOk result (self.new.text ≡ self.old.text
+            ++ (name_of nets.now net ++ codes "[" ++ digits 10 high ++ codes ":"
+            ++ digits 10 low ++ codes "]")) }
         ensures kept { self.new.before ≡ self.old.before }
     {
         self.name(nets, net)?;
@@ -115,7 +119,9 @@ impl Printer {
     }
 
     fn choose(&mut self, nets: &[Net], test: NetId, one: NetId, zero: NetId) -> Result<(), NoMemory>
-        ensures ok { OnOk result (self.new.text ≡ self.old.text ++ (name_of nets.now test ++ codes " ? " ++ name_of nets.now one ++ codes " : " ++ name_of nets.now zero)) }
+        ensures ok { OnOk result (self.new.text ≡ self.old.text
+            ++ (name_of nets.now test ++ codes " ? " ++ name_of nets.now one ++ codes " : "
+            ++ name_of nets.now zero)) }
         ensures kept { self.new.before ≡ self.old.before }
     {
         self.name(nets, test)?;
@@ -127,7 +133,9 @@ impl Printer {
 
     /// A word of a memory.
     pub fn cell(&mut self, module: &Module, memory: MemId, address: NetId) -> Result<(), NoMemory>
-        ensures ok { OnOk result (self.new.text ≡ self.old.text ++ (mem_name (slice_get «module».now.mems memory) ++ codes "[" ++ name_of «module».now.nets address ++ codes "]")) }
+        ensures ok { OnOk result (self.new.text ≡ self.old.text
+            ++ (mem_name (slice_get «module».now.mems memory) ++ codes "["
+            ++ name_of «module».now.nets address ++ codes "]")) }
         ensures kept { self.new.before ≡ self.old.before }
     {
         self.memory(module.mems.as_slice(), memory)?;

@@ -46,7 +46,9 @@ impl Printer {
     }
 
     fn block(&mut self, module: &Module, updates: &[Update]) -> Result<(), NoMemory>
-        ensures ok { OnOk result (self.new.text ≡ self.old.text ++ (codes "always @(posedge clk) begin\n" ++ flat_map (update_text «module».now) updates.now ++ codes "end\n")) }
+        ensures ok { OnOk result (self.new.text ≡ self.old.text
+            ++ (codes "always @(posedge clk) begin\n"
+            ++ flat_map (update_text «module».now) updates.now ++ codes "end\n")) }
         ensures kept { self.new.before ≡ self.old.before }
     {
         self.bytes(b"always @(posedge clk) begin\n")?;

@@ -13,7 +13,9 @@ pub later : (us vs : List Use) → first_undeclared us ≡ None → first_undecl
 later [] vs e = refl
 later (u ∷ us) vs e = by_head u.declared refl e (λ f. later us vs f)
   where
-    by_head : (b : Bool) → u.declared ≡ b → cond b (first_undeclared us) (Some u.name) ≡ None → (first_undeclared us ≡ None → first_undeclared (us ++ vs) ≡ first_undeclared vs) → first_undeclared (u ∷ us ++ vs) ≡ first_undeclared vs
+    by_head : (b : Bool) → u.declared ≡ b → cond b (first_undeclared us) (Some u.name) ≡ None
+        → (first_undeclared us ≡ None → first_undeclared (us ++ vs) ≡ first_undeclared vs)
+        → first_undeclared (u ∷ us ++ vs) ≡ first_undeclared vs
     by_head true h f more = rw (h) (more f)
     by_head false h f more = absurd (cc)
 
@@ -21,7 +23,10 @@ pub sooner : (us vs : List Use) (name : Name) → first_undeclared us ≡ Some n
 sooner [] vs name e = absurd (cc)
 sooner (u ∷ us) vs name e = by_head u.declared refl e (λ f. sooner us vs name f)
   where
-    by_head : (b : Bool) → u.declared ≡ b → cond b (first_undeclared us) (Some u.name) ≡ Some name → (first_undeclared us ≡ Some name → first_undeclared (us ++ vs) ≡ Some name) → first_undeclared (u ∷ us ++ vs) ≡ Some name
+    by_head : (b : Bool) → u.declared ≡ b
+        → cond b (first_undeclared us) (Some u.name) ≡ Some name
+        → (first_undeclared us ≡ Some name → first_undeclared (us ++ vs) ≡ Some name)
+        → first_undeclared (u ∷ us ++ vs) ≡ Some name
     by_head true h f more = rw (h) (more f)
     by_head false h f more = rw (h) f
 

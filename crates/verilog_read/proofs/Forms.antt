@@ -1,5 +1,7 @@
 -- A design that was read is formed.
-use Rattle.std.proofs.Common.{◌≡◌, ◌∙◌, ℕ, zero, suc, ◌+◌, ◌<◌, ◌≤◌, Bool, true, false, ◌&&◌, ◌||◌, cond, nat_eq, List, [], ◌∷◌, ◌++◌, length, map, take, Some, None, codes, refl, sym, ap, subst, append_assoc, arith}
+use Rattle.std.proofs.Common.{◌≡◌, ◌∙◌, ℕ, zero, suc, ◌+◌, ◌<◌, ◌≤◌, Bool, true, false, ◌&&◌, ◌||◌}
+use Rattle.std.proofs.Common.{cond, nat_eq, List, [], ◌∷◌, ◌++◌, length, map, take, Some, None}
+use Rattle.std.proofs.Common.{codes, refl, sym, ap, subst, append_assoc, arith}
 use Rattle.std.specs.Prelude.{slice_get, bytes_eq}
 use Rattle.std.specs.List.{list_any}
 use Rattle.std.specs.Option.{option_map}
@@ -19,7 +21,11 @@ use Rattle.rtl_ir.specs.declared.design.Module.{Module}
 use Rattle.rtl_ir.specs.Value.{net_kept, is_reg}
 use Rattle.rtl_ir.specs.Operands.{target_net, target_mem}
 use Rattle.rtl_ir.specs.Formed.{is_bit_input, IsFormedNet, IsFormedMem, IsFormedPort, IsFormedExpr, IsFormedUpdate, IsFormedInstance, IsFormedModule, IsFormed}
-use Rattle.rtl_text.specs.Tree.{Name, PortTree, InputPort, OutputPort, ExprTree, PlainTree, LiteralTree, NotTree, BinaryTree, ConcatTree, RepeatTree, PartTree, ChooseTree, CellTree, UpdateTree, RegisterUpdate, CellUpdate, ItemTree, WireItem, RegisterItem, MemoryItem, AssignItem, AlwaysItem, InstanceItem, Connection, ModuleTree}
+use Rattle.rtl_text.specs.Tree.{Name, PortTree, InputPort, OutputPort, ExprTree, PlainTree}
+use Rattle.rtl_text.specs.Tree.{LiteralTree, NotTree, BinaryTree, ConcatTree, RepeatTree, PartTree}
+use Rattle.rtl_text.specs.Tree.{ChooseTree, CellTree, UpdateTree, RegisterUpdate, CellUpdate}
+use Rattle.rtl_text.specs.Tree.{ItemTree, WireItem, RegisterItem, MemoryItem, AssignItem}
+use Rattle.rtl_text.specs.Tree.{AlwaysItem, InstanceItem, Connection, ModuleTree}
 use Rattle.rtl_text.specs.Text.{Pairwise, IsNet, IsMem, ExprIs, AssignIs, UpdateIs, DeclaredMemory, NamedAssign, NamedInstance, memories_in, memories_of, assigns_in, updates_in, instances_in}
 use Rattle.rtl_text.specs.Productions.{IsWidth, IsDepth}
 use Rattle.rtl_reading.specs.Uses as uses
@@ -60,13 +66,25 @@ formed_net name width reg w n = record { name = n; some = w.0; at_most = w.1 }
 
 port_nets : (ps : List PortTree) → AllAt GoodPort ps → AllAt IsFormedNet (map port_net ps)
 port_nets [] h = none_at IsFormedNet
-port_nets (InputPort w name ∷ ps) h = let g = h 0 (InputPort w name) refl in more_at IsFormedNet (port_net (InputPort w name)) (map port_net ps) (formed_net name w false g.0 g.1) (port_nets ps (rest_at GoodPort (InputPort w name) ps h))
-port_nets (OutputPort w name ∷ ps) h = let g = h 0 (OutputPort w name) refl in more_at IsFormedNet (port_net (OutputPort w name)) (map port_net ps) (formed_net name w false g.0 g.1) (port_nets ps (rest_at GoodPort (OutputPort w name) ps h))
+port_nets (InputPort w name ∷ ps) h = let g = h 0 (InputPort w name) refl in more_at IsFormedNet
+    (port_net (InputPort w name)) (map port_net ps) (formed_net name w false g.0 g.1)
+    (port_nets ps (rest_at GoodPort (InputPort w name) ps h))
+port_nets (OutputPort w name ∷ ps) h = let g = h 0
+    (OutputPort w name) refl in more_at IsFormedNet (port_net (OutputPort w name))
+    (map port_net ps) (formed_net name w false g.0 g.1)
+    (port_nets ps (rest_at GoodPort (OutputPort w name) ps h))
 
 nets_of_items : (is : List ItemTree) → AllAt GoodItem is → AllAt IsFormedNet (item_nets is)
 nets_of_items [] h = none_at IsFormedNet
-nets_of_items (WireItem w name ∷ is) h = let g = h 0 (WireItem w name) refl in more_at IsFormedNet (record { name = name; width = w; reg = false }) (item_nets is) (formed_net name w false g.0 g.1) (nets_of_items is (rest_at GoodItem (WireItem w name) is h))
-nets_of_items (RegisterItem w name ∷ is) h = let g = h 0 (RegisterItem w name) refl in more_at IsFormedNet (record { name = name; width = w; reg = true }) (item_nets is) (formed_net name w true g.0 g.1) (nets_of_items is (rest_at GoodItem (RegisterItem w name) is h))
+nets_of_items (WireItem w name ∷ is) h = let g = h 0
+    (WireItem w name) refl in more_at IsFormedNet (record
+    { name = name; width = w; reg = false }) (item_nets is) (formed_net name w false g.0 g.1)
+    (nets_of_items is (rest_at GoodItem (WireItem w name) is h))
+nets_of_items (RegisterItem w name
+    ∷ is) h = let g = h 0 (RegisterItem w name) refl in more_at IsFormedNet
+    (record { name = name; width = w; reg = true }) (item_nets is)
+    (formed_net name w true g.0 g.1) (nets_of_items is (rest_at GoodItem
+    (RegisterItem w name) is h))
 nets_of_items (MemoryItem w name n ∷ is) h = nets_of_items is (rest_at GoodItem (MemoryItem w name n) is h)
 nets_of_items (AssignItem name e ∷ is) h = nets_of_items is (rest_at GoodItem (AssignItem name e) is h)
 nets_of_items (AlwaysItem us ∷ is) h = nets_of_items is (rest_at GoodItem (AlwaysItem us) is h)
@@ -79,7 +97,10 @@ memories_of_items : (is : List ItemTree) → AllAt GoodItem is → AllAt GoodMem
 memories_of_items [] h = none_at GoodMemory
 memories_of_items (WireItem w name ∷ is) h = memories_of_items is (rest_at GoodItem (WireItem w name) is h)
 memories_of_items (RegisterItem w name ∷ is) h = memories_of_items is (rest_at GoodItem (RegisterItem w name) is h)
-memories_of_items (MemoryItem w name n ∷ is) h = more_at GoodMemory (record { name = name; width = w; depth = n }) (memories_in is) (h 0 (MemoryItem w name n) refl) (memories_of_items is (rest_at GoodItem (MemoryItem w name n) is h))
+memories_of_items (MemoryItem w name n
+    ∷ is) h = more_at GoodMemory (record { name = name; width = w; depth = n }) (memories_in is)
+    (h 0 (MemoryItem w name n) refl) (memories_of_items is
+    (rest_at GoodItem (MemoryItem w name n) is h))
 memories_of_items (AssignItem name e ∷ is) h = memories_of_items is (rest_at GoodItem (AssignItem name e) is h)
 memories_of_items (AlwaysItem us ∷ is) h = memories_of_items is (rest_at GoodItem (AlwaysItem us) is h)
 memories_of_items (InstanceItem of name cs ∷ is) h = memories_of_items is (rest_at GoodItem (InstanceItem of name cs) is h)
@@ -92,7 +113,9 @@ assigns_of_items [] h = none_at GoodAssign
 assigns_of_items (WireItem w name ∷ is) h = assigns_of_items is (rest_at GoodItem (WireItem w name) is h)
 assigns_of_items (RegisterItem w name ∷ is) h = assigns_of_items is (rest_at GoodItem (RegisterItem w name) is h)
 assigns_of_items (MemoryItem w name n ∷ is) h = assigns_of_items is (rest_at GoodItem (MemoryItem w name n) is h)
-assigns_of_items (AssignItem name e ∷ is) h = more_at GoodAssign (record { target = name; expr = e }) (assigns_in is) (h 0 (AssignItem name e) refl) (assigns_of_items is (rest_at GoodItem (AssignItem name e) is h))
+assigns_of_items (AssignItem name e
+    ∷ is) h = more_at GoodAssign (record { target = name; expr = e }) (assigns_in is)
+    (h 0 (AssignItem name e) refl) (assigns_of_items is (rest_at GoodItem (AssignItem name e) is h))
 assigns_of_items (AlwaysItem us ∷ is) h = assigns_of_items is (rest_at GoodItem (AlwaysItem us) is h)
 assigns_of_items (InstanceItem of name cs ∷ is) h = assigns_of_items is (rest_at GoodItem (InstanceItem of name cs) is h)
 
@@ -106,7 +129,10 @@ instances_of_items (RegisterItem w name ∷ is) h = instances_of_items is (rest_
 instances_of_items (MemoryItem w name n ∷ is) h = instances_of_items is (rest_at GoodItem (MemoryItem w name n) is h)
 instances_of_items (AssignItem name e ∷ is) h = instances_of_items is (rest_at GoodItem (AssignItem name e) is h)
 instances_of_items (AlwaysItem us ∷ is) h = instances_of_items is (rest_at GoodItem (AlwaysItem us) is h)
-instances_of_items (InstanceItem of name cs ∷ is) h = more_at GoodInstance (record { of = of; name = name; connections = cs }) (instances_in is) (h 0 (InstanceItem of name cs) refl) (instances_of_items is (rest_at GoodItem (InstanceItem of name cs) is h))
+instances_of_items (InstanceItem of name cs
+    ∷ is) h = more_at GoodInstance (record { of = of; name = name; connections = cs })
+    (instances_in is) (h 0 (InstanceItem of name cs) refl)
+    (instances_of_items is (rest_at GoodItem (InstanceItem of name cs) is h))
 
 -- a name is that of a thing that is there
 named_within : {A : Type 0} (name_of : A → Name) (xs : List A) (k : ℕ) (name : Name) → option_map name_of (slice_get xs k) ≡ Some name → k < length xs
@@ -134,12 +160,32 @@ module _ (m : Module) where
   formed_expr (PlainTree a) (exprs.Net k) h g = record { nets = λ n r. one Within k (net_within a k h) r.0 n r.1; mem = λ k e. absurd (cc); numbers = none_at Small }
   formed_expr (LiteralTree w x) (exprs.Literal word) h g = record { nets = λ n r. none_at Within r.0 n r.1; mem = λ k e. absurd (cc); numbers = none_at Small }
   formed_expr (NotTree a) (exprs.Not k) h g = record { nets = λ n r. one Within k (net_within a k h) r.0 n r.1; mem = λ k e. absurd (cc); numbers = none_at Small }
-  formed_expr (BinaryTree s a b) (exprs.Binary t i j) h g = record { nets = λ n r. more_at Within i (j ∷ []) (net_within a i h.1) (one Within j (net_within b j h.2)) r.0 n r.1; mem = λ k e. absurd (cc); numbers = none_at Small }
-  formed_expr (ConcatTree a b) (exprs.Concat i j) h g = record { nets = λ n r. more_at Within i (j ∷ []) (net_within a i h.0) (one Within j (net_within b j h.1)) r.0 n r.1; mem = λ k e. absurd (cc); numbers = none_at Small }
+  formed_expr (BinaryTree s a b) (exprs.Binary t i j) h g = record {
+    nets = λ n r. more_at Within i (j ∷ []) (net_within a i h.1) (one Within j (net_within b j h.2)) r.0 n r.1;
+    mem = λ k e. absurd (cc);
+    numbers = none_at Small;
+  }
+  formed_expr (ConcatTree a b) (exprs.Concat i j) h g = record {
+    nets = λ n r. more_at Within i (j ∷ []) (net_within a i h.0) (one Within j (net_within b j h.1)) r.0 n r.1;
+    mem = λ k e. absurd (cc);
+    numbers = none_at Small;
+  }
   formed_expr (RepeatTree i a) (exprs.Repeat j k) h g = record { nets = λ n r. one Within k (net_within a k h.1) r.0 n r.1; mem = λ k e. absurd (cc); numbers = one Small j (subst Small h.0 g) }
-  formed_expr (PartTree a hi lo) (exprs.Part k high low) h g = record { nets = λ n r. one Within k (net_within a k h.2) r.0 n r.1; mem = λ k e. absurd (cc); numbers = more_at Small high (low ∷ []) (subst Small h.0 g.0) (one Small low (subst Small h.1 g.1)) }
-  formed_expr (ChooseTree c a b) (exprs.Choose i j k) h g = record { nets = λ n r. more_at Within i (j ∷ k ∷ []) (net_within c i h.0) (more_at Within j (k ∷ []) (net_within a j h.1) (one Within k (net_within b k h.2))) r.0 n r.1; mem = λ k e. absurd (cc); numbers = none_at Small }
-  formed_expr (CellTree x a) (exprs.Cell k i) h g = record { nets = λ n r. one Within i (net_within a i h.1) r.0 n r.1; mem = λ j e. (let same : k ≡ j = cc in subst (λ l. l < length m.mems) same (mem_within x k h.0)); numbers = none_at Small }
+  formed_expr (PartTree a hi lo) (exprs.Part k high low) h g = record {
+    nets = λ n r. one Within k (net_within a k h.2) r.0 n r.1;
+    mem = λ k e. absurd (cc);
+    numbers = more_at Small high (low ∷ []) (subst Small h.0 g.0) (one Small low (subst Small h.1 g.1));
+  }
+  formed_expr (ChooseTree c a b) (exprs.Choose i j k) h g = record {
+    nets = λ n r. more_at Within i (j ∷ k ∷ []) (net_within c i h.0) (more_at Within j (k ∷ []) (net_within a j h.1) (one Within k (net_within b k h.2))) r.0 n r.1;
+    mem = λ k e. absurd (cc);
+    numbers = none_at Small;
+  }
+  formed_expr (CellTree x a) (exprs.Cell k i) h g = record {
+    nets = λ n r. one Within i (net_within a i h.1) r.0 n r.1;
+    mem = λ j e. (let same : k ≡ j = cc in subst (λ l. l < length m.mems) same (mem_within x k h.0));
+    numbers = none_at Small;
+  }
   formed_expr _ _ h g = absurd h
 
   formed_update : (t : UpdateTree) (u : Update) → UpdateIs m t u → IsFormedUpdate m u
@@ -185,7 +231,10 @@ is_wire : (q : PortTree) → net_kept (Some (port_net q)) ≡ false
 is_wire (InputPort w name) = refl
 is_wire (OutputPort w name) = refl
 
-bit_inputs : (m : Module) (front back : List Net) (ps : List PortTree) (name : Name) → m.nets ≡ front ++ (map port_net ps ++ back) → list_any (uses.is_bit_input name) ps ≡ list_any (is_bit_input m name) (ports_from (length front) ps)
+bit_inputs : (m : Module) (front back : List Net) (ps : List PortTree) (name : Name)
+    → m.nets ≡ front ++ (map port_net ps ++ back)
+    → list_any (uses.is_bit_input name) ps ≡ list_any (is_bit_input m name)
+    (ports_from (length front) ps)
 bit_inputs m front back [] name e = refl
 bit_inputs m front back (p ∷ ps) name e =
     let n : length (front ++ port_net p ∷ []) ≡ length front + 1 = length-append front (port_net p ∷ []) in
@@ -203,7 +252,9 @@ pub front_known : (us vs : List Use) → first_undeclared (us ++ vs) ≡ None �
 front_known [] vs e = refl
 front_known (u ∷ us) vs e = by_head u.declared refl e (λ f. front_known us vs f)
   where
-    by_head : (b : Bool) → u.declared ≡ b → cond b (first_undeclared (us ++ vs)) (Some u.name) ≡ None → (first_undeclared (us ++ vs) ≡ None → first_undeclared us ≡ None) → first_undeclared (u ∷ us) ≡ None
+    by_head : (b : Bool) → u.declared ≡ b → cond b (first_undeclared (us
+        ++ vs)) (Some u.name) ≡ None → (first_undeclared (us ++ vs) ≡ None
+        → first_undeclared us ≡ None) → first_undeclared (u ∷ us) ≡ None
     by_head true h f more = rw (h) (more f)
     by_head false h f more = absurd (cc)
 
@@ -215,16 +266,22 @@ back_known (u ∷ us) vs e = by_head u.declared refl e (λ f. back_known us vs f
     by_head true h f more = more f
     by_head false h f more = absurd (cc)
 
-pub module_known : (earlier ts : List ModuleTree) (k : ℕ) (t : ModuleTree) → first_undeclared (text_uses earlier ts) ≡ None → slice_get ts k ≡ Some t → first_undeclared (module_uses (earlier ++ take k ts) t) ≡ None
+pub module_known : (earlier ts : List ModuleTree) (k : ℕ) (t : ModuleTree)
+    → first_undeclared (text_uses earlier ts) ≡ None → slice_get ts k ≡ Some t
+    → first_undeclared (module_uses (earlier ++ take k ts) t) ≡ None
 module_known earlier [] k t e at = absurd (cc)
 module_known earlier (u ∷ ts) zero t e at =
     let same : u ≡ t = some_is at in
-    subst (λ l. first_undeclared (module_uses l t) ≡ None) (sym (append-nil earlier)) (subst (λ x. first_undeclared (module_uses earlier x) ≡ None) same (front_known (module_uses earlier u) (text_uses (earlier ++ u ∷ []) ts) e))
+    subst (λ l. first_undeclared (module_uses l t) ≡ None) (sym (append-nil earlier))
+    (subst (λ x. first_undeclared (module_uses earlier x) ≡ None) same
+    (front_known (module_uses earlier u) (text_uses (earlier ++ u ∷ []) ts) e))
   where
     some_is : {A : Type 0} {x y : A} → Some x ≡ Some y → x ≡ y
     some_is e = cc
 module_known earlier (u ∷ ts) (suc k) t e at =
-    subst (λ l. first_undeclared (module_uses l t) ≡ None) (append_assoc earlier (u ∷ []) (take k ts)) (module_known (earlier ++ u ∷ []) ts k t (back_known (module_uses earlier u) (text_uses (earlier ++ u ∷ []) ts) e) at)
+    subst (λ l. first_undeclared (module_uses l t) ≡ None) (append_assoc earlier (u
+    ∷ []) (take k ts)) (module_known (earlier ++ u
+    ∷ []) ts k t (back_known (module_uses earlier u) (text_uses (earlier ++ u ∷ []) ts) e) at)
 
 pub use_known : (u : Use) (us : List Use) → first_undeclared (u ∷ us) ≡ None → u.declared ≡ true
 use_known u us e = by_head u.declared refl e
@@ -234,7 +291,9 @@ use_known u us e = by_head u.declared refl e
     by_head false h f = absurd (cc)
 
 -- a module after those before it
-formed_module : (earlier : List ModuleTree) (front : List Module) (t : ModuleTree) (m : Module) → IsSaid t.name (module_scope earlier t) m → GoodModule t → first_undeclared (module_uses earlier t) ≡ None → length front ≡ length earlier
+formed_module : (earlier : List ModuleTree) (front : List Module) (t : ModuleTree) (m : Module)
+    → IsSaid t.name (module_scope earlier t) m → GoodModule t
+    → first_undeclared (module_uses earlier t) ≡ None → length front ≡ length earlier
     → ((k : ℕ) (u : ModuleTree) (inner : Module) → slice_get earlier k ≡ Some u → slice_get front k ≡ Some inner → inner.ports ≡ ports_from 0 u.ports) → IsFormedModule front m
 formed_module earlier front t m s g known count within =
     let nets = both_at IsFormedNet (map port_net t.ports) (item_nets t.items) (port_nets t.ports g.ports) (nets_of_items t.items g.items) in
@@ -251,7 +310,10 @@ formed_module earlier front t m s g known count within =
       updates = λ k u e. let r = pairwise_get (UpdateIs m) (updates_in t.items) m.updates k u s.updates e in formed_update m r.0 u r.2;
       instances = λ k i e. instance k i e;
       clock = ap (list_any (is_bit_input m (codes "clk"))) s.ports ∙ sym (bit_inputs m [] (item_nets t.items) t.ports (codes "clk") s.declared.nets) ∙ use_known clock_use (reset_use ∷ []) clocks;
-      reset = ap (list_any (is_bit_input m (codes "reset"))) s.ports ∙ sym (bit_inputs m [] (item_nets t.items) t.ports (codes "reset") s.declared.nets) ∙ use_known reset_use [] (back_known (clock_use ∷ []) (reset_use ∷ []) clocks);
+      reset = ap (list_any (is_bit_input m (codes "reset"))) s.ports ∙ sym
+          (bit_inputs m [] (item_nets t.items) t.ports
+          (codes "reset") s.declared.nets) ∙ use_known reset_use [] (back_known (clock_use
+          ∷ []) (reset_use ∷ []) clocks);
     }
   where
     clock_use : Use
@@ -290,7 +352,10 @@ formed_module earlier front t m s g known count within =
           name = ap is_name p.named ∙ instances_of_items t.items g.items k r.0 r.1;
           is_earlier = omega (arith, slice_get_within earlier i.module p.inner p.of, count);
           nets = nets_joined m r.0.connections (map port_name p.inner.ports) i.nets p.joined;
-          ports = λ inner at. sym (pairwise_length (IsJoinedTo m r.0.connections) (map port_name p.inner.ports) i.nets p.joined) ∙ length-map p.inner.ports port_name ∙ sym (ap length (within i.module p.inner inner p.of at) ∙ length_ports 0 p.inner.ports);
+          ports = λ inner at. sym (pairwise_length (IsJoinedTo m r.0.connections)
+              (map port_name p.inner.ports) i.nets p.joined) ∙ length-map p.inner.ports
+              port_name ∙ sym (ap length
+              (within i.module p.inner inner p.of at) ∙ length_ports 0 p.inner.ports);
         }
 
 -- all modules
@@ -299,6 +364,12 @@ formed trees modules h g known = record {
   some = omega (arith, h.count, g.some);
   each = λ k m at.
       let t = there trees k (omega (arith, slice_get_within modules k m at, h.count)) in
-      formed_module (take k trees) (take k modules) t.0 m (h.each k t.0 m t.1 at) (g.modules k t.0 t.1) (module_known [] trees k t.0 known t.1) (omega (arith, length-take k trees, length-take k modules, h.count))
+      formed_module (take k trees) (take k modules) t.0 m (h.each k t.0 m t.1 at)
+      (g.modules k t.0 t.1) (module_known [] trees k t.0 known t.1) (omega (
+        arith,
+        length-take k trees,
+        length-take k modules,
+        h.count,
+      ))
       (λ j u inner a b. (h.each j u inner (taken_at trees k j u a) (taken_at modules k j inner b)).ports);
 }

@@ -157,7 +157,10 @@ word_good word t e = by_word (is_word word) refl (is_number word) (is_literal wo
     some_is e = cc
 
     by_word : (a : Bool) → is_word word ≡ a → (b c d : Bool)
-        → cond a (Some (Token.Word word)) (cond b (Some (Token.Number (decimal_value word))) (cond c (Some (Token.Literal (decimal_value (before_first is_quote word)) (hexadecimal (hex_digits (after_first is_quote word))))) (cond d (Some (Token.Sign word)) None))) ≡ Some t → GoodToken t
+        → cond a (Some (Token.Word word)) (cond b (Some (Token.Number (decimal_value word)))
+        (cond c (Some (Token.Literal (decimal_value (before_first is_quote word))
+        (hexadecimal (hex_digits (after_first is_quote word)))))
+        (cond d (Some (Token.Sign word)) None))) ≡ Some t → GoodToken t
     by_word true h b c d e = subst GoodToken (some_is e) h
     by_word false h true c d e = subst GoodToken (some_is e) tt
     by_word false h false true d e = subst GoodToken (some_is e) tt

@@ -10,7 +10,11 @@ use Rattle.rtl_ir.specs.declared.design.Assign.{Assign}
 use Rattle.rtl_ir.specs.declared.design.Update.{Update}
 use Rattle.rtl_ir.specs.declared.design.Instance.{Instance}
 use Rattle.rtl_ir.specs.declared.design.Module.{Module}
-use Rattle.rtl_text.specs.Tree.{Name, ExprTree, PlainTree, LiteralTree, NotTree, BinaryTree, ConcatTree, RepeatTree, PartTree, ChooseTree, CellTree, UpdateTree, RegisterUpdate, CellUpdate, Connection, ItemTree, WireItem, RegisterItem, MemoryItem, AssignItem, AlwaysItem, InstanceItem, ModuleTree}
+use Rattle.rtl_text.specs.Tree.{Name, ExprTree, PlainTree, LiteralTree, NotTree, BinaryTree}
+use Rattle.rtl_text.specs.Tree.{ConcatTree, RepeatTree, PartTree, ChooseTree, CellTree, UpdateTree}
+use Rattle.rtl_text.specs.Tree.{RegisterUpdate, CellUpdate, Connection, ItemTree, WireItem}
+use Rattle.rtl_text.specs.Tree.{RegisterItem, MemoryItem, AssignItem, AlwaysItem, InstanceItem}
+use Rattle.rtl_text.specs.Tree.{ModuleTree}
 use Rattle.rtl_text.specs.Text.{Pairwise, IsNet, IsMem, NamedAssign, NamedInstance, ExprIs, AssignIs, UpdateIs, memories_in, memories_of, assigns_in, updates_in, instances_in}
 use Rattle.rtl_reading.specs.Uses.{Scope, port_name}
 use Rattle.rtl_reading.specs.Reads.{port_net, item_nets}
@@ -93,7 +97,10 @@ grows_by m n nets mems e f = record {
 }
 
 pub grows_same : (m n : Module) → n.nets ≡ m.nets → n.mems ≡ m.mems → Grows m n
-grows_same m n e f = record { nets = λ k name h. subst (λ l. option_map (λ (x : Net). x.name) (slice_get l k) ≡ Some name) (sym e) h; mems = λ k name h. subst (λ l. option_map (λ (x : Mem). x.name) (slice_get l k) ≡ Some name) (sym f) h }
+grows_same m n e f = record {
+  nets = λ k name h. subst (λ l. option_map (λ (x : Net). x.name) (slice_get l k) ≡ Some name) (sym e) h;
+  mems = λ k name h. subst (λ l. option_map (λ (x : Mem). x.name) (slice_get l k) ≡ Some name) (sym f) h;
+}
 
 module _ {m n : Module} (g : Grows m n) where
   expr_grows : (t : ExprTree) (e : Expr) → ExprIs m t e → ExprIs n t e
@@ -164,7 +171,9 @@ memories_joined : (xs ys : List Mem) → memories_of (xs ++ ys) ≡ memories_of 
 memories_joined [] ys = refl
 memories_joined (x ∷ xs) ys = ap (λ l. record { name = x.name; width = x.width; depth = x.depth } ∷ l) (memories_joined xs ys)
 
-pairwise_more : {A B : Type 0} (R S : A → B → Type 0) (xs us ts : List A) (ys vs zs : List B) → ((x : A) (y : B) → R x y → S x y) → Pairwise R xs ys → Pairwise S us vs → ts ≡ xs ++ us → zs ≡ ys ++ vs → Pairwise S ts zs
+pairwise_more : {A B : Type 0} (R S : A → B → Type 0) (xs us ts : List A) (ys vs zs : List B)
+    → ((x : A) (y : B) → R x y → S x y) → Pairwise R xs ys → Pairwise S us vs → ts ≡ xs ++ us
+    → zs ≡ ys ++ vs → Pairwise S ts zs
 pairwise_more R S xs us ts ys vs zs f p q d e = rw (d, e) (pairwise_joined S xs us ys vs (pairwise_map f xs ys p) q)
 
 pub said_more : (name : Name) (sc : Scope) (i : ItemTree) (m n : Module) → IsSaid name sc m → Adds sc.modules i m n → IsSaid name (with_item sc i) n
@@ -174,10 +183,25 @@ said_more name sc i m n s a =
       named = a.named ∙ s.named;
       ports = a.ports ∙ s.ports;
       declared = record {
-        nets = a.nets ∙ ap (λ l. l ++ item_nets (i ∷ [])) s.declared.nets ∙ append_assoc (map port_net sc.ports) (item_nets sc.items) (item_nets (i ∷ [])) ∙ ap (λ l. map port_net sc.ports ++ l) (sym (item_nets-append sc.items (i ∷ [])));
-        mems = ap memories_of a.mems_added ∙ memories_joined m.mems a.mems ∙ ap (λ l. l ++ memories_of a.mems) s.declared.mems ∙ ap (λ l. memories_in sc.items ++ l) a.mems_are ∙ sym (memories_in-append sc.items (i ∷ []));
+        nets = a.nets ∙ ap (λ l. l ++ item_nets (i
+            ∷ [])) s.declared.nets ∙ append_assoc (map port_net sc.ports) (item_nets sc.items)
+            (item_nets (i ∷ [])) ∙ ap (λ l. map port_net sc.ports
+            ++ l) (sym (item_nets-append sc.items (i ∷ [])));
+        mems = ap memories_of a.mems_added ∙ memories_joined m.mems a.mems ∙ ap (λ l. l
+            ++ memories_of a.mems) s.declared.mems ∙ ap (λ l. memories_in sc.items
+            ++ l) a.mems_are ∙ sym (memories_in-append sc.items (i ∷ []));
       };
-      assigns = pairwise_more (AssignIs m) (AssignIs n) (assigns_in sc.items) (assigns_in (i ∷ [])) (assigns_in (sc.items ++ i ∷ [])) m.assigns a.assigns n.assigns (assign_grows g) s.assigns a.assigns_are (assigns_in-append sc.items (i ∷ [])) a.assigns_added;
-      updates = pairwise_more (UpdateIs m) (UpdateIs n) (updates_in sc.items) (updates_in (i ∷ [])) (updates_in (sc.items ++ i ∷ [])) m.updates a.updates n.updates (update_grows g) s.updates a.updates_are (updates_in-append sc.items (i ∷ [])) a.updates_added;
-      instances = pairwise_more (IsPartOf sc.modules m) (IsPartOf sc.modules n) (instances_in sc.items) (instances_in (i ∷ [])) (instances_in (sc.items ++ i ∷ [])) m.instances a.instances n.instances (part_grows g sc.modules) s.instances a.instances_are (instances_in-append sc.items (i ∷ [])) a.instances_added;
+      assigns = pairwise_more (AssignIs m) (AssignIs n) (assigns_in sc.items) (assigns_in (i
+          ∷ [])) (assigns_in (sc.items ++ i
+          ∷ [])) m.assigns a.assigns n.assigns (assign_grows g) s.assigns a.assigns_are
+          (assigns_in-append sc.items (i ∷ [])) a.assigns_added;
+      updates = pairwise_more (UpdateIs m) (UpdateIs n) (updates_in sc.items) (updates_in (i
+          ∷ [])) (updates_in (sc.items ++ i
+          ∷ [])) m.updates a.updates n.updates (update_grows g) s.updates a.updates_are
+          (updates_in-append sc.items (i ∷ [])) a.updates_added;
+      instances = pairwise_more (IsPartOf sc.modules m) (IsPartOf sc.modules n)
+          (instances_in sc.items) (instances_in (i ∷ [])) (instances_in (sc.items ++ i
+          ∷ [])) m.instances a.instances n.instances
+          (part_grows g sc.modules) s.instances a.instances_are (instances_in-append sc.items (i
+          ∷ [])) a.instances_added;
     }

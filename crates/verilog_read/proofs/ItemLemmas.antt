@@ -75,7 +75,10 @@ module _ (named : Name) (sc : Scope) (m : Module) (s : IsSaid named sc m) (name 
     instances_are = tt;
   })
 
-pub instance_said : (named : Name) (sc : Scope) (m : Module) → IsSaid named sc m → (of name : Name) (cs : List Connection) (i : Instance) (instances : List Instance) → instances ≡ m.instances ++ i ∷ [] → IsPartOf sc.modules m (record { of = of; name = name; connections = cs }) i
+pub instance_said : (named : Name) (sc : Scope) (m : Module) → IsSaid named sc m
+    → (of name : Name) (cs : List Connection) (i : Instance) (instances : List Instance)
+    → instances ≡ m.instances ++ i ∷ []
+    → IsPartOf sc.modules m (record { of = of; name = name; connections = cs }) i
     → IsSaid named (with_item sc (InstanceItem of name cs)) (record m { instances = instances })
 instance_said named sc m s of name cs i instances e p = said_more named sc (InstanceItem of name cs) m _ s (record {
   named = refl;
@@ -96,14 +99,20 @@ instance_said named sc m s of name cs i instances e p = said_more named sc (Inst
 })
 
 -- an item that is known
-pub given_item : (named : Name) (sc : Scope) (b : Builder) {item is : ItemTree} → item ≡ is → AllDeclared (item_uses sc (item_view is)) (IsBuilt named (with_item sc (item_view is)) b) → AllDeclared (item_uses sc (item_view item)) (IsBuilt named (with_item sc (item_view item)) b)
+pub given_item : (named : Name) (sc : Scope) (b : Builder) {item is : ItemTree} → item ≡ is
+    → AllDeclared (item_uses sc (item_view is)) (IsBuilt named (with_item sc (item_view is)) b)
+    → AllDeclared (item_uses sc (item_view item)) (IsBuilt named (with_item sc (item_view item)) b)
 given_item named sc b e h = subst (λ t. AllDeclared (item_uses sc (item_view t)) (IsBuilt named (with_item sc (item_view t)) b)) (sym e) h
 
-uses_joined : (modules : List ModuleTree) (ports : List PortTree) (before is js : List tree.ItemTree) → items_uses modules ports before (is ++ js) ≡ items_uses modules ports before is ++ items_uses modules ports (before ++ is) js
+uses_joined : (modules : List ModuleTree) (ports : List PortTree)
+    (before is js : List tree.ItemTree) → items_uses modules ports before (is
+    ++ js) ≡ items_uses modules ports before is ++ items_uses modules ports (before ++ is) js
 uses_joined modules ports before [] js = ap (λ l. items_uses modules ports l js) (sym (append-nil before))
 uses_joined modules ports before (i ∷ is) js =
     let here = item_uses (record { modules = modules; ports = ports; items = before }) i in
-    ap (λ l. here ++ l) (uses_joined modules ports (before ++ i ∷ []) is js ∙ ap (λ l. items_uses modules ports (before ++ i ∷ []) is ++ items_uses modules ports l js) (append_assoc before (i ∷ []) is))
+    ap (λ l. here ++ l) (uses_joined modules ports (before ++ i
+    ∷ []) is js ∙ ap (λ l. items_uses modules ports (before ++ i ∷ []) is
+    ++ items_uses modules ports l js) (append_assoc before (i ∷ []) is))
     ∙ sym (append_assoc here (items_uses modules ports (before ++ i ∷ []) is) (items_uses modules ports (before ++ i ∷ is) js))
 
 module _ (named : Name) (sc : Scope) {items : List ItemTree} {i : ℕ} {x : ItemTree} (s : Split items i x) where
@@ -114,11 +123,17 @@ module _ (named : Name) (sc : Scope) {items : List ItemTree} {i : ℕ} {x : Item
       let front = map item_view (take i items) in
       let here = item_uses (item_scope sc front) (item_view x) in
       subst (λ l. AllDeclared (items_uses sc.modules sc.ports [] l) (IsBuilt named (item_scope sc l) new)) (sym (map_more item_view s)) (record {
-        known = ap first_undeclared (uses_joined sc.modules sc.ports [] front (item_view x ∷ []) ∙ ap (λ l. items_uses sc.modules sc.ports [] front ++ l) (append-nil here)) ∙ both (items_uses sc.modules sc.ports [] front) here before.known this.known;
+        known = ap first_undeclared (uses_joined sc.modules sc.ports [] front (item_view x
+            ∷ []) ∙ ap (λ l. items_uses sc.modules sc.ports [] front
+            ++ l) (append-nil here)) ∙ both
+            (items_uses sc.modules sc.ports [] front) here before.known this.known;
         holds = this.holds;
       })
 
-  pub items_fault : (f : Fault) → first_undeclared (items_uses sc.modules sc.ports [] (map item_view (take i items))) ≡ None → IsFault (item_uses (item_scope sc (map item_view (take i items))) (item_view x)) f → IsFault (items_uses sc.modules sc.ports [] (map item_view items)) f
+  pub items_fault : (f : Fault) → first_undeclared (items_uses sc.modules sc.ports []
+      (map item_view (take i items))) ≡ None
+      → IsFault (item_uses (item_scope sc (map item_view (take i items))) (item_view x)) f
+      → IsFault (items_uses sc.modules sc.ports [] (map item_view items)) f
   items_fault f known h =
       let front = map item_view (take i items) in
       let here = item_uses (item_scope sc front) (item_view x) in

@@ -1,5 +1,7 @@
 -- The connections of an instance, one by one, and its module.
-use Rattle.std.proofs.Common.{◌≡◌, ◌∙◌, ℕ, ◌+◌, ◌<◌, Bool, true, false, ◌&&◌, not, List, [], ◌∷◌, ◌++◌, length, map, take, set, get_or, Option, Some, None, is_some, Result, Ok, Err, sym, ap, subst, arith}
+use Rattle.std.proofs.Common.{◌≡◌, ◌∙◌, ℕ, ◌+◌, ◌<◌, Bool, true, false, ◌&&◌, not, List, [], ◌∷◌}
+use Rattle.std.proofs.Common.{◌++◌, length, map, take, set, get_or, Option, Some, None, is_some}
+use Rattle.std.proofs.Common.{Result, Ok, Err, sym, ap, subst, arith}
 use Rattle.std.specs.Prelude.{slice_get}
 use Rattle.std.specs.Option.{option_map}
 use Rattle.std.proofs.lemmas.List.{length-map, length-take}
@@ -42,7 +44,9 @@ module _ (sc : Scope) (m : Module) (ports : List Name) {connections : List Conne
       let back = connection_uses sc ports (fs ++ c ∷ []) (map connection_view s.rest) in
       let b = is_in c.port ports && not (is_in c.port (named_ports fs)) in
       subst (λ l. IsFault l f) (sym (ap (connection_uses sc ports []) (map_whole connection_view s) ∙ uses_joined sc ports [] fs (c ∷ map connection_view s.rest)))
-      (fault_later (connection_uses sc ports [] fs) (record { name = c.port; declared = b } ∷ net sc c.net ∷ back) f h.known (says_fault c.port b (net sc c.net ∷ back) f (own_unknown sc m ports fs c slots h.holds t) says))
+      (fault_later (connection_uses sc ports [] fs) (record { name = c.port; declared = b }
+      ∷ net sc c.net ∷ back) f h.known (says_fault c.port b (net sc c.net
+      ∷ back) f (own_unknown sc m ports fs c slots h.holds t) says))
 
   pub net_fault : (k : ℕ) (f : Fault) → IsFree ports slots x.port.now k → IsFault (net sc x.net.now ∷ []) f → IsFault (connection_uses sc ports [] (map connection_view connections)) f
   net_fault k f free g =
@@ -52,7 +56,9 @@ module _ (sc : Scope) (m : Module) (ports : List Name) {connections : List Conne
       let b = is_in c.port ports && not (is_in c.port (named_ports fs)) in
       subst (λ l. IsFault l f) (sym (ap (connection_uses sc ports []) (map_whole connection_view s) ∙ uses_joined sc ports [] fs (c ∷ map connection_view s.rest)))
       (fault_later (connection_uses sc ports [] fs) (record { name = c.port; declared = b } ∷ net sc c.net ∷ back) f h.known
-      (fault_later (record { name = c.port; declared = b } ∷ []) (net sc c.net ∷ back) f (lone_known c.port b (own_known sc m ports fs c slots h.holds k free)) (fault_sooner (net sc c.net ∷ []) back f g)))
+      (fault_later (record { name = c.port; declared = b } ∷ []) (net sc c.net
+      ∷ back) f (lone_known c.port b (own_known sc m ports fs c slots h.holds k free))
+      (fault_sooner (net sc c.net ∷ []) back f g)))
 
   pub one_more : (k n : ℕ) → IsFree ports slots x.port.now k → AllDeclared (net sc x.net.now ∷ []) (IsNet m x.net.now n)
       → AllDeclared (connection_uses sc ports [] (map connection_view (take (i + 1) connections))) (AreJoined m ports (map connection_view (take (i + 1) connections)) (set slots k (Some n)))
@@ -62,12 +68,17 @@ module _ (sc : Scope) (m : Module) (ports : List Name) {connections : List Conne
       let b = is_in c.port ports && not (is_in c.port (named_ports fs)) in
       let own : Use = record { name = c.port; declared = b } in
       subst (λ l. AllDeclared (connection_uses sc ports [] l) (AreJoined m ports l (set slots k (Some n)))) (sym (map_more connection_view s)) (record {
-        known = ap first_undeclared (uses_joined sc ports [] fs (c ∷ [])) ∙ both (connection_uses sc ports [] fs) (own ∷ net sc c.net ∷ []) h.known (both (own ∷ []) (net sc c.net ∷ []) (lone_known c.port b (own_known sc m ports fs c slots h.holds k free)) g.known);
+        known = ap first_undeclared (uses_joined sc ports [] fs (c
+            ∷ [])) ∙ both (connection_uses sc ports [] fs) (own ∷ net sc c.net
+            ∷ []) h.known (both (own ∷ []) (net sc c.net
+            ∷ []) (lone_known c.port b (own_known sc m ports fs c slots h.holds k free)) g.known);
         holds = joined_more sc m ports fs c slots h.holds k n free g.holds;
       })
 
 -- the first port that isn't joined
-pub first_free : (ports : List PortTree) (slots : List (Option ℕ)) (all : List ℕ) (i : ℕ) (d : Option ℕ) (p : PortTree) (name : Name) → i < length slots → length slots ≡ length ports → take i slots ≡ map (λ n. Some n) all → get_or slots i d ≡ None
+pub first_free : (ports : List PortTree) (slots : List (Option ℕ)) (all : List ℕ) (i : ℕ)
+    (d : Option ℕ) (p : PortTree) (name : Name) → i < length slots → length slots ≡ length ports
+    → take i slots ≡ map (λ n. Some n) all → get_or slots i d ≡ None
     → name ≡ port_name (port_view (get_or ports i p)) → IsFirstFree (map port_name (map port_view ports)) slots name
 first_free ports slots all i d p name lt size e none is =
     let s = get_split slots i d lt in
@@ -76,7 +87,10 @@ first_free ports slots all i d p name lt size e none is =
       nets = all;
       rest = s.rest;
       are = s.whole ∙ ap (λ l. l ++ get_or slots i d ∷ s.rest) e ∙ ap (λ o. map (λ (n : ℕ). Some n) all ++ o ∷ s.rest) none;
-      at = ap (slice_get (map port_name (map port_view ports))) count ∙ slice_get-map port_name (map port_view ports) i ∙ ap (option_map port_name) (slice_get-map port_view ports i ∙ ap (option_map port_view) (slice_get-get_or ports i p (omega (arith, size)))) ∙ ap Some (sym is);
+      at = ap (slice_get (map port_name (map port_view ports))) count ∙ slice_get-map port_name
+          (map port_view ports) i ∙ ap (option_map port_name)
+          (slice_get-map port_view ports i ∙ ap (option_map port_view)
+          (slice_get-get_or ports i p (omega (arith, size)))) ∙ ap Some (sym is);
     }
 
 pub free_moved : (ports : List Name) {xs ys : List (Option ℕ)} {name : Name} {k : ℕ} → xs ≡ ys → IsFree ports xs name k → IsFree ports ys name k
@@ -91,7 +105,10 @@ pub gives_instance : (sc : Scope) (m : Module) (of name : Name) (cs : List tree.
     → Gives r (item_uses sc (tree.InstanceItem of name cs)) (IsPartOf sc.modules m (record { of = of; name = name; connections = cs }))
 gives_instance sc m of name cs r t found named h =
     subst (λ o. Gives r (record { name = of; declared = is_some o } ∷ instance_uses sc (ports_named o) cs) (IsPartOf sc.modules m (record { of = of; name = name; connections = cs }))) (sym found)
-    (behind (instance_uses sc (map port_name t.ports) cs) (IsPartOf sc.modules m (record { of = of; name = name; connections = cs })) r (subst (λ n. Gives r (instance_uses sc (map port_name t.ports) cs) (IsPartOf sc.modules m (record { of = n; name = name; connections = cs }))) named h))
+    (behind (instance_uses sc (map port_name t.ports) cs)
+    (IsPartOf sc.modules m (record { of = of; name = name; connections = cs })) r
+    (subst (λ n. Gives r (instance_uses sc (map port_name t.ports) cs)
+    (IsPartOf sc.modules m (record { of = n; name = name; connections = cs }))) named h))
   where
     fault_behind : (us : List Use) (f : Fault) → IsFault us f → IsFault (record { name = of; declared = true } ∷ us) f
     fault_behind us (Unknown other) e = e

@@ -1,5 +1,8 @@
 -- The ports of an instance, joined one by one.
-use Rattle.std.proofs.Common.{◌≡◌, ◌≢◌, ◌∙◌, ℕ, zero, suc, ◌+◌, ◌<◌, Bool, true, false, ◌&&◌, ◌||◌, not, cond, List, [], ◌∷◌, ◌++◌, length, map, set, replicate, Option, Some, None, is_some, refl, sym, ap, subst, append_assoc, arith, ◌⊎◌, inl, inr, get_or}
+use Rattle.std.proofs.Common.{◌≡◌, ◌≢◌, ◌∙◌, ℕ, zero, suc, ◌+◌, ◌<◌, Bool, true, false, ◌&&◌, ◌||◌}
+use Rattle.std.proofs.Common.{not, cond, List, [], ◌∷◌, ◌++◌, length, map, set, replicate, Option}
+use Rattle.std.proofs.Common.{Some, None, is_some, refl, sym, ap, subst, append_assoc, arith, ◌⊎◌}
+use Rattle.std.proofs.Common.{inl, inr, get_or}
 use Rattle.std.specs.Prelude.{slice_get, Contains, bytes_eq}
 use Rattle.std.specs.List.{list_any}
 use Rattle.std.specs.Option.{option_map}
@@ -27,11 +30,15 @@ or_parts false b e = (refl, e)
 or_parts true b e = absurd (cc)
 
 -- uses of connections
-pub uses_joined : (sc : Scope) (ports : List Name) (before cs ds : List Connection) → connection_uses sc ports before (cs ++ ds) ≡ connection_uses sc ports before cs ++ connection_uses sc ports (before ++ cs) ds
+pub uses_joined : (sc : Scope) (ports : List Name) (before cs ds : List Connection)
+    → connection_uses sc ports before (cs ++ ds) ≡ connection_uses sc ports before cs
+    ++ connection_uses sc ports (before ++ cs) ds
 uses_joined sc ports before [] ds = ap (λ l. connection_uses sc ports l ds) (sym (append-nil before))
 uses_joined sc ports before (c ∷ cs) ds =
     let own : Use = record { name = c.port; declared = is_in c.port ports && not (is_in c.port (named_ports before)) } in
-    ap (λ l. own ∷ net sc c.net ∷ l) (uses_joined sc ports (before ++ c ∷ []) cs ds ∙ ap (λ l. connection_uses sc ports (before ++ c ∷ []) cs ++ connection_uses sc ports l ds) (append_assoc before (c ∷ []) cs))
+    ap (λ l. own ∷ net sc c.net ∷ l) (uses_joined sc ports (before ++ c
+    ∷ []) cs ds ∙ ap (λ l. connection_uses sc ports (before ++ c ∷ []) cs
+    ++ connection_uses sc ports l ds) (append_assoc before (c ∷ []) cs))
 
 -- tests
 and_both : (a b : Bool) → a ≡ true → b ≡ false → (a && not b) ≡ true
@@ -118,7 +125,9 @@ module _ (sc : Scope) (m : Module) (ports : List Name) (front : List Connection)
   own = record { name = c.port; declared = is_in c.port ports && not (is_in c.port (named_ports front)) }
 
   pub own_known : (k : ℕ) → IsFree ports slots c.port k → (is_in c.port ports && not (is_in c.port (named_ports front))) ≡ true
-  own_known k f = and_both (is_in c.port ports) (is_in c.port (named_ports front)) (sym (number_known ports c.port) ∙ ap is_some f.number) (h.each k c.port None (name_there ports c.port k f.number) f.free f.number)
+  own_known k f = and_both (is_in c.port ports) (is_in c.port (named_ports front))
+      (sym (number_known ports c.port) ∙ ap is_some f.number)
+      (h.each k c.port None (name_there ports c.port k f.number) f.free f.number)
 
   pub own_unknown : IsTaken ports slots c.port → (is_in c.port ports && not (is_in c.port (named_ports front))) ≡ false
   own_unknown t = by_number (port_number ports c.port) refl
@@ -231,7 +240,9 @@ module _ (m : Module) (cs : List Connection) (full : List Name) where
   step : (before rest : List Name) (p : Name) → full ≡ before ++ p ∷ rest → full ≡ (before ++ p ∷ []) ++ rest
   step before rest p e = e ∙ sym (append_assoc before (p ∷ []) rest)
 
-  pub all_known : (before rest : List Name) (nets : List ℕ) → length nets ≡ length rest → full ≡ before ++ rest → Facts before rest (map (λ n. Some n) nets) → AllDeclared (joined_uses before rest cs) (Pairwise (IsJoinedTo m cs) rest nets)
+  pub all_known : (before rest : List Name) (nets : List ℕ) → length nets ≡ length rest
+      → full ≡ before ++ rest → Facts before rest (map (λ n. Some n) nets)
+      → AllDeclared (joined_uses before rest cs) (Pairwise (IsJoinedTo m cs) rest nets)
   all_known before [] [] l e f = record { known = refl; holds = tt }
   all_known before [] (n ∷ nets) l e f = absurd (omega arith)
   all_known before (p ∷ rest) [] l e f = absurd (omega arith)
@@ -239,9 +250,14 @@ module _ (m : Module) (cs : List Connection) (full : List Name) where
       let s = f 0 p (Some n) refl refl in
       let more = all_known (before ++ p ∷ []) rest nets (omega arith) (step before rest p e) (tail_facts before rest p (Some n) (map (λ x. Some x) nets) f) in
       let own : Use = record { name = p; declared = is_in p (named_ports cs) && not (is_in p before) } in
-      record { known = both (own ∷ []) (joined_uses (before ++ p ∷ []) rest cs) (lone_known p (is_in p (named_ports cs) && not (is_in p before)) (declared before rest p n e s)) more.known; holds = (s.0, more.holds) }
+      record {
+        known = both (own ∷ []) (joined_uses (before ++ p ∷ []) rest cs) (lone_known p (is_in p (named_ports cs) && not (is_in p before)) (declared before rest p n e s)) more.known;
+        holds = (s.0, more.holds);
+      }
 
-  pub first_missing : (before rest : List Name) (nets : List ℕ) (tail : List (Option ℕ)) (name : Name) → full ≡ before ++ rest → slice_get rest (length nets) ≡ Some name → Facts before rest (map (λ n. Some n) nets ++ None ∷ tail)
+  pub first_missing : (before rest : List Name) (nets : List ℕ) (tail : List (Option ℕ))
+      (name : Name) → full ≡ before ++ rest → slice_get rest (length nets) ≡ Some name
+      → Facts before rest (map (λ n. Some n) nets ++ None ∷ tail)
       → first_undeclared (joined_uses before rest cs) ≡ Some name
   first_missing before [] nets tail name e at f = absurd (cc)
   first_missing before (p ∷ rest) [] tail name e at f = let d = undeclared before rest p e (f 0 p None refl refl) in rw d at
@@ -262,14 +278,18 @@ pub record Ended (m : Module) (ports : List Name) (cs : List Connection) (nets :
   pub joined : Pairwise (IsJoinedTo m cs) ports nets
   pub each_once : length cs ≡ length ports
 
-pub ended : (m : Module) (ports : List Name) (cs : List Connection) (slots : List (Option ℕ)) (nets : List ℕ) → AreJoined m ports cs slots → slots ≡ map (λ n. Some n) nets → AllDeclared (joined_uses [] ports cs) (Ended m ports cs nets)
+pub ended : (m : Module) (ports : List Name) (cs : List Connection) (slots : List (Option ℕ))
+    (nets : List ℕ) → AreJoined m ports cs slots → slots ≡ map (λ n. Some n) nets
+    → AllDeclared (joined_uses [] ports cs) (Ended m ports cs nets)
 ended m ports cs slots nets h e =
     let h' = subst (AreJoined m ports cs) e h in
     let size : length nets ≡ length ports = sym (length-map nets (λ (n : ℕ). Some n)) ∙ h'.size in
     let r = all_known m cs ports [] ports nets size refl (facts m ports cs (map (λ n. Some n) nets) h') in
     record { known = r.known; holds = record { joined = r.holds; each_once = sym h'.count ∙ count_all nets ∙ size } }
 
-pub missing : (m : Module) (ports : List Name) (cs : List Connection) (slots : List (Option ℕ)) (name : Name) → AreJoined m ports cs slots → IsFirstFree ports slots name → first_undeclared (joined_uses [] ports cs) ≡ Some name
+pub missing : (m : Module) (ports : List Name) (cs : List Connection) (slots : List (Option ℕ))
+    (name : Name) → AreJoined m ports cs slots → IsFirstFree ports slots name
+    → first_undeclared (joined_uses [] ports cs) ≡ Some name
 missing m ports cs slots name h f = first_missing m cs ports [] ports f.nets f.rest name refl f.at (facts m ports cs (map (λ n. Some n) f.nets ++ None ∷ f.rest) (subst (AreJoined m ports cs) f.are h))
 
 -- the module of an instance
@@ -283,7 +303,10 @@ pub named_module : (k : ℕ) (ms : List ModuleTree) (q : Name) (n : ℕ) → num
 named_module k [] q n e = absurd (cc)
 named_module k (t ∷ ms) q n e = by_head (bytes_eq q t.name) refl e (λ h. named_module (k + 1) ms q n h)
   where
-    by_head : (b : Bool) → bytes_eq q t.name ≡ b → cond b (Some k) (number_from (k + 1) (map module_name ms) q) ≡ Some n → (number_from (k + 1) (map module_name ms) q ≡ Some n → (j : ℕ) × (n ≡ k + 1 + j) × Found ms q j) → (j : ℕ) × (n ≡ k + j) × Found (t ∷ ms) q j
+    by_head : (b : Bool) → bytes_eq q t.name ≡ b
+        → cond b (Some k) (number_from (k + 1) (map module_name ms) q) ≡ Some n
+        → (number_from (k + 1) (map module_name ms) q ≡ Some n → (j : ℕ) × (n ≡ k + 1 + j)
+        × Found ms q j) → (j : ℕ) × (n ≡ k + j) × Found (t ∷ ms) q j
     by_head true f h more =
         let same : k ≡ n = some_is h in let g : bytes_eq t.name q ≡ true = turned t.name q ∙ f in
         (0, omega arith, record { tree = t; at = refl; found = rw g refl; named = same_name t.name q g })
@@ -295,6 +318,9 @@ pub unnamed_module : (k : ℕ) (ms : List ModuleTree) (q : Name) → number_from
 unnamed_module k [] q e = refl
 unnamed_module k (t ∷ ms) q e = by_head (bytes_eq q t.name) refl e (λ h. unnamed_module (k + 1) ms q h)
   where
-    by_head : (b : Bool) → bytes_eq q t.name ≡ b → cond b (Some k) (number_from (k + 1) (map module_name ms) q) ≡ None → (number_from (k + 1) (map module_name ms) q ≡ None → module_named ms q ≡ None) → module_named (t ∷ ms) q ≡ None
+    by_head : (b : Bool) → bytes_eq q t.name ≡ b
+        → cond b (Some k) (number_from (k + 1) (map module_name ms) q) ≡ None
+        → (number_from (k + 1) (map module_name ms) q ≡ None → module_named ms q ≡ None)
+        → module_named (t ∷ ms) q ≡ None
     by_head true f h more = absurd (cc)
     by_head false f h more = let g : bytes_eq t.name q ≡ false = turned t.name q ∙ f in rw g (more h)

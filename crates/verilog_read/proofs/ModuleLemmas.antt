@@ -38,7 +38,9 @@ module _ (front : List ModuleTree) (t : ModuleTree) where
   pub said_modules : (old : List Module) (m : Module) → AllDeclared (text_uses [] front) (AreSaid front old) → AllDeclared (module_uses front t) (IsSaid t.name (module_scope front t) m)
       → AllDeclared (text_uses [] (front ++ t ∷ [])) (AreSaid (front ++ t ∷ []) (old ++ m ∷ []))
   said_modules old m before this = record {
-    known = ap first_undeclared (uses_joined [] front (t ∷ []) ∙ ap (λ l. text_uses [] front ++ l) (append-nil (module_uses front t))) ∙ both (text_uses [] front) (module_uses front t) before.known this.known;
+    known = ap first_undeclared (uses_joined [] front (t ∷ []) ∙ ap (λ l. text_uses [] front
+        ++ l) (append-nil (module_uses front t))) ∙ both (text_uses [] front)
+        (module_uses front t) before.known this.known;
     holds = record {
       count = omega (arith, before.holds.count, length-append old (m ∷ []), length-append front (t ∷ []));
       each = each;
@@ -48,7 +50,9 @@ module _ (front : List ModuleTree) (t : ModuleTree) where
       each : (k : ℕ) (u : ModuleTree) (n : Module) → slice_get (front ++ t ∷ []) k ≡ Some u → slice_get (old ++ m ∷ []) k ≡ Some n → IsSaid u.name (module_scope (take k (front ++ t ∷ [])) u) n
       each k u n at_t at_m = by_place (front_at front t k u at_t) (front_at old m k n at_m)
         where
-          by_place : (slice_get front k ≡ Some u) ⊎ ((k ≡ length front) × (t ≡ u)) → (slice_get old k ≡ Some n) ⊎ ((k ≡ length old) × (m ≡ n)) → IsSaid u.name (module_scope (take k (front ++ t ∷ [])) u) n
+          by_place : (slice_get front k ≡ Some u) ⊎ ((k ≡ length front) × (t ≡ u))
+              → (slice_get old k ≡ Some n) ⊎ ((k ≡ length old) × (m ≡ n))
+              → IsSaid u.name (module_scope (take k (front ++ t ∷ [])) u) n
           by_place (inl a) (inl b) = subst (λ l. IsSaid u.name (module_scope l u) n) (sym (take_front front (t ∷ []) k (omega (arith, slice_get_within front k u a)))) (before.holds.each k u n a b)
           by_place (inr (p, a)) (inr (q, b)) =
               let e : take k (front ++ t ∷ []) ≡ front = ap (λ j. take j (front ++ t ∷ [])) p ∙ take_whole front (t ∷ []) in
@@ -56,7 +60,9 @@ module _ (front : List ModuleTree) (t : ModuleTree) where
           by_place (inl a) (inr (q, b)) = absurd (omega (arith, slice_get_within front k u a, before.holds.count))
           by_place (inr (p, a)) (inl b) = absurd (omega (arith, slice_get_within old k n b, before.holds.count))
 
-  pub modules_fault : (whole rest : List ModuleTree) (f : Fault) → whole ≡ front ++ t ∷ rest → first_undeclared (text_uses [] front) ≡ None → IsFault (module_uses front t) f → IsFault (text_uses [] whole) f
+  pub modules_fault : (whole rest : List ModuleTree) (f : Fault) → whole ≡ front ++ t ∷ rest
+      → first_undeclared (text_uses [] front) ≡ None → IsFault (module_uses front t) f
+      → IsFault (text_uses [] whole) f
   modules_fault whole rest f e known h =
       let here = module_uses front t in
       let back = text_uses (front ++ t ∷ []) rest in

@@ -14,8 +14,14 @@ use Rattle.rtl_ir.specs.declared.design.Module.{Module}
 use Rattle.rtl_ir.specs.declared.design.Design.{Design}
 use Rattle.rtl_ir.specs.Formed.{net_name, name_of}
 use Rattle.rtl_ir.specs.Rules.{names_of, AllDiffer, IsAccepted}
-use Rattle.rtl_text.specs.Tree.{Name, PortTree, InputPort, OutputPort, ExprTree, PlainTree, LiteralTree, NotTree, BinaryTree, ConcatTree, RepeatTree, PartTree, ChooseTree, CellTree, UpdateTree, RegisterUpdate, CellUpdate, Connection, ModuleTree}
-use Rattle.rtl_text.specs.Text.{Pairwise, IsNet, IsMem, PortIs, ExprIs, AssignIs, UpdateIs, IsJoined, InstanceIs, ModuleIs, NamedAssign, NamedInstance, Declared, is_port, wires_from, registers_of, assigns_in, updates_in, instances_in}
+use Rattle.rtl_text.specs.Tree.{Name, PortTree, InputPort, OutputPort, ExprTree, PlainTree}
+use Rattle.rtl_text.specs.Tree.{LiteralTree, NotTree, BinaryTree, ConcatTree, RepeatTree, PartTree}
+use Rattle.rtl_text.specs.Tree.{ChooseTree, CellTree, UpdateTree, RegisterUpdate, CellUpdate}
+use Rattle.rtl_text.specs.Tree.{Connection, ModuleTree}
+use Rattle.rtl_text.specs.Text.{Pairwise, IsNet, IsMem, PortIs, ExprIs, AssignIs, UpdateIs}
+use Rattle.rtl_text.specs.Text.{IsJoined, InstanceIs, ModuleIs, NamedAssign, NamedInstance}
+use Rattle.rtl_text.specs.Text.{Declared, is_port, wires_from, registers_of, assigns_in, updates_in}
+use Rattle.rtl_text.specs.Text.{instances_in}
 use Rattle.rtl_reading.specs.Uses.{unknown_in}
 use Rattle.rtl_reading.specs.Reads.{IsNumbered}
 use Rattle.rtl_reading.specs.Renumbered.{port_as, expr_as, assign_as, target_as, update_as, instance_as, IsRenumbered, AreRenumbered}
@@ -57,7 +63,9 @@ wire_of ports k [] i d e = absurd (cc)
 wire_of ports k (n ∷ nets) i d e = go n.reg (is_port ports k) refl i e (λ i e. wire_of ports (k + 1) nets i d e)
   where
     go : (r b : Bool) → n.reg ≡ r → (i : ℕ) → slice_get (if r || b then wires_from ports (k + 1) nets else record { name = n.name; width = n.width } ∷ wires_from ports (k + 1) nets) i ≡ Some d
-        → ((i : ℕ) → slice_get (wires_from ports (k + 1) nets) i ≡ Some d → Stands nets (record { name = d.name; width = d.width; reg = false })) → Stands (n ∷ nets) (record { name = d.name; width = d.width; reg = false })
+        → ((i : ℕ) → slice_get (wires_from ports (k + 1) nets) i ≡ Some d
+        → Stands nets (record { name = d.name; width = d.width; reg = false }))
+        → Stands (n ∷ nets) (record { name = d.name; width = d.width; reg = false })
     go true b p i e more = let (j, at) = more i e in (suc j, at)
     go false true p i e more = let (j, at) = more i e in (suc j, at)
     go false false p (suc i) e more = let (j, at) = more i e in (suc j, at)
@@ -70,7 +78,9 @@ register_of [] i d e = absurd (cc)
 register_of (n ∷ nets) i d e = go n.reg refl i e (λ i e. register_of nets i d e)
   where
     go : (r : Bool) → n.reg ≡ r → (i : ℕ) → slice_get (if r then record { name = n.name; width = n.width } ∷ registers_of nets else registers_of nets) i ≡ Some d
-        → ((i : ℕ) → slice_get (registers_of nets) i ≡ Some d → Stands nets (record { name = d.name; width = d.width; reg = true })) → Stands (n ∷ nets) (record { name = d.name; width = d.width; reg = true })
+        → ((i : ℕ) → slice_get (registers_of nets) i ≡ Some d
+        → Stands nets (record { name = d.name; width = d.width; reg = true }))
+        → Stands (n ∷ nets) (record { name = d.name; width = d.width; reg = true })
     go false p i e more = let (j, at) = more i e in (suc j, at)
     go true p (suc i) e more = let (j, at) = more i e in (suc j, at)
     go true p zero e more =
@@ -81,7 +91,9 @@ register_of (n ∷ nets) i d e = go n.reg refl i e (λ i e. register_of nets i d
 abbrev declared : Net → Declared
 declared n = record { name = n.name; width = n.width }
 
-wire_in : (ports : List Port) (k : ℕ) (nets : List Net) (n : ℕ) (x : Net) → slice_get nets n ≡ Some x → x.reg ≡ false → is_port ports (k + n) ≡ false → (i : ℕ) × (slice_get (wires_from ports k nets) i ≡ Some (declared x))
+wire_in : (ports : List Port) (k : ℕ) (nets : List Net) (n : ℕ) (x : Net)
+    → slice_get nets n ≡ Some x → x.reg ≡ false → is_port ports (k + n) ≡ false → (i : ℕ)
+    × (slice_get (wires_from ports k nets) i ≡ Some (declared x))
 wire_in ports k [] n x e wire free = absurd (cc)
 wire_in ports k (y ∷ nets) zero x e wire free =
     let own : y ≡ x = some_is e in
@@ -108,7 +120,9 @@ register_in (y ∷ nets) zero x e reg =
     rw is (0, ap (λ (z : Net). Some (declared z)) own)
 register_in (y ∷ nets) (suc n) x e reg = let (i, at) = register_in nets n x e reg in go y.reg i at
   where
-    go : (r : Bool) (i : ℕ) → slice_get (registers_of nets) i ≡ Some (declared x) → (j : ℕ) × (slice_get (if r then record { name = y.name; width = y.width } ∷ registers_of nets else registers_of nets) j ≡ Some (declared x))
+    go : (r : Bool) (i : ℕ) → slice_get (registers_of nets) i ≡ Some (declared x) → (j : ℕ)
+        × (slice_get (if r then record { name = y.name; width = y.width }
+        ∷ registers_of nets else registers_of nets) j ≡ Some (declared x))
     go true i at = (suc i, at)
     go false i at = (i, at)
 
@@ -245,7 +259,9 @@ moved_at (y ∷ ms) [] k m x e g = absurd (cc)
 moved_at (y ∷ ms) (z ∷ xs) zero m x e g = let a = some_is e in let b = some_is g in λ i. Some (moved (a i) (b i))
 moved_at (y ∷ ms) (z ∷ xs) (suc k) m x e g = moved_at ms xs k m x e g
 
-module _ (trees : List ModuleTree) (d r : Design) (p : Pairwise (ModuleIs d) trees d.modules) (q : Pairwise (ModuleIs r) trees r.modules) (numbered : Pairwise IsNumbered trees r.modules) (a : IsAccepted d) (b : IsAccepted r) where
+module _ (trees : List ModuleTree) (d r : Design) (p : Pairwise (ModuleIs d) trees d.modules)
+    (q : Pairwise (ModuleIs r) trees r.modules) (numbered : Pairwise IsNumbered trees r.modules)
+    (a : IsAccepted d) (b : IsAccepted r) where
   -- a module of each of the designs at one place, and its tree
   record At (k : ℕ) (m x : Module) : Type 0 where
     tree : ModuleTree
@@ -314,11 +330,15 @@ module _ (trees : List ModuleTree) (d r : Design) (p : Pairwise (ModuleIs d) tre
       where
         port_same : (t : PortTree) (own y z : Port) → PortIs m t own → y ≡ port_as f own → PortIs x t z → z ≡ y
         port_same (InputPort w name) own y z g same s = (λ i. record {
-          net = (sym (found_by_name x differ_too name z.net (ap (option_map (λ (n : Net). n.name)) s.of ∙ ap Some s.named)) ∙ ap (λ (l : Name). place_in l x.nets) (sym (ap net_name g.of ∙ g.named))) i;
+          net = (sym (found_by_name x differ_too name z.net
+              (ap (option_map (λ (n : Net). n.name)) s.of ∙ ap Some s.named)) ∙ ap
+              (λ (l : Name). place_in l x.nets) (sym (ap net_name g.of ∙ g.named))) i;
           output = (s.direction ∙ sym g.direction) i;
         }) ∙ sym same
         port_same (OutputPort w name) own y z g same s = (λ i. record {
-          net = (sym (found_by_name x differ_too name z.net (ap (option_map (λ (n : Net). n.name)) s.of ∙ ap Some s.named)) ∙ ap (λ (l : Name). place_in l x.nets) (sym (ap net_name g.of ∙ g.named))) i;
+          net = (sym (found_by_name x differ_too name z.net
+              (ap (option_map (λ (n : Net). n.name)) s.of ∙ ap Some s.named)) ∙ ap
+              (λ (l : Name). place_in l x.nets) (sym (ap net_name g.of ∙ g.named))) i;
           output = (s.direction ∙ sym g.direction) i;
         }) ∙ sym same
 
@@ -364,7 +384,9 @@ module _ (trees : List ModuleTree) (d r : Design) (p : Pairwise (ModuleIs d) tre
         of = moved_at d.modules r.modules i.module g.inner y g.of inside.stands;
         module_named = g.module_named;
         named = g.named;
-        joined = joins_moved m (moved m x) (f k m x h) (moves k m x h) refl g.inner (moved g.inner y) (f i.module g.inner y inside) (moves i.module g.inner y inside) t.connections g.inner.ports i.nets g.joined;
+        joined = joins_moved m (moved m x) (f k m x h) (moves k m x h) refl g.inner
+            (moved g.inner y) (f i.module g.inner y inside)
+            (moves i.module g.inner y inside) t.connections g.inner.ports i.nets g.joined;
         each_once = g.each_once ∙ sym (length-map g.inner.ports (port_as (f i.module g.inner y inside)));
       }
 
@@ -375,8 +397,12 @@ module _ (trees : List ModuleTree) (d r : Design) (p : Pairwise (ModuleIs d) tre
     wires = h.also.wires ∙ ap (λ (l : List Port). wires_from l 0 x.nets) (ports_moved k m x h);
     registers = h.also.registers;
     memories = h.is.memories;
-    assigns = pairwise_as (AssignIs m) (AssignIs (moved m x)) (assign_as (f k m x h)) (assigns_in h.tree.items) m.assigns (λ t y g. assign_moved m (moved m x) (f k m x h) (moves k m x h) refl t y g) h.is.assigns;
-    updates = pairwise_as (UpdateIs m) (UpdateIs (moved m x)) (update_as (f k m x h)) (updates_in h.tree.items) m.updates (λ t y g. update_moved m (moved m x) (f k m x h) (moves k m x h) refl t y g) h.is.updates;
+    assigns = pairwise_as (AssignIs m) (AssignIs (moved m x)) (assign_as (f k m x h))
+        (assigns_in h.tree.items) m.assigns (λ t y g. assign_moved m (moved m x) (f k m x h)
+        (moves k m x h) refl t y g) h.is.assigns;
+    updates = pairwise_as (UpdateIs m) (UpdateIs (moved m x)) (update_as (f k m x h))
+        (updates_in h.tree.items) m.updates (λ t y g. update_moved m (moved m x) (f k m x h)
+        (moves k m x h) refl t y g) h.is.updates;
     instances = pairwise_as (InstanceIs d m) (InstanceIs of_text (moved m x)) (instance_as (f k m x h)) (instances_in h.tree.items) m.instances (λ t y g. instance_moved k m x h t y g) h.is.instances;
   }
 

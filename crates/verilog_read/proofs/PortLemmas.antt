@@ -30,7 +30,10 @@ with_port m name width output = record m {
   nets = m.nets ++ record { name = name; width = width; reg = false } ∷ [];
 }
 
-pub port_said : (named : Name) (modules : List ModuleTree) (before : List PortTree) (name : Name) (width : ℕ) (output : Bool) (m : Module) → IsSaid named (port_scope modules before) m → IsSaid named (port_scope modules (before ++ port_tree name width output ∷ [])) (with_port m name width output)
+pub port_said : (named : Name) (modules : List ModuleTree) (before : List PortTree)
+    (name : Name) (width : ℕ) (output : Bool) (m : Module)
+    → IsSaid named (port_scope modules before) m → IsSaid named (port_scope modules (before
+    ++ port_tree name width output ∷ [])) (with_port m name width output)
 port_said named modules before name width output m s =
     let p = port_tree name width output in
     let n : Module = with_port m name width output in
@@ -38,9 +41,16 @@ port_said named modules before name width output m s =
     let g = grows_by m n (record { name = name; width = width; reg = false } ∷ []) [] refl (sym (append-nil m.mems)) in
     record {
       named = s.named;
-      ports = ap (λ l. l ++ record { net = length m.nets; output = output } ∷ []) s.ports ∙ ap (λ (x : Port). ports_from 0 before ++ x ∷ []) (ap (λ k. record { net = k; output = output }) count ∙ sym (port_is (0 + length before) name width output)) ∙ sym (ports_push 0 before p);
+      ports = ap (λ l. l ++ record { net = length m.nets; output = output }
+          ∷ []) s.ports ∙ ap (λ (x : Port). ports_from 0 before ++ x
+          ∷ []) (ap (λ k. record { net = k; output = output }) count ∙ sym
+          (port_is (0 + length before) name width output)) ∙ sym (ports_push 0 before p);
       declared = record {
-        nets = ap (λ l. l ++ record { name = name; width = width; reg = false } ∷ []) (s.declared.nets ∙ append-nil (map port_net before)) ∙ ap (λ (x : Net). map port_net before ++ x ∷ []) (sym (net_is name width output)) ∙ sym (map_joined port_net before (p ∷ [])) ∙ sym (append-nil (map port_net (before ++ p ∷ [])));
+        nets = ap (λ l. l ++ record { name = name; width = width; reg = false }
+            ∷ []) (s.declared.nets ∙ append-nil (map port_net before)) ∙ ap
+            (λ (x : Net). map port_net before ++ x
+            ∷ []) (sym (net_is name width output)) ∙ sym (map_joined port_net before (p
+            ∷ [])) ∙ sym (append-nil (map port_net (before ++ p ∷ [])));
         mems = s.declared.mems;
       };
       assigns = pairwise_map (assign_grows g) [] m.assigns s.assigns;

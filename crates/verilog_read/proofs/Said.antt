@@ -1,5 +1,7 @@
 -- A module that was read is what the tree says.
-use Rattle.std.proofs.Common.{◌≡◌, ◌∙◌, ℕ, zero, suc, ◌+◌, ◌<◌, ◌≤◌, ◌≢◌, Bool, true, false, ◌||◌, ◌==◌, List, [], ◌∷◌, ◌++◌, length, map, Some, refl, sym, ap, subst, append_assoc, arith, ◌⊎◌, inl, inr}
+use Rattle.std.proofs.Common.{◌≡◌, ◌∙◌, ℕ, zero, suc, ◌+◌, ◌<◌, ◌≤◌, ◌≢◌, Bool, true, false, ◌||◌}
+use Rattle.std.proofs.Common.{◌==◌, List, [], ◌∷◌, ◌++◌, length, map, Some, refl, sym, ap, subst}
+use Rattle.std.proofs.Common.{append_assoc, arith, ◌⊎◌, inl, inr}
 use Rattle.std.specs.Prelude.{slice_get, take}
 use Rattle.std.proofs.lemmas.Option.{slice_get_within}
 use Rattle.std.proofs.lemmas.Bool.{cases_lt}
@@ -66,7 +68,9 @@ is_port_past k [] n h = refl
 is_port_past k (p ∷ ps) n h = let ne : k ≢ n = omega arith in let e = eq_not k n ne in rw (port_net_of k p, e) (is_port_past (k + 1) ps n (omega arith))
 
 -- the wires, behind the nets of the ports
-wires_behind : (all : List Port) (k : ℕ) (ps : List PortTree) (nets : List Net) → ((n : ℕ) → k ≤ n → n < k + length ps → is_port all n ≡ true) → wires_from all k (map port_net ps ++ nets) ≡ wires_from all (k + length ps) nets
+wires_behind : (all : List Port) (k : ℕ) (ps : List PortTree) (nets : List Net)
+    → ((n : ℕ) → k ≤ n → n < k + length ps → is_port all n ≡ true)
+    → wires_from all k (map port_net ps ++ nets) ≡ wires_from all (k + length ps) nets
 wires_behind all k [] nets h = let e : k + 0 ≡ k = omega arith in rw e refl
 wires_behind all k (p ∷ ps) nets h =
     let e : k + 1 + length ps ≡ k + suc (length ps) = omega arith in
@@ -102,7 +106,10 @@ numbers_are k (p ∷ ps) = let e = port_net_of k p in rw e (ap (λ l. k ∷ l) (
 
 -- the ports of an instance
 module _ (m inner : Module) (cs : List Connection) where
-  joined_are : (front : List Net) (ps : List PortTree) (back : List Net) (ns : List ℕ) → inner.nets ≡ front ++ (map port_net ps ++ back) → Pairwise (IsJoinedTo m cs) (map port_name ps) ns → Pairwise (IsJoined m inner cs) (ports_from (length front) ps) ns
+  joined_are : (front : List Net) (ps : List PortTree) (back : List Net) (ns : List ℕ)
+      → inner.nets ≡ front ++ (map port_net ps ++ back)
+      → Pairwise (IsJoinedTo m cs) (map port_name ps) ns
+      → Pairwise (IsJoined m inner cs) (ports_from (length front) ps) ns
   joined_are front [] back [] e h = tt
   joined_are front [] back (n ∷ ns) e h = absurd h
   joined_are front (p ∷ ps) back [] e h = absurd h
@@ -111,12 +118,19 @@ module _ (m inner : Module) (cs : List Connection) where
       (this p e h.0, subst (λ k. Pairwise (IsJoined m inner cs) (ports_from k ps) ns) l (joined_are (front ++ port_net p ∷ []) ps back ns (e ∙ behind front p ps back) h.1))
     where
       this : (p : PortTree) → inner.nets ≡ front ++ (port_net p ∷ (map port_net ps ++ back)) → IsJoinedTo m cs (port_name p) n → IsJoined m inner cs (port_of (length front) p) n
-      this (InputPort w name) f j = let g = net_there inner front (map port_net ps ++ back) (InputPort w name) f in record { port = name; net = j.net; listed = j.listed; named = rw g refl; joined = j.joined }
-      this (OutputPort w name) f j = let g = net_there inner front (map port_net ps ++ back) (OutputPort w name) f in record { port = name; net = j.net; listed = j.listed; named = rw g refl; joined = j.joined }
+      this (InputPort w name) f j = let g = net_there inner front (map port_net ps
+          ++ back) (InputPort w name) f in record
+          { port = name; net = j.net; listed = j.listed; named = rw g refl; joined = j.joined }
+      this (OutputPort w name) f j = let g = net_there inner front (map port_net ps
+          ++ back) (OutputPort w name) f in record
+          { port = name; net = j.net; listed = j.listed; named = rw g refl; joined = j.joined }
 
 -- the modules before one are in the design
 abbrev pub AreIn : Design → List ModuleTree → Type 0
-AreIn d earlier = (k : ℕ) (t : ModuleTree) → slice_get earlier k ≡ Some t → (inner : Module) × (slice_get d.modules k ≡ Some inner) × (inner.name ≡ t.name) × (inner.ports ≡ ports_from 0 t.ports) × (inner.nets ≡ map port_net t.ports ++ item_nets t.items)
+AreIn d earlier = (k : ℕ) (t : ModuleTree) → slice_get earlier k ≡ Some t → (inner : Module)
+    × (slice_get d.modules k ≡ Some inner) × (inner.name ≡ t.name)
+    × (inner.ports ≡ ports_from 0 t.ports) × (inner.nets ≡ map port_net t.ports
+    ++ item_nets t.items)
 
 pub length_ports : (k : ℕ) (ps : List PortTree) → length (ports_from k ps) ≡ length ps
 length_ports k [] = refl
@@ -154,7 +168,9 @@ pub is_numbered : (earlier : List ModuleTree) (t : ModuleTree) (m : Module) → 
 is_numbered earlier t m s = record { nets = s.declared.nets; ports = ap (map (λ (p : Port). p.net)) s.ports ∙ numbers_are 0 t.ports }
 
 -- all modules
-pairwise_at : {A B : Type 0} (R : A → B → Type 0) (xs : List A) (ys : List B) → length ys ≡ length xs → ((k : ℕ) (x : A) (y : B) → slice_get xs k ≡ Some x → slice_get ys k ≡ Some y → R x y) → Pairwise R xs ys
+pairwise_at : {A B : Type 0} (R : A → B → Type 0) (xs : List A) (ys : List B)
+    → length ys ≡ length xs → ((k : ℕ) (x : A) (y : B) → slice_get xs k ≡ Some x
+    → slice_get ys k ≡ Some y → R x y) → Pairwise R xs ys
 pairwise_at R [] [] n h = tt
 pairwise_at R [] (y ∷ ys) n h = absurd (omega arith)
 pairwise_at R (x ∷ xs) [] n h = absurd (omega arith)

@@ -12,7 +12,9 @@ use Rattle.rtl_text.specs.Text.{IsNet, IsMem, ExprIs}
 same_word_by : (b c : ℕ) (w v : ℕ) (p : b ≡ c) (q : w ≡ v) (s : 1 ≤ w) (s' : 1 ≤ v) (a : w ≤ 128) (a' : v ≤ 128) (f : b < 2 ^ w) (f' : c < 2 ^ v)
     → ◌≡◌ {A = Word} (record { bits = b; width = w; some = s; at_most = a; fits = f }) (record { bits = c; width = v; some = s'; at_most = a'; fits = f' })
 same_word_by b c w v p q s s' a a' f f' =
-    subst (λ n. (g : 1 ≤ n) (h : n ≤ 128) (k : c < 2 ^ n) → ◌≡◌ {A = Word} (record { bits = b; width = w; some = s; at_most = a; fits = f }) (record { bits = c; width = n; some = g; at_most = h; fits = k })) q
+    subst (λ n. (g : 1 ≤ n) (h : n ≤ 128) (k : c < 2 ^ n)
+    → ◌≡◌ {A = Word} (record { bits = b; width = w; some = s; at_most = a; fits = f })
+    (record { bits = c; width = n; some = g; at_most = h; fits = k })) q
     (λ g h k. subst (λ n. (k : n < 2 ^ w) → ◌≡◌ {A = Word} (record { bits = b; width = w; some = s; at_most = a; fits = f }) (record { bits = n; width = w; some = g; at_most = h; fits = k })) p
     (λ k. λ i. record { bits = b; width = w; some = le_prop s g i; at_most = le_prop a h i; fits = le_prop f k i }) k) s' a' f'
 
@@ -57,7 +59,9 @@ module _ (m : Module) where
   cell_shape x a _ h = absurd h
 
 -- two expressions of one tree, in two modules in which each name is that of one net and one memory
-pub same_expr : (m n : Module) → ((a : Name) (i j : ℕ) → IsNet m a i → IsNet n a j → j ≡ i) → ((a : Name) (i j : ℕ) → IsMem m a i → IsMem n a j → j ≡ i) → (t : ExprTree) (x y : Expr) → ExprIs m t x → ExprIs n t y → y ≡ x
+pub same_expr : (m n : Module) → ((a : Name) (i j : ℕ) → IsNet m a i → IsNet n a j → j ≡ i)
+    → ((a : Name) (i j : ℕ) → IsMem m a i → IsMem n a j → j ≡ i) → (t : ExprTree) (x y : Expr)
+    → ExprIs m t x → ExprIs n t y → y ≡ x
 same_expr m n net mem (PlainTree a) x y h g =
     let (i, p, r) = plain_shape m a x h in let (j, q, s) = plain_shape n a y g in
     q ∙ ap (λ k. exprs.Net k) (net a i j r s) ∙ sym p

@@ -41,7 +41,11 @@ pub number_push : (k : ℕ) (ns : List (Option Name)) (o : Option Name) (q : Nam
 number_push k [] o q = let e : k + 0 ≡ k = omega arith in rw e refl
 number_push k (n ∷ ns) o q = by_head (stands n q) refl (number_push (k + 1) ns o q)
   where
-    by_head : (b : Bool) → stands n q ≡ b → number_from (k + 1) (ns ++ o ∷ []) q ≡ else_pick (number_from (k + 1) ns q) (cond (stands o q) (Some (k + 1 + length ns)) None) → number_from k (n ∷ ns ++ o ∷ []) q ≡ else_pick (number_from k (n ∷ ns) q) (cond (stands o q) (Some (k + length (n ∷ ns))) None)
+    by_head : (b : Bool) → stands n q ≡ b → number_from (k + 1) (ns ++ o
+        ∷ []) q ≡ else_pick (number_from (k + 1) ns q) (cond (stands o q)
+        (Some (k + 1 + length ns)) None) → number_from k (n ∷ ns ++ o
+        ∷ []) q ≡ else_pick (number_from k (n ∷ ns) q) (cond (stands o q) (Some (k + length (n
+        ∷ ns))) None)
     by_head true e h = rw (e) refl
     by_head false e h = let f : k + 1 + length ns ≡ k + suc (length ns) = omega arith in rw (e) (h ∙ ap (λ x. else_pick (number_from (k + 1) ns q) (cond (stands o q) (Some x) None)) f)
 
@@ -73,7 +77,10 @@ or_none None = refl
 or_none (Some x) = refl
 
 -- a table with one name more
-pub declared_more : (names : List (Option Name)) (name q : Name) (number : ℕ) (old new : Option ℕ) → old ≡ number_of names q → new ≡ cond (bytes_eq name q) (Some number) old → number_of names name ≡ None → number ≡ length names → new ≡ number_of (names ++ Some name ∷ []) q
+pub declared_more : (names : List (Option Name)) (name q : Name) (number : ℕ)
+    (old new : Option ℕ) → old ≡ number_of names q
+    → new ≡ cond (bytes_eq name q) (Some number) old → number_of names name ≡ None
+    → number ≡ length names → new ≡ number_of (names ++ Some name ∷ []) q
 declared_more names name q number old new e f none is = f ∙ by_test (bytes_eq name q) refl ∙ sym (number_push 0 names (Some name) q)
   where
     by_test : (b : Bool) → bytes_eq name q ≡ b → cond (bytes_eq name q) (Some number) old ≡ else_pick (number_from 0 names q) (cond (bytes_eq q name) (Some (0 + length names)) None)
@@ -93,7 +100,10 @@ declared_again names name q some = by_number (number_from 0 names q) refl ∙ sy
   where
     by_test : (b : Bool) → bytes_eq q name ≡ b → number_from 0 names q ≡ None → number_from 0 names q ≡ else_pick (number_from 0 names q) (cond (bytes_eq q name) (Some (0 + length names)) None)
     by_test false h e = rw (e, h) refl
-    by_test true h e = let p : q ≡ name = same_name q name h in let s : is_some (number_from 0 names q) ≡ true = ap (λ x. is_some (number_of names x)) p ∙ some in let t : false ≡ true = sym (ap is_some e) ∙ s in absurd (cc)
+    by_test true h e = let p : q ≡ name = same_name q name h in let s : is_some
+        (number_from 0 names q) ≡ true = ap (λ x. is_some
+        (number_of names x)) p ∙ some in let t : false ≡ true = sym (ap is_some e) ∙ s in absurd
+        (cc)
 
     by_number : (o : Option ℕ) → number_from 0 names q ≡ o → number_from 0 names q ≡ else_pick (number_from 0 names q) (cond (bytes_eq q name) (Some (0 + length names)) None)
     by_number (Some x) e = rw (e) refl
@@ -120,10 +130,17 @@ ports_any [] q = refl
 ports_any (InputPort w a ∷ ps) q = ap (λ b. bytes_eq q a || b) (ports_any ps q)
 ports_any (OutputPort w a ∷ ps) q = ap (λ b. bytes_eq q a || b) (ports_any ps q)
 
-items_any : (is : List ItemTree) (q : Name) → list_any (λ o. stands o q) (map net_name (item_nets is)) ≡ (list_any (bytes_eq q) (names_of (wires_in is)) || list_any (bytes_eq q) (names_of (registers_in is)))
+items_any : (is : List ItemTree) (q : Name)
+    → list_any (λ o. stands o q) (map net_name (item_nets is)) ≡
+    (list_any (bytes_eq q) (names_of (wires_in is)) || list_any (bytes_eq q)
+    (names_of (registers_in is)))
 items_any [] q = refl
-items_any (WireItem w a ∷ is) q = ap (λ b. bytes_eq q a || b) (items_any is q) ∙ or_assoc (bytes_eq q a) (list_any (bytes_eq q) (names_of (wires_in is))) (list_any (bytes_eq q) (names_of (registers_in is)))
-items_any (RegisterItem w a ∷ is) q = ap (λ b. bytes_eq q a || b) (items_any is q) ∙ or_turned (bytes_eq q a) (list_any (bytes_eq q) (names_of (wires_in is))) (list_any (bytes_eq q) (names_of (registers_in is)))
+items_any (WireItem w a ∷ is) q = ap (λ b. bytes_eq q a || b) (items_any is q) ∙ or_assoc
+    (bytes_eq q a) (list_any (bytes_eq q) (names_of (wires_in is)))
+    (list_any (bytes_eq q) (names_of (registers_in is)))
+items_any (RegisterItem w a ∷ is) q = ap (λ b. bytes_eq q a || b) (items_any is q) ∙ or_turned
+    (bytes_eq q a) (list_any (bytes_eq q) (names_of (wires_in is)))
+    (list_any (bytes_eq q) (names_of (registers_in is)))
 items_any (MemoryItem w a n ∷ is) q = items_any is q
 items_any (AssignItem a e ∷ is) q = items_any is q
 items_any (AlwaysItem us ∷ is) q = items_any is q
@@ -133,7 +150,10 @@ pub map_joined : {A B : Type 0} (f : A → B) (xs ys : List A) → map f (xs ++ 
 map_joined f [] ys = refl
 map_joined f (x ∷ xs) ys = ap (λ l. f x ∷ l) (map_joined f xs ys)
 
-nets_any : (ports : List PortTree) (is : List ItemTree) (q : Name) → list_any (λ o. stands o q) (map net_name (map port_net ports ++ item_nets is)) ≡ is_in q (map port_name ports ++ names_of (wires_in is) ++ names_of (registers_in is))
+nets_any : (ports : List PortTree) (is : List ItemTree) (q : Name)
+    → list_any (λ o. stands o q) (map net_name (map port_net ports
+    ++ item_nets is)) ≡ is_in q (map port_name ports ++ names_of (wires_in is)
+    ++ names_of (registers_in is))
 nets_any ports is q =
     let test : Option Name → Bool = λ o. stands o q in
     let a = list_any-append (bytes_eq q) (map port_name ports ++ names_of (wires_in is)) (names_of (registers_in is)) in
@@ -145,7 +165,9 @@ nets_any ports is q =
     ∙ or_assoc (list_any (bytes_eq q) (map port_name ports)) (list_any (bytes_eq q) (names_of (wires_in is))) (list_any (bytes_eq q) (names_of (registers_in is)))
     ∙ ap (λ x. x || list_any (bytes_eq q) (names_of (registers_in is))) (sym b) ∙ sym a
 
-port_registers_any : (ports : List PortTree) (nets : List Net) (q : Name) → list_any (λ o. stands o q) (map register_name (map port_net ports ++ nets)) ≡ list_any (λ o. stands o q) (map register_name nets)
+port_registers_any : (ports : List PortTree) (nets : List Net) (q : Name)
+    → list_any (λ o. stands o q) (map register_name (map port_net ports
+    ++ nets)) ≡ list_any (λ o. stands o q) (map register_name nets)
 port_registers_any [] nets q = refl
 port_registers_any (InputPort w a ∷ ps) nets q = port_registers_any ps nets q
 port_registers_any (OutputPort w a ∷ ps) nets q = port_registers_any ps nets q
@@ -167,7 +189,9 @@ net_is_known : {sc : Scope} {m : Module} (q : Name) → HasNets sc m → is_some
 net_is_known {sc = sc} {m = m} q h = number_any 0 (map net_name m.nets) q ∙ ap (λ l. list_any (λ o. stands o q) (map net_name l)) h.nets ∙ nets_any sc.ports sc.items q
 
 register_is_known : {sc : Scope} {m : Module} (q : Name) → HasNets sc m → is_some (number_of (map register_name m.nets) q) ≡ is_register sc q
-register_is_known {sc = sc} {m = m} q h = number_any 0 (map register_name m.nets) q ∙ ap (λ l. list_any (λ o. stands o q) (map register_name l)) h.nets ∙ port_registers_any sc.ports (item_nets sc.items) q ∙ item_registers_any sc.items q
+register_is_known {sc = sc} {m = m} q h = number_any 0 (map register_name m.nets) q ∙ ap
+    (λ l. list_any (λ o. stands o q) (map register_name l)) h.nets ∙ port_registers_any sc.ports
+    (item_nets sc.items) q ∙ item_registers_any sc.items q
 
 memory_is_known : {sc : Scope} {m : Module} (q : Name) → HasNets sc m → is_some (number_of (map memory_name m.mems) q) ≡ is_memory sc q
 memory_is_known {sc = sc} {m = m} q h = number_any 0 (map memory_name m.mems) q ∙ memories_any m.mems q ∙ ap (λ l. is_in q (map (λ (d : DeclaredMemory). d.name) l)) h.mems

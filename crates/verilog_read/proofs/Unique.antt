@@ -16,8 +16,12 @@ use Rattle.rtl_ir.specs.declared.design.Instance.{Instance}
 use Rattle.rtl_ir.specs.declared.design.Module.{Module}
 use Rattle.rtl_ir.specs.declared.design.Design.{Design}
 use Rattle.rtl_ir.specs.Rules.{names_of, AllDiffer, IsAccepted}
-use Rattle.rtl_text.specs.Tree.{Name, PortTree, InputPort, OutputPort, UpdateTree, RegisterUpdate, CellUpdate, ItemTree, WireItem, RegisterItem, MemoryItem, AssignItem, AlwaysItem, InstanceItem, Connection, ModuleTree}
-use Rattle.rtl_text.specs.Text.{Pairwise, IsNet, IsMem, PortIs, AssignIs, UpdateIs, IsJoined, InstanceIs, ModuleIs, NamedAssign, NamedInstance, DeclaredMemory, memories_of, assigns_in, updates_in, instances_in}
+use Rattle.rtl_text.specs.Tree.{Name, PortTree, InputPort, OutputPort, UpdateTree, RegisterUpdate}
+use Rattle.rtl_text.specs.Tree.{CellUpdate, ItemTree, WireItem, RegisterItem, MemoryItem}
+use Rattle.rtl_text.specs.Tree.{AssignItem, AlwaysItem, InstanceItem, Connection, ModuleTree}
+use Rattle.rtl_text.specs.Text.{Pairwise, IsNet, IsMem, PortIs, AssignIs, UpdateIs, IsJoined}
+use Rattle.rtl_text.specs.Text.{InstanceIs, ModuleIs, NamedAssign, NamedInstance, DeclaredMemory}
+use Rattle.rtl_text.specs.Text.{memories_of, assigns_in, updates_in, instances_in}
 use Rattle.rtl_reading.specs.Uses.{Use, Scope, is_in, port_uses, net, connection_uses, joined_uses, item_uses, items_uses, unknown_in, first_undeclared, ports_named, module_named}
 use Rattle.rtl_reading.specs.Reads.{IsNumbered}
 use Rattle.verilog_read.proofs.Tables.{is_itself, map_joined}
@@ -36,7 +40,9 @@ lists_same [] (y ∷ ys) n h = absurd (omega arith)
 lists_same (x ∷ xs) [] n h = absurd (omega arith)
 lists_same (x ∷ xs) (y ∷ ys) n h = let p = h 0 x y refl refl in let q = lists_same xs ys (omega arith) (λ k a b e f. h (suc k) a b e f) in λ i. p i ∷ q i
 
-pub pairwise_same : {A B : Type 0} (R S : A → B → Type 0) (ts : List A) (xs ys : List B) → ((k : ℕ) (t : A) (x y : B) → slice_get ts k ≡ Some t → R t x → S t y → y ≡ x) → Pairwise R ts xs → Pairwise S ts ys → ys ≡ xs
+pub pairwise_same : {A B : Type 0} (R S : A → B → Type 0) (ts : List A) (xs ys : List B)
+    → ((k : ℕ) (t : A) (x y : B) → slice_get ts k ≡ Some t → R t x → S t y → y ≡ x)
+    → Pairwise R ts xs → Pairwise S ts ys → ys ≡ xs
 pairwise_same R S [] [] [] h p q = refl
 pairwise_same R S (t ∷ ts) (x ∷ xs) (y ∷ ys) h p q = let a = h 0 t x y refl p.0 q.0 in let b = pairwise_same R S ts xs ys (λ k u v w e r s. h (suc k) u v w e r s) p.1 q.1 in λ i. a i ∷ b i
 pairwise_same R S [] (x ∷ xs) ys h p q = absurd p
@@ -124,7 +130,9 @@ or_false false true e = absurd (cc)
 abbrev port_names : List Connection → List Name
 port_names cs = map (λ (c : Connection). c.port) cs
 
-fresh : (sc : Scope) (ports : List Name) (before cs : List Connection) (k : ℕ) (c : Connection) → first_undeclared (connection_uses sc ports before cs) ≡ None → slice_get cs k ≡ Some c → is_in c.port (port_names before) ≡ false
+fresh : (sc : Scope) (ports : List Name) (before cs : List Connection) (k : ℕ) (c : Connection)
+    → first_undeclared (connection_uses sc ports before cs) ≡ None → slice_get cs k ≡ Some c
+    → is_in c.port (port_names before) ≡ false
 fresh sc ports before [] k c h e = absurd (cc)
 fresh sc ports before (x ∷ cs) zero c h e =
     let own : Use = record { name = x.port; declared = is_in x.port ports && not (is_in x.port (port_names before)) } in
@@ -150,7 +158,9 @@ true_false : {b : Bool} → b ≡ true → b ≡ false → ⊥
 true_false e f = let g : true ≡ false = sym e ∙ f in absurd (cc)
 
 -- of two connections of one port both are the same one
-one_connection : (sc : Scope) (ports : List Name) (before cs : List Connection) (i j : ℕ) (a b : Connection) → first_undeclared (connection_uses sc ports before cs) ≡ None → slice_get cs i ≡ Some a → slice_get cs j ≡ Some b → a.port ≡ b.port → a ≡ b
+one_connection : (sc : Scope) (ports : List Name) (before cs : List Connection) (i j : ℕ)
+    (a b : Connection) → first_undeclared (connection_uses sc ports before cs) ≡ None
+    → slice_get cs i ≡ Some a → slice_get cs j ≡ Some b → a.port ≡ b.port → a ≡ b
 one_connection sc ports before [] i j a b h e f p = absurd (cc)
 one_connection sc ports before (x ∷ cs) zero zero a b h e f p = sym (some_is e) ∙ some_is f
 one_connection sc ports before (x ∷ cs) zero (suc j) a b h e f p =
@@ -236,10 +246,14 @@ module _ (d e : Design) (alike : Alike d e) (m n : Module) (nets : n.nets ≡ m.
       let name = g.named ∙ sym h.named in
       let assigns = pairwise_same (AssignIs m) (AssignIs n) (assigns_in t.items) m.assigns n.assigns (λ k u x y at a b. assign_same u x y a b) h.assigns g.assigns in
       let updates = pairwise_same (UpdateIs m) (UpdateIs n) (updates_in t.items) m.updates n.updates (λ k u x y at a b. update_same u x y a b) h.updates g.updates in
-      let instances = pairwise_same (InstanceIs d m) (InstanceIs e n) (instances_in t.items) m.instances n.instances (λ k u x y at a b. instance_same u (known k u at) x y a b) h.instances g.instances in
+      let instances = pairwise_same (InstanceIs d m) (InstanceIs e n)
+      (instances_in t.items) m.instances n.instances
+      (λ k u x y at a b. instance_same u (known k u at) x y a b) h.instances g.instances in
       λ i. record { name = name i; ports = ports i; nets = nets i; mems = mems i; assigns = assigns i; updates = updates i; instances = instances i }
 
-pub one_design : (trees : List ModuleTree) (d other : Design) → Pairwise (ModuleIs d) trees d.modules → Pairwise IsNumbered trees d.modules → Pairwise (ModuleIs other) trees other.modules → Pairwise IsNumbered trees other.modules
+pub one_design : (trees : List ModuleTree) (d other : Design)
+    → Pairwise (ModuleIs d) trees d.modules → Pairwise IsNumbered trees d.modules
+    → Pairwise (ModuleIs other) trees other.modules → Pairwise IsNumbered trees other.modules
     → unknown_in trees ≡ None → IsAccepted d → other ≡ d
 one_design trees d other p q r s known a =
     let modules = lists_same d.modules other.modules (pairwise_count (ModuleIs other) trees other.modules r ∙ sym (pairwise_count (ModuleIs d) trees d.modules p)) same in

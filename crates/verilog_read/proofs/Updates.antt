@@ -28,7 +28,10 @@ module _ (sc : Scope) (m : Module) {trees : List UpdateTree} {i : ℕ} {x : Upda
   updated_more old now new u before this e =
       let front = map update_view (take i trees) in
       subst (λ l. AllDeclared (updates_uses sc l) (IsUpdated m l old new)) (sym (map_more update_view s)) (record {
-        known = ap first_undeclared (uses_joined sc front (update_view x ∷ []) ∙ ap (λ l. updates_uses sc front ++ l) (nothing (update_uses sc (update_view x)))) ∙ both (updates_uses sc front) (update_uses sc (update_view x)) before.known this.known;
+        known = ap first_undeclared (uses_joined sc front (update_view x
+            ∷ []) ∙ ap (λ l. updates_uses sc front
+            ++ l) (nothing (update_uses sc (update_view x)))) ∙ both (updates_uses sc front)
+            (update_uses sc (update_view x)) before.known this.known;
         holds = record {
           more = before.holds.more ++ u ∷ [];
           added = e ∙ ap (λ l. l ++ u ∷ []) before.holds.added ∙ append_assoc old before.holds.more (u ∷ []);
@@ -36,7 +39,10 @@ module _ (sc : Scope) (m : Module) {trees : List UpdateTree} {i : ℕ} {x : Upda
         };
       })
 
-  pub updated_fault : (f : Fault) → first_undeclared (updates_uses sc (map update_view (take i trees))) ≡ None → IsFault (update_uses sc (update_view x)) f → IsFault (updates_uses sc (map update_view trees)) f
+  pub updated_fault : (f : Fault)
+      → first_undeclared (updates_uses sc (map update_view (take i trees))) ≡ None
+      → IsFault (update_uses sc (update_view x)) f
+      → IsFault (updates_uses sc (map update_view trees)) f
   updated_fault f known h =
       let front = map update_view (take i trees) in
       let back = updates_uses sc (map update_view s.rest) in

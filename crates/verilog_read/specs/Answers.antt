@@ -43,7 +43,8 @@ pub record IsDesign (tokens : List Placed) (d : Design) : Type 0 where
 pub data IsTreeFault (tokens : List Placed) (size : ℕ) : VerilogError → Type 0 where
   memory : IsTreeFault tokens size NoMemory
   syntax_at : (place : ℕ) → IsFirstBad tokens size place → IsTreeFault tokens size (Syntax place)
-  unknown : (name : List ℕ) (trees : List ModuleTree) → AreTrees tokens trees → unknown_in trees ≡ Some name → IsTreeFault tokens size (Rtl (rules.Unknown name))
+  unknown : (name : List ℕ) (trees : List ModuleTree) → AreTrees tokens trees
+      → unknown_in trees ≡ Some name → IsTreeFault tokens size (Rtl (rules.Unknown name))
 
 pub data BreaksRule (d : Design) : VerilogError → Type 0 where
   memory : BreaksRule d NoMemory

@@ -99,7 +99,8 @@ impl<'a> Builder<'a> {
         items: &[ItemTree<'a>],
     ) -> Result<(), Fault<'a>>
         ensures { (named : Name) (sc : Scope) → sc.items ≡ [] → AreEarlier earlier.entry sc.modules → IsBuilt named sc self.old
-            → Gives result (items_uses sc.modules sc.ports [] (map item_view items.now)) (λ _. IsBuilt named (item_scope sc (map item_view items.now)) self.new) }
+            → Gives result (items_uses sc.modules sc.ports [] (map item_view items.now))
+            (λ _. IsBuilt named (item_scope sc (map item_view items.now)) self.new) }
     {
         for item in items {
             self.item(alloc, earlier, item)?;

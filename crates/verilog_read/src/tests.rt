@@ -279,7 +279,10 @@ fn names_of_kinds(rt: HostRuntime) {
             b"w",
         ),
         (
-            b"module c (input wire [0:0] clk, input wire [0:0] reset, input wire [0:0] a, input wire [0:0] a); endmodule module d (input wire [0:0] clk, input wire [0:0] reset); c i (.clk(clk), .reset(reset), .a(clk)); endmodule",
+            b"module c (input wire [0:0] clk, input wire [0:0] reset, input wire \
+                [0:0] a, input wire [0:0] a); endmodule module d (input wire [0:\
+                0] clk, input wire [0:0] reset); c i (.clk(clk), .reset(reset), \
+                .a(clk)); endmodule",
             b"a",
         ),
     ];

@@ -29,7 +29,9 @@ fits_alone d m c v e f = record { each = each; joined = λ p part k i inner at i
     none (j ∷ p) part at k i is = let n = no_part d m j p e in cc
 
 -- after an edge the top module holds what the edge leaves, and there is no other part
-pub after_alone : (d : Design) (m : Module) (old new : AllContents) (v : Family) → length m.instances ≡ 0 → new [] ≡ after_edge m (old []) v → ((k : ℕ) (p : Path) → new (k ∷ p) ≡ old (k ∷ p)) → new ≡ after_flat d m old (alone v)
+pub after_alone : (d : Design) (m : Module) (old new : AllContents) (v : Family)
+    → length m.instances ≡ 0 → new [] ≡ after_edge m (old []) v
+    → ((k : ℕ) (p : Path) → new (k ∷ p) ≡ old (k ∷ p)) → new ≡ after_flat d m old (alone v)
 after_alone d m old new v e here below = fun_ext at
   where
     at : (p : Path) → new p ≡ after_flat d m old (alone v) p

@@ -13,7 +13,10 @@ use Rattle.verilog_sim.specs.Lines.{IsSafe}
 
 -- an entry of a line says what the line says
 entry_line : {R : Type 0} (step : R → Step) (e : Entry R) (r : R) (l : Line) → e ≡ record { target = l.target; width = l.width; reads = r } → l.narrow ≡ true → l.step ≡ step r → line_of step e ≡ l
-entry_line step e r l is narrow same = ap (line_of step) is ∙ ap (λ b. record { target = l.target; width = l.width; narrow = b; step = step r }) (sym narrow) ∙ ap (λ s. record { target = l.target; width = l.width; narrow = l.narrow; step = s }) (sym same)
+entry_line step e r l is narrow same = ap (line_of step) is ∙ ap
+    (λ b. record { target = l.target; width = l.width; narrow = b; step = step r })
+    (sym narrow) ∙ ap (λ s. record
+    { target = l.target; width = l.width; narrow = l.narrow; step = s }) (sym same)
 
 pub entry_added :
     {R : Type 0} (step : R → Step) (b : Batch) (entries more : List (Entry R)) (e : Entry R) (r : R) (l : Line)
@@ -35,8 +38,12 @@ pub lines_around : (bs : List Batch) (i : ℕ) (b : Batch) → slice_get bs i �
 lines_around [] i b e = absurd (cc)
 lines_around (c ∷ bs) zero b e = let same : c ≡ b = cc in (lines_of_all bs, ap (λ x. lines_in x ++ lines_of_all bs) same)
 lines_around (c ∷ bs) (suc i) b e =
-    let r = lines_around bs i b e in
-    (r.0, ap (λ x. lines_in c ++ x) r.1 ∙ sym (append_assoc (lines_in c) (lines_of_all (take i bs) ++ lines_in b) r.0) ∙ ap (λ x. x ++ r.0) (sym (append_assoc (lines_in c) (lines_of_all (take i bs)) (lines_in b))))
+    let r = lines_around bs i b e in (
+      r.0,
+      ap (λ x. lines_in c ++ x) r.1 ∙ sym (append_assoc (lines_in c)
+          (lines_of_all (take i bs) ++ lines_in b) r.0) ∙ ap (λ x. x
+          ++ r.0) (sym (append_assoc (lines_in c) (lines_of_all (take i bs)) (lines_in b))),
+    )
 
 -- the lines of a batch are safe where those of its entries are
 pub batch_safe :

@@ -13,7 +13,9 @@ pub cells_length : (cells : List ℕ) (ms : List Module) → length (cells_after
 cells_length cells [] = omega arith
 cells_length cells (m ∷ ms) = omega (arith, cells_length (cells ++ cells_with cells m ∷ []) ms, length-append cells (cells_with cells m ∷ []))
 
-pub cells_suc : (cells : List ℕ) (ms : List Module) (k : ℕ) (x : Module) → k < length ms → cells_after cells (take (suc k) ms) ≡ cells_after cells (take k ms) ++ cells_with (cells_after cells (take k ms)) (get_or ms k x) ∷ []
+pub cells_suc : (cells : List ℕ) (ms : List Module) (k : ℕ) (x : Module) → k < length ms
+    → cells_after cells (take (suc k) ms) ≡ cells_after cells (take k ms)
+    ++ cells_with (cells_after cells (take k ms)) (get_or ms k x) ∷ []
 cells_suc cells [] k x lt = absurd (omega arith)
 cells_suc cells (m ∷ ms) zero x lt = refl
 cells_suc cells (m ∷ ms) (suc k) x lt = cells_suc (cells ++ cells_with cells m ∷ []) ms k x (omega arith)
@@ -21,9 +23,17 @@ cells_suc cells (m ∷ ms) (suc k) x lt = cells_suc (cells ++ cells_with cells m
 -- the numbers of the modules before stay
 cells_kept : (cells : List ℕ) (ms : List Module) (i : ℕ) → i < length cells → get_or (cells_after cells ms) i 0 ≡ get_or cells i 0
 cells_kept cells [] i lt = refl
-cells_kept cells (m ∷ ms) i lt = cells_kept (cells ++ cells_with cells m ∷ []) ms i (omega (arith, length-append cells (cells_with cells m ∷ []))) ∙ get_or_append_left cells (cells_with cells m ∷ []) 0 i lt
+cells_kept cells (m ∷ ms) i lt = cells_kept (cells ++ cells_with cells m
+    ∷ []) ms i (omega (
+      arith,
+      length-append cells (cells_with cells m
+          ∷ []),
+    )) ∙ get_or_append_left cells (cells_with cells m ∷ []) 0 i lt
 
-sum_same : (all cells : List ℕ) (is : List Instance) → ((k : ℕ) (i : Instance) → slice_get is k ≡ Some i → get_or all i.«module» 0 ≡ get_or cells i.«module» 0) → sum_by (λ (i : Instance). get_or all i.«module» 0) is ≡ sum_by (λ (i : Instance). get_or cells i.«module» 0) is
+sum_same : (all cells : List ℕ) (is : List Instance) → ((k : ℕ) (i : Instance)
+    → slice_get is k ≡ Some i → get_or all i.«module» 0 ≡ get_or cells i.«module» 0)
+    → sum_by (λ (i : Instance). get_or all i.«module» 0) is ≡ sum_by
+    (λ (i : Instance). get_or cells i.«module» 0) is
 sum_same all cells [] h = refl
 sum_same all cells (i ∷ is) h =
     sum_by-append (λ (i : Instance). get_or all i.«module» 0) (i ∷ []) is
@@ -32,7 +42,10 @@ sum_same all cells (i ∷ is) h =
     ∙ sym (sum_by-append (λ (i : Instance). get_or cells i.«module» 0) (i ∷ []) is)
 
 -- the number of a module is the sum of its own cells and the numbers of its instances' modules
-cells_at' : (cells : List ℕ) (ms : List Module) (k : ℕ) (m : Module) → slice_get ms k ≡ Some m → ((j : ℕ) (i : Instance) → slice_get m.instances j ≡ Some i → i.«module» < length cells + k) → get_or (cells_after cells ms) (length cells + k) 0 ≡ cells_with (cells_after cells ms) m
+cells_at' : (cells : List ℕ) (ms : List Module) (k : ℕ) (m : Module) → slice_get ms k ≡ Some m
+    → ((j : ℕ) (i : Instance) → slice_get m.instances j ≡ Some i
+    → i.«module» < length cells + k)
+    → get_or (cells_after cells ms) (length cells + k) 0 ≡ cells_with (cells_after cells ms) m
 cells_at' cells [] k m e h = absurd (cc)
 cells_at' cells (x ∷ ms) zero m e h =
     let same : x ≡ m = cc in
@@ -40,7 +53,14 @@ cells_at' cells (x ∷ ms) zero m e h =
     cells_kept more ms (length cells + 0) (omega (arith, length-append cells (cells_with cells x ∷ [])))
     ∙ get_or-append-add cells (cells_with cells x ∷ []) 0 0
     ∙ ap (cells_with cells) same
-    ∙ ap (λ n. cells_of m + n) (sym (sum_same (cells_after more ms) cells m.instances (λ j i at. cells_kept more ms i.«module» (omega (arith, h j i at, length-append cells (cells_with cells x ∷ []))) ∙ get_or_append_left cells (cells_with cells x ∷ []) 0 i.«module» (omega (arith, h j i at)))))
+    ∙ ap (λ n. cells_of m + n) (sym (sum_same (cells_after more ms) cells m.instances
+    (λ j i at. cells_kept more ms i.«module» (omega (
+      arith,
+      h j i at,
+      length-append cells (cells_with cells x
+          ∷ []),
+    )) ∙ get_or_append_left cells (cells_with cells x
+    ∷ []) 0 i.«module» (omega (arith, h j i at)))))
 cells_at' cells (x ∷ ms) (suc k) m e h =
     let more = cells ++ cells_with cells x ∷ [] in
     let size : length more + k ≡ length cells + suc k = omega (arith, length-append cells (cells_with cells x ∷ [])) in

@@ -50,7 +50,15 @@ before : (d : Design) → IsFormed d.modules → (bound k : ℕ) (m : Module) �
 before d f zero k m lt at = absurd (omega arith)
 before d f (suc bound) k m lt at =
     let size = slice_get_within d.modules k m at in
-    counted (parts_have d f bound (before d f bound) m.instances (λ j i is. let e = ((f.each k m at).instances j i is).is_earlier in (omega (arith, e, length-take k d.modules), omega (arith, e, length-take k d.modules))))
+    counted (parts_have d f bound (before d f bound) m.instances
+    (λ j i is. let e = ((f.each k m at).instances j i is).is_earlier in (
+      omega (
+        arith,
+        e,
+        length-take k d.modules,
+      ),
+      omega (arith, e, length-take k d.modules),
+    )))
 
 pub has_cells : (d : Design) (m : Module) → IsFormed d.modules → top_of d ≡ Some m → HasCells d m (all_cells d)
 has_cells d m f at = subst (HasCells d m) (total_top d f m at) (before d f (length d.modules) (length d.modules - 1) m (omega (arith, slice_get_within d.modules (length d.modules - 1) m at)) at)

@@ -23,13 +23,29 @@ bare_depths : (xs : List Mem) → sum_by (λ (x : Mem). x.depth) (map bare_mem x
 bare_depths [] = refl
 bare_depths (x ∷ xs) = omega (arith, sum_cons (λ (x : Mem). x.depth) (bare_mem x) (map bare_mem xs), sum_cons (λ (x : Mem). x.depth) x xs, bare_depths xs)
 
-pub moved_cells : (cells : List ℕ) (b : ℕ) (is : List Instance) → sum_by (λ (i : Instance). get_or cells i.«module» 0) (map (moved_instance b) is) ≡ sum_by (λ (i : Instance). get_or cells i.«module» 0) is
+pub moved_cells : (cells : List ℕ) (b : ℕ) (is : List Instance)
+    → sum_by (λ (i : Instance). get_or cells i.«module» 0) (map (moved_instance b) is) ≡ sum_by
+    (λ (i : Instance). get_or cells i.«module» 0) is
 moved_cells cells b [] = refl
-moved_cells cells b (i ∷ is) = omega (arith, sum_cons (λ (i : Instance). get_or cells i.«module» 0) (moved_instance b i) (map (moved_instance b) is), sum_cons (λ (i : Instance). get_or cells i.«module» 0) i is, moved_cells cells b is)
+moved_cells cells b (i ∷ is) = omega (
+  arith,
+  sum_cons (λ (i : Instance). get_or cells i.«module» 0) (moved_instance b i)
+      (map (moved_instance b) is),
+  sum_cons (λ (i : Instance). get_or cells i.«module» 0) i is,
+  moved_cells cells b is,
+)
 
 pub total_copied : (cells : List ℕ) {m n : Module} → IsCopied m n → cells_with cells n ≡ cells_with cells m
 total_copied cells {m = m} {n = n} j =
-    omega (arith, ap length j.nets, length-map m.nets bare_net, ap (sum_by (λ (x : Mem). x.depth)) j.mems, bare_depths m.mems, ap (sum_by (λ (i : Instance). get_or cells i.«module» 0)) j.instances, moved_cells cells 0 m.instances)
+    omega (
+      arith,
+      ap length j.nets,
+      length-map m.nets bare_net,
+      ap (sum_by (λ (x : Mem). x.depth)) j.mems,
+      bare_depths m.mems,
+      ap (sum_by (λ (i : Instance). get_or cells i.«module» 0)) j.instances,
+      moved_cells cells 0 m.instances,
+    )
 
 -- the cells of the instance that becomes a part
 part_cells : (d : Design) → IsFormed d.modules → {m n : Module} {s : Place} (j : IsJoined d m s n) → get_or (cells_after [] d.modules) j.part.«module» 0 ≡ cells_with (cells_after [] d.modules) j.inner
@@ -72,7 +88,10 @@ pub own_mems : (cells : List ℕ) (m : Module) → ((k : ℕ) (x : Mem) → slic
 own_mems cells m h = omega (arith, mems_le m.mems (λ k x e. (h k x e).words))
 
 -- what an instance adds is counted
-pub with_last : (d : Design) → IsFormed d.modules → (m : Module) (rest : List Instance) (part : Instance) (inner : Module) → m.instances ≡ rest ++ part ∷ [] → slice_get d.modules part.«module» ≡ Some inner → cells_of m + cells_of inner ≤ cells_with (cells_after [] d.modules) m
+pub with_last : (d : Design) → IsFormed d.modules
+    → (m : Module) (rest : List Instance) (part : Instance) (inner : Module)
+    → m.instances ≡ rest ++ part ∷ [] → slice_get d.modules part.«module» ≡ Some inner
+    → cells_of m + cells_of inner ≤ cells_with (cells_after [] d.modules) m
 with_last d f m rest part inner was is =
     let of : Instance → ℕ = λ i. get_or (cells_after [] d.modules) i.«module» 0 in
     omega (arith, ap (sum_by of) was, sum_by-append of rest (part ∷ []), sum_cons of part [], cells_at d f part.«module» inner is)

@@ -15,7 +15,14 @@ use Rattle.rtl_ir.specs.Value.{width_of, net_width}
 use Rattle.rtl_ir.specs.Typed.{IsTyped}
 use Rattle.rtl_ir.specs.Formed.{IsFormedExpr}
 use Rattle.verilog_sim.specs.declared.line.Step.{Step}
-use Rattle.verilog_sim.specs.declared.line.Step.TheVariants.{Copy, Literal as DoLiteral, Not as DoNot, Add as DoAdd, Sub as DoSub, Mul as DoMul, Div as DoDiv, And as DoAnd, Or as DoOr, Xor as DoXor, Eq as DoEq, Lt as DoLt, Concat as DoConcat, Repeat as DoRepeat, Part as DoPart, Choose as DoChoose, Cell as DoCell}
+use Rattle.verilog_sim.specs.declared.line.Step.TheVariants.{Copy, Literal as DoLiteral}
+use Rattle.verilog_sim.specs.declared.line.Step.TheVariants.{Not as DoNot, Add as DoAdd}
+use Rattle.verilog_sim.specs.declared.line.Step.TheVariants.{Sub as DoSub, Mul as DoMul}
+use Rattle.verilog_sim.specs.declared.line.Step.TheVariants.{Div as DoDiv, And as DoAnd, Or as DoOr}
+use Rattle.verilog_sim.specs.declared.line.Step.TheVariants.{Xor as DoXor, Eq as DoEq, Lt as DoLt}
+use Rattle.verilog_sim.specs.declared.line.Step.TheVariants.{Concat as DoConcat, Repeat as DoRepeat}
+use Rattle.verilog_sim.specs.declared.line.Step.TheVariants.{Part as DoPart, Choose as DoChoose}
+use Rattle.verilog_sim.specs.declared.line.Step.TheVariants.{Cell as DoCell}
 use Rattle.verilog_sim.specs.declared.line.Line.{Line}
 use Rattle.verilog_sim.specs.Lines.{IsSafe, IsStepSafe}
 use Rattle.verilog_sim.specs.Compiled.{IsStepOf, IsNarrow, IsLineOf, AreLines, AreLinesOf}
@@ -63,8 +70,16 @@ step_safe m w (Concat n o) (DoConcat a b low) r f t some le h =
     (omega (arith, h.0, q), omega (arith, h.1, p), omega (arith, h.2, t, (width_in m n r q).0))
 step_safe m w (Repeat k n) (DoRepeat times low a) r f t some le h =
     let q = f.nets n (0, refl) in
-    let one : 1 ≤ k = times_some k (width_of m n) w t some in
-    (omega (arith, h.0, one), λ two. (let d : width_of m n < 128 = twice k (width_of m n) (omega (arith, t)) (width_in m n r q).0 (omega (arith, h.0, two)) in omega (arith, h.1, d)), omega (arith, h.2, q))
+    let one : 1 ≤ k = times_some k (width_of m n) w t some in (
+      omega (arith, h.0, one),
+      λ two. (let d : width_of m n < 128 = twice k (width_of m n)
+          (omega (arith, t)) (width_in m n r q).0 (omega (arith, h.0, two)) in omega (
+            arith,
+            h.1,
+            d,
+          )),
+      omega (arith, h.2, q),
+    )
 step_safe m w (Part n hi lo) (DoPart a low) r f t some le h =
     let q = f.nets n (0, refl) in
     (omega (arith, h.0, q), omega (arith, h.1, t.0, t.1, (width_in m n r q).1))

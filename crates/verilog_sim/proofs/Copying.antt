@@ -117,7 +117,10 @@ module _ (d : Design) {m n : Module} (j : IsCopied m n) where
         let at' = assign_at k a at in
         let f = h.standing.ranged.assigns k a at' in
         subst (λ (x : Assign). IsTyped n (width_of n x.target) x.expr) (assign_same a)
-        (subst (λ (w : ℕ). IsTyped n w (moved_expr 0 0 a.expr)) (sym ((sits_copied j).widths a.target f.target)) (typed_moved 0 0 m n (sits_copied j) (width_of m a.target) a.expr f.expr (h.typed k a at')))
+        (subst (λ (w : ℕ). IsTyped n w (moved_expr 0 0 a.expr))
+        (sym ((sits_copied j).widths a.target f.target))
+        (typed_moved 0 0 m n (sits_copied j) (width_of m a.target) a.expr f.expr
+        (h.typed k a at')))
 
     updated_at : (t : ℕ) → is_reg n t ≡ true → (k : ℕ) × (u : Update) × (slice_get n.updates k ≡ Some u) × (u.target ≡ Reg t)
     updated_at t reg =
@@ -137,7 +140,9 @@ module _ (d : Design) {m n : Module} (j : IsCopied m n) where
           given = given_at;
           one = λ t x y q r. h.one t x y (drives_at x t q) (drives_at y t r);
           free = λ p a q b f w. h.free p a q b (feeds_at f) (way_at w);
-          update_widths = λ k u at. subst (IsUpdateTyped n) (update_same u) (update_typed 0 0 m n (sits_copied j) u (h.standing.ranged.updates k u (update_at k u at)) (h.update_widths k u (update_at k u at)));
+          update_widths = λ k u at. subst (IsUpdateTyped n) (update_same u)
+              (update_typed 0 0 m n (sits_copied j) u (h.standing.ranged.updates k u
+              (update_at k u at)) (h.update_widths k u (update_at k u at)));
           regs = λ k t u at is. (let r = h.regs k t u (update_at k u at) is in reg_at t (kept_in m t r) ∙ r);
           updated = updated_at;
           joined = λ k i e. (let c = connection_at k i e in

@@ -62,7 +62,9 @@ module _ (b nets c mems : ℕ) (n : Module) (v : Family) where
       by_depth true =
           same_contents (cut_contents b nets c mems (with_cell j (v a) y x)) (cut_contents b nets c mems x)
           (λ k. refl)
-          (λ k i. under k mems (cond (eqb (c + k) j && eqb i (v a)) y (x.cells (c + k) i)) (x.cells (c + k) i) (λ lt. ap (λ t. cond (t && eqb i (v a)) y (x.cells (c + k) i)) (ne_eqb (c + k) j (h k lt))))
+          (λ k i. under k mems (cond (eqb (c + k) j
+          && eqb i (v a)) y (x.cells (c + k) i)) (x.cells (c + k) i) (λ lt. ap (λ t. cond (t
+          && eqb i (v a)) y (x.cells (c + k) i)) (ne_eqb (c + k) j (h k lt))))
 
   outside_updated : (u : Update) (x : Contents) → IsOutside b nets c mems u.target → cut_contents b nets c mems (updated n v u x) ≡ cut_contents b nets c mems x
   outside_updated u x h = by_enable (eqb (v u.enable) 1)
@@ -79,40 +81,68 @@ module _ (b c : ℕ) (inner n : Module) (s : Sits b c inner n) (v : Family) wher
   read_in : (k : ℕ) → k < length inner.nets → v (b + k) ≡ cut_family b (length inner.nets) v k
   read_in k lt = sym (cut_at b (length inner.nets) v k lt)
 
-  written_in : (t : Target) (y : ℕ) (x : Contents) → target_net t < length inner.nets → ((k : ℕ) → target_mem t ≡ Some k → k < length inner.mems) → cut_contents b (length inner.nets) c (length inner.mems) (written n v (moved_target b c t) y x) ≡ written inner (cut_family b (length inner.nets) v) t y (cut_contents b (length inner.nets) c (length inner.mems) x)
+  written_in : (t : Target) (y : ℕ) (x : Contents) → target_net t < length inner.nets
+      → ((k : ℕ) → target_mem t ≡ Some k → k < length inner.mems)
+      → cut_contents b (length inner.nets) c (length inner.mems)
+      (written n v (moved_target b c t) y x) ≡ written inner
+      (cut_family b (length inner.nets) v) t y (cut_contents b (length inner.nets) c
+      (length inner.mems) x)
   written_in (Reg r) y x net mem =
       same_contents (cut_contents b (length inner.nets) c (length inner.mems) (with_reg (b + r) y x)) (with_reg r y (cut_contents b (length inner.nets) c (length inner.mems) x))
       (λ k. choose_moved b (length inner.nets) k r y (x.regs (b + k)) (λ t. t) refl net)
       (λ k a. refl)
   written_in (Place j a) y x net mem =
       ap (λ q. cut_contents b (length inner.nets) c (length inner.mems) (cond (ltb q (depth_of n (c + j))) (with_cell (c + j) q y x) x)) (read_in a net)
-      ∙ ap (λ q. cut_contents b (length inner.nets) c (length inner.mems) (cond (ltb (cut_family b (length inner.nets) v a) q) (with_cell (c + j) (cut_family b (length inner.nets) v a) y x) x)) (s.depths j (mem j refl))
+      ∙ ap (λ q. cut_contents b (length inner.nets) c (length inner.mems)
+      (cond (ltb (cut_family b (length inner.nets) v a) q)
+      (with_cell (c + j) (cut_family b (length inner.nets) v a) y x) x))
+      (s.depths j (mem j refl))
       ∙ by_depth (cut_family b (length inner.nets) v a) (ltb (cut_family b (length inner.nets) v a) (depth_of inner j))
     where
-      by_depth : (q : ℕ) (t : Bool) → cut_contents b (length inner.nets) c (length inner.mems) (cond t (with_cell (c + j) q y x) x) ≡ cond t (with_cell j q y (cut_contents b (length inner.nets) c (length inner.mems) x)) (cut_contents b (length inner.nets) c (length inner.mems) x)
+      by_depth : (q : ℕ) (t : Bool) → cut_contents b (length inner.nets) c (length inner.mems)
+          (cond t (with_cell (c + j) q y x) x) ≡ cond t
+          (with_cell j q y (cut_contents b (length inner.nets) c (length inner.mems) x))
+          (cut_contents b (length inner.nets) c (length inner.mems) x)
       by_depth q false = refl
       by_depth q true =
           same_contents (cut_contents b (length inner.nets) c (length inner.mems) (with_cell (c + j) q y x)) (with_cell j q y (cut_contents b (length inner.nets) c (length inner.mems) x))
           (λ k. refl)
           (λ k i. choose_moved c (length inner.mems) k j y (x.cells (c + k) i) (λ t. t && eqb i q) refl (mem j refl))
 
-  updated_in : (u : Update) (x : Contents) → IsFormedUpdate inner u → cut_contents b (length inner.nets) c (length inner.mems) (updated n v (moved_update b c u) x) ≡ updated inner (cut_family b (length inner.nets) v) u (cut_contents b (length inner.nets) c (length inner.mems) x)
+  updated_in : (u : Update) (x : Contents) → IsFormedUpdate inner u
+      → cut_contents b (length inner.nets) c (length inner.mems)
+      (updated n v (moved_update b c u) x) ≡ updated inner
+      (cut_family b (length inner.nets) v) u (cut_contents b (length inner.nets) c
+      (length inner.mems) x)
   updated_in u x f =
       ap (λ q. cut_contents b (length inner.nets) c (length inner.mems) (cond (eqb q 1) (written n v (moved_target b c u.target) (v (b + u.value)) x) x)) (read_in u.enable f.enable)
-      ∙ ap (λ q. cut_contents b (length inner.nets) c (length inner.mems) (cond (eqb (cut_family b (length inner.nets) v u.enable) 1) (written n v (moved_target b c u.target) q x) x)) (read_in u.value f.value)
+      ∙ ap (λ q. cut_contents b (length inner.nets) c (length inner.mems)
+      (cond (eqb (cut_family b (length inner.nets) v u.enable) 1)
+      (written n v (moved_target b c u.target) q x) x)) (read_in u.value f.value)
       ∙ by_enable (cut_family b (length inner.nets) v u.value) (eqb (cut_family b (length inner.nets) v u.enable) 1)
     where
-      by_enable : (q : ℕ) (t : Bool) → cut_contents b (length inner.nets) c (length inner.mems) (cond t (written n v (moved_target b c u.target) q x) x) ≡ cond t (written inner (cut_family b (length inner.nets) v) u.target q (cut_contents b (length inner.nets) c (length inner.mems) x)) (cut_contents b (length inner.nets) c (length inner.mems) x)
+      by_enable : (q : ℕ) (t : Bool) → cut_contents b (length inner.nets) c (length inner.mems)
+          (cond t (written n v (moved_target b c u.target) q x) x) ≡ cond t
+          (written inner (cut_family b (length inner.nets) v) u.target q
+          (cut_contents b (length inner.nets) c (length inner.mems) x))
+          (cut_contents b (length inner.nets) c (length inner.mems) x)
       by_enable q false = refl
       by_enable q true = written_in u.target q x f.net f.mem
 
-  all_in : (us : List Update) (x : Contents) → ((k : ℕ) (u : Update) → slice_get us k ≡ Some u → IsFormedUpdate inner u) → cut_contents b (length inner.nets) c (length inner.mems) (updated_all n v (map (moved_update b c) us) x) ≡ updated_all inner (cut_family b (length inner.nets) v) us (cut_contents b (length inner.nets) c (length inner.mems) x)
+  all_in : (us : List Update) (x : Contents) → ((k : ℕ) (u : Update) → slice_get us k ≡ Some u
+      → IsFormedUpdate inner u) → cut_contents b (length inner.nets) c (length inner.mems)
+      (updated_all n v (map (moved_update b c) us) x) ≡ updated_all inner
+      (cut_family b (length inner.nets) v) us (cut_contents b (length inner.nets) c
+      (length inner.mems) x)
   all_in [] x f = refl
   all_in (u ∷ us) x f =
       all_in us (updated n v (moved_update b c u) x) (λ k w e. f (suc k) w e)
       ∙ ap (updated_all inner (cut_family b (length inner.nets) v) us) (updated_in u x (f 0 u refl))
 
-  pub edge_cut : Ranged inner → (x : Contents) → cut_contents b (length inner.nets) c (length inner.mems) (after_edge n x v) ≡ after_edge inner (cut_contents b (length inner.nets) c (length inner.mems) x) (cut_family b (length inner.nets) v)
+  pub edge_cut : Ranged inner → (x : Contents)
+      → cut_contents b (length inner.nets) c (length inner.mems) (after_edge n x v)
+      ≡ after_edge inner (cut_contents b (length inner.nets) c (length inner.mems) x)
+      (cut_family b (length inner.nets) v)
   edge_cut r x =
       let moved = map (moved_update b c) inner.updates in
       let cut : Contents → Contents = λ y. cut_contents b (length inner.nets) c (length inner.mems) y in
@@ -141,13 +171,19 @@ filled_cut b c inner n s fill =
         ap (λ t. cond t (cond (is_reg n (b + k)) (fill % 2 ^ width_of n (b + k)) 0) 0) (le-ltb k (length inner.nets) ge)
         ∙ sym (ap (λ o. cond (net_kept o) (fill % 2 ^ width_of inner k) 0) (slice_get_past inner.nets k ge))
 
-    cell : (k a : ℕ) → k < length inner.mems → cond (ltb k (length inner.mems)) (cond (ltb a (depth_of n (c + k))) (fill % 2 ^ word_width n (c + k)) 0) 0 ≡ cond (ltb a (depth_of inner k)) (fill % 2 ^ word_width inner k) 0
+    cell : (k a : ℕ) → k < length inner.mems
+        → cond (ltb k (length inner.mems)) (cond (ltb a (depth_of n (c + k)))
+        (fill % 2 ^ word_width n (c + k)) 0) 0 ≡ cond (ltb a (depth_of inner k))
+        (fill % 2 ^ word_width inner k) 0
     cell k a lt =
         ap (λ t. cond t (cond (ltb a (depth_of n (c + k))) (fill % 2 ^ word_width n (c + k)) 0) 0) (lt-ltb k (length inner.mems) lt)
         ∙ ap (λ q. cond (ltb a q) (fill % 2 ^ word_width n (c + k)) 0) (s.depths k lt)
         ∙ ap (λ w. cond (ltb a (depth_of inner k)) (fill % 2 ^ w) 0) (s.word_widths k lt)
 
-    cell_past : (k a : ℕ) → length inner.mems ≤ k → cond (ltb k (length inner.mems)) (cond (ltb a (depth_of n (c + k))) (fill % 2 ^ word_width n (c + k)) 0) 0 ≡ cond (ltb a (depth_of inner k)) (fill % 2 ^ word_width inner k) 0
+    cell_past : (k a : ℕ) → length inner.mems ≤ k
+        → cond (ltb k (length inner.mems)) (cond (ltb a (depth_of n (c + k)))
+        (fill % 2 ^ word_width n (c + k)) 0) 0 ≡ cond (ltb a (depth_of inner k))
+        (fill % 2 ^ word_width inner k) 0
     cell_past k a ge =
         ap (λ t. cond t (cond (ltb a (depth_of n (c + k))) (fill % 2 ^ word_width n (c + k)) 0) 0) (le-ltb k (length inner.mems) ge)
         ∙ sym (ap (λ o. cond (ltb a (mem_depth o)) (fill % 2 ^ word_width inner k) 0) (slice_get_past inner.mems k ge) ∙ ap (λ t. cond t (fill % 2 ^ word_width inner k) 0) (le-ltb a 0 (omega arith)))

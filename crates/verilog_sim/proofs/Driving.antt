@@ -35,9 +35,13 @@ one_driver m graph drivers k a h at d =
       nodes = length-set graph a.target (reads a.expr) ∙ d.nodes;
       nets = length-set drivers a.target (Some k) ∙ d.nets;
       sound = λ n q e. ⊎_elim (λ f. sound_here n q f e) (λ f. sound_other n q f e) (cases_eq n a.target);
-      below = λ n q e. ⊎_elim (λ f. let g : Some k ≡ Some q = sym (here n f) ∙ e in let r : k ≡ q = cc in omega (arith, r)) (λ f. let r = d.below n q (sym (other n f) ∙ e) in omega (arith, r)) (cases_eq n a.target);
+      below = λ n q e. ⊎_elim (λ f. let g : Some k ≡ Some q = sym (here n f) ∙ e in let r : k
+          ≡ q = cc in omega (arith, r)) (λ f. let r = d.below n q (sym (other n f) ∙ e) in omega
+          (arith, r)) (cases_eq n a.target);
       whole = λ j b lt e. ⊎_elim (λ f. whole_before j b f e) (λ f. whole_here j b f e) (split j lt);
-      none = λ n e. ⊎_elim (λ f. absurd (let g : Some k ≡ None = sym (here n f) ∙ e in cc)) (λ f. get_or-set_other graph a.target n (reads a.expr) [] f ∙ d.none n (sym (other n f) ∙ e)) (cases_eq n a.target);
+      none = λ n e. ⊎_elim (λ f. absurd (let g : Some k ≡ None = sym (here n f) ∙ e in cc))
+          (λ f. get_or-set_other graph a.target n (reads a.expr) [] f ∙ d.none n
+          (sym (other n f) ∙ e)) (cases_eq n a.target);
     }
   where
     target : a.target < length m.nets

@@ -13,7 +13,9 @@ use Rattle.rtl_ir.specs.Ports.{shape_ports, first_scalar, first_input, first_out
 use Rattle.rtl_ir.specs.Run.{Channel, Outer}
 use Rattle.verilog_sim.specs.declared.offer.Offer.{Offer}
 use Rattle.verilog_sim.specs.Gifts.{gifts, kernel_gifts, scalar_gifts, input_gifts, output_gifts}
-use Rattle.verilog_sim.proofs.Shapes.{ViewAt, PortAt, port_at, net_is, clock_at, reset_at, hold_at, ticks_at, scalar_at, word_at, valid_at, accept_at, nets_get, seconds_get, channels_get, channel_at, length_seconds}
+use Rattle.verilog_sim.proofs.Shapes.{ViewAt, PortAt, port_at, net_is, clock_at, reset_at, hold_at}
+use Rattle.verilog_sim.proofs.Shapes.{ticks_at, scalar_at, word_at, valid_at, accept_at, nets_get}
+use Rattle.verilog_sim.proofs.Shapes.{seconds_get, channels_get, channel_at, length_seconds}
 use Rattle.verilog_sim.proofs.Rising.{InputAt, Rising, next, rising_append, rising_kernels, rising_scalars, rising_inputs_of, rising_outputs_of}
 
 pub got : {A : Type 0} (xs : List A) (k : ℕ) (x d : A) → slice_get xs k ≡ Some x → get_or xs k d ≡ x

@@ -48,7 +48,10 @@ other_net b last k p a lt = record { path = ap (λ t. cond t (k ∷ p) (last ∷
 
 deep_net : (b last k : ℕ) (p : Path) (a : ℕ) → Stands b last ((last + k) ∷ p) a (last ∷ k ∷ p) a
 deep_net b last k p a =
-    record { path = ap (λ t. cond t ((last + k) ∷ p) (last ∷ (last + k - last) ∷ p)) (le-ltb (last + k) last (omega arith)) ∙ (let f : last + k - last ≡ k = omega arith in ap (λ (i : ℕ). last ∷ i ∷ p) f); net = refl }
+    record {
+      path = ap (λ t. cond t ((last + k) ∷ p) (last ∷ (last + k - last) ∷ p)) (le-ltb (last + k) last (omega arith)) ∙ (let f : last + k - last ≡ k = omega arith in ap (λ (i : ℕ). last ∷ i ∷ p) f);
+      net = refl;
+    }
 
 -- the way from net to net, in the module with the instance
 abbrev Before : Design → Module → ℕ → ℕ → Path → ℕ → Path → ℕ → Type 0
@@ -96,11 +99,21 @@ module _ {d : Design} {m n : Module} {s : Place} (j : IsJoined d m s n) (h : Sta
 
       by_output : (o : Bool) → g.port.output ≡ o → Before d m (length m.nets) (length j.rest) [] t [] a.target
       by_output true e =
-          let same : assign_made g.net (Plain (length m.nets + g.port.net)) ≡ a = sym (ap (λ o. cond o (assign_made g.net (Plain (length m.nets + g.port.net))) (assign_made (length m.nets + g.port.net) (Plain g.net))) e) ∙ g.is in
-          before (inner_net (length m.nets) (length j.rest) g.port.net t (sym (read_at (length m.nets + g.port.net) _ same refl))) (outer_same (length m.nets) (length j.rest) a.target g.net net (ap (λ (y : Assign). y.target) same)) (leave (length j.rest) i edge e)
+          let same : assign_made g.net (Plain (length m.nets + g.port.net)) ≡ a = sym
+          (ap (λ o. cond o (assign_made g.net (Plain (length m.nets + g.port.net)))
+          (assign_made (length m.nets + g.port.net) (Plain g.net))) e) ∙ g.is in
+          before (inner_net (length m.nets) (length j.rest) g.port.net t
+          (sym (read_at (length m.nets + g.port.net) _ same refl)))
+          (outer_same (length m.nets) (length j.rest) a.target g.net net
+          (ap (λ (y : Assign). y.target) same)) (leave (length j.rest) i edge e)
       by_output false e =
-          let same : assign_made (length m.nets + g.port.net) (Plain g.net) ≡ a = sym (ap (λ o. cond o (assign_made g.net (Plain (length m.nets + g.port.net))) (assign_made (length m.nets + g.port.net) (Plain g.net))) e) ∙ g.is in
-          before (outer_same (length m.nets) (length j.rest) t g.net net (sym (read_at g.net _ same refl))) (inner_net (length m.nets) (length j.rest) g.port.net a.target (ap (λ (y : Assign). y.target) same)) (enter (length j.rest) i edge e)
+          let same : assign_made (length m.nets + g.port.net) (Plain g.net) ≡ a = sym
+          (ap (λ o. cond o (assign_made g.net (Plain (length m.nets + g.port.net)))
+          (assign_made (length m.nets + g.port.net) (Plain g.net))) e) ∙ g.is in
+          before (outer_same (length m.nets) (length j.rest) t g.net net
+          (sym (read_at g.net _ same refl))) (inner_net (length m.nets)
+          (length j.rest) g.port.net a.target (ap (λ (y : Assign). y.target) same))
+          (enter (length j.rest) i edge e)
 
   enter_other : (k i : ℕ) → k < length j.rest → (e : Connection d n k i) → e.port.output ≡ false → Before d m (length m.nets) (length j.rest) [] e.net (k ∷ []) e.port.net
   enter_other k i lt e out =
@@ -126,7 +139,11 @@ module _ {d : Design} {m n : Module} {s : Place} (j : IsJoined d m s n) (h : Sta
       before (deep_net (length m.nets) (length j.rest) k [] e.port.net) (inner_net (length m.nets) (length j.rest) c.own e.net c.moved)
       (inside (length j.rest) j.part j.inner (k ∷ []) [] e.port.net c.own (inst_last j) j.is (leave k i (connection_of c) out))
 
-  inside_deep : (k : ℕ) (i : Instance) (y : Module) (p q : Path) (a c : ℕ) → slice_get n.instances (length j.rest + k) ≡ Some i → slice_get d.modules i.«module» ≡ Some y → FlatFeeds d y p a q c → Before d m (length m.nets) (length j.rest) ((length j.rest + k) ∷ p) a ((length j.rest + k) ∷ q) c
+  inside_deep : (k : ℕ) (i : Instance) (y : Module) (p q : Path) (a c : ℕ)
+      → slice_get n.instances (length j.rest + k) ≡ Some i
+      → slice_get d.modules i.«module» ≡ Some y → FlatFeeds d y p a q c
+      → Before d m (length m.nets) (length j.rest) ((length j.rest + k)
+      ∷ p) a ((length j.rest + k) ∷ q) c
   inside_deep k i y p q a c of is f =
       let x = some_of_map (moved_instance (length m.nets)) (slice_get j.inner.instances k) i (sym (inst_inner j k) ∙ of) in
       before (deep_net (length m.nets) (length j.rest) k p a) (deep_net (length m.nets) (length j.rest) k q c)
@@ -135,15 +152,24 @@ module _ {d : Design} {m n : Module} {s : Place} (j : IsJoined d m s n) (h : Sta
   pub feeds_before : {p q : Path} {a c : ℕ} → FlatFeeds d n p a q c → Before d m (length m.nets) (length j.rest) p a q c
   feeds_before (own k t a at r) = of_assign k t a r (assigning j k a at)
   feeds_before (enter k i e out) =
-      by_place k (λ lt. enter_other k i lt e out) (λ k' is'. subst (λ (x : ℕ). (e : Connection d n x i) → e.port.output ≡ false → Before d m (length m.nets) (length j.rest) [] e.net (x ∷ []) e.port.net) is' (enter_deep k' i) e out)
+      by_place k (λ lt. enter_other k i lt e out) (λ k' is'. subst
+      (λ (x : ℕ). (e : Connection d n x i) → e.port.output ≡ false
+      → Before d m (length m.nets) (length j.rest) [] e.net (x
+      ∷ []) e.port.net) is' (enter_deep k' i) e out)
   feeds_before (leave k i e out) =
-      by_place k (λ lt. leave_other k i lt e out) (λ k' is'. subst (λ (x : ℕ). (e : Connection d n x i) → e.port.output ≡ true → Before d m (length m.nets) (length j.rest) (x ∷ []) e.port.net [] e.net) is' (leave_deep k' i) e out)
+      by_place k (λ lt. leave_other k i lt e out) (λ k' is'. subst
+      (λ (x : ℕ). (e : Connection d n x i) → e.port.output ≡ true
+      → Before d m (length m.nets) (length j.rest) (x
+      ∷ []) e.port.net [] e.net) is' (leave_deep k' i) e out)
   feeds_before (inside k i y p q a c of is f) =
       by_place k
       (λ lt. before (other_net (length m.nets) (length j.rest) k p a lt) (other_net (length m.nets) (length j.rest) k q c lt) (inside k i y p q a c (sym (inst_other j k lt) ∙ of) is f))
       (λ k' is'. subst (λ (x : ℕ). slice_get n.instances x ≡ Some i → Before d m (length m.nets) (length j.rest) (x ∷ p) a (x ∷ q) c) is' (λ of'. inside_deep k' i y p q a c of' is f) of)
 
-  pub way_before : {p q : Path} {a c : ℕ} → FlatWay d n p a q c → FlatWay d m (path_before (length m.nets) (length j.rest) p a) (net_before (length m.nets) p a) (path_before (length m.nets) (length j.rest) q c) (net_before (length m.nets) q c)
+  pub way_before : {p q : Path} {a c : ℕ} → FlatWay d n p a q c
+      → FlatWay d m (path_before (length m.nets) (length j.rest) p a)
+      (net_before (length m.nets) p a) (path_before (length m.nets) (length j.rest) q c)
+      (net_before (length m.nets) q c)
   way_before done = done
   way_before (then' f w) = then' (feeds_before f) (way_before w)
 

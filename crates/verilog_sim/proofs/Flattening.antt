@@ -56,8 +56,16 @@ start_flat d top old new nets mems assigns updates instances a =
         ports = refl;
         nets = a.nets ∙ ap (λ l. l ++ map bare_net top.nets) nets;
         mems = a.mems ∙ ap (λ l. l ++ map bare_mem top.mems) mems;
-        assigns = a.assigns ∙ ap (λ l. l ++ map (moved_assign (length old.nets.items) (length old.mems.items)) top.assigns) assigns ∙ ap (λ b. map (moved_assign b (length old.mems.items)) top.assigns) (ap length nets) ∙ ap (λ b. map (moved_assign 0 b) top.assigns) (ap length mems);
-        updates = a.updates ∙ ap (λ l. l ++ map (moved_update (length old.nets.items) (length old.mems.items)) top.updates) updates ∙ ap (λ b. map (moved_update b (length old.mems.items)) top.updates) (ap length nets) ∙ ap (λ b. map (moved_update 0 b) top.updates) (ap length mems);
+        assigns = a.assigns ∙ ap (λ l. l
+            ++ map (moved_assign (length old.nets.items)
+            (length old.mems.items)) top.assigns) assigns ∙ ap
+            (λ b. map (moved_assign b (length old.mems.items)) top.assigns)
+            (ap length nets) ∙ ap (λ b. map (moved_assign 0 b) top.assigns) (ap length mems);
+        updates = a.updates ∙ ap (λ l. l
+            ++ map (moved_update (length old.nets.items)
+            (length old.mems.items)) top.updates) updates ∙ ap
+            (λ b. map (moved_update b (length old.mems.items)) top.updates)
+            (ap length nets) ∙ ap (λ b. map (moved_update 0 b) top.updates) (ap length mems);
         instances = a.instances ∙ ap (λ l. l ++ map (moved_instance (length old.nets.items)) top.instances) instances ∙ ap (λ b. map (moved_instance b) top.instances) (ap length nets);
       };
       joins = start;
@@ -74,7 +82,10 @@ place_is s i n a m b ei en ea em eb =
     ∙ ap (λ x. place_made i n a x s.mems) em
     ∙ ap (λ x. place_made i n a m x) eb
 
-module _ (d : Design) (h : IsAccepted d) (small : all_cells d ≤ 2 ^ 26) (top : Module) (is_top : top_of d ≡ Some top) (parts : Parts) (ss : List Place) (a : AreFlattened d top parts ss) (rest : List Instance) (part : Instance) (was : parts.instances.items ≡ rest ++ part ∷ []) where
+module _ (d : Design) (h : IsAccepted d) (small : all_cells d ≤ 2 ^ 26) (top : Module)
+    (is_top : top_of d ≡ Some top) (parts : Parts) (ss : List Place)
+    (a : AreFlattened d top parts ss) (rest : List Instance) (part : Instance)
+    (was : parts.instances.items ≡ rest ++ part ∷ []) where
   placed : IsPlaced d (module_of top.ports parts)
   placed = placed_joins d h a.joins (placed_copied d a.copied (placed_of d h (length d.modules - 1) top is_top))
 
@@ -109,7 +120,12 @@ module _ (d : Design) (h : IsAccepted d) (small : all_cells d ≤ 2 ^ 26) (top :
           mems_fit = omega (arith, small, whole, both, own_mems [] (module_of top.ports parts) placed.mems, own_mems [] inner inner_placed.mems);
         }
 
-    module _ (new : Parts) (s : Place) (place : s ≡ place_of (length rest) (module_of top.ports parts) inner) (old : Parts) (ns : List ℕ) (same : ns ≡ part.nets) (added : IsAddedJoined old new inner ns) (nets : old.nets.items ≡ parts.nets.items) (mems : old.mems.items ≡ parts.mems.items) (assigns : old.assigns.items ≡ parts.assigns.items) (updates : old.updates.items ≡ parts.updates.items) (instances : old.instances.items ≡ rest) where
+    module _ (new : Parts) (s : Place) (place : s ≡ place_of (length rest)
+        (module_of top.ports parts) inner) (old : Parts) (ns : List ℕ) (same : ns ≡ part.nets)
+        (added : IsAddedJoined old new inner ns) (nets : old.nets.items ≡ parts.nets.items)
+        (mems : old.mems.items ≡ parts.mems.items) (assigns : old.assigns.items
+        ≡ parts.assigns.items) (updates : old.updates.items ≡ parts.updates.items)
+        (instances : old.instances.items ≡ rest) where
       b : IsAddedJoined old new inner part.nets
       b = subst (λ (l : List ℕ). IsAddedJoined old new inner l) same added
 
@@ -142,7 +158,9 @@ module _ (d : Design) (h : IsAccepted d) (small : all_cells d ≤ 2 ^ 26) (top :
             });
           }
 
-      pub step_smaller : sum_by (λ (i : Instance). get_or (cells_after [] d.modules) i.«module» 0) new.instances.items < sum_by (λ (i : Instance). get_or (cells_after [] d.modules) i.«module» 0) parts.instances.items
+      pub step_smaller : sum_by (λ (i : Instance). get_or
+          (cells_after [] d.modules) i.«module» 0) new.instances.items < sum_by
+          (λ (i : Instance). get_or (cells_after [] d.modules) i.«module» 0) parts.instances.items
       step_smaller =
           let of : Instance → ℕ = λ i. get_or (cells_after [] d.modules) i.«module» 0 in
           omega (

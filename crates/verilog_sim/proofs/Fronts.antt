@@ -48,14 +48,38 @@ outer_made c r h s t i o d = record { clock = c; reset = r; holds = h; steady = 
 pub outer_same_ports : (m n : Module) (s : Shape) → n.ports ≡ m.ports → outer_of s n ≡ outer_of s m
 outer_same_ports m n s e =
     let at : (k : ℕ) → net_at n k ≡ net_at m k = λ k. ap (λ (ps : List Port). port_net (slice_get ps k)) e in
-    ap (λ x. outer_made x (net_at n 1) (second_nets_from n 2 s.kernels) (second_nets_from n 3 s.kernels) (nets_from n (first_scalar s) s.scalars) (channels_from n (first_input s) s.inputs) (channels_from n (first_output s) s.outputs) (net_at n (done_port s))) (at 0)
-    ∙ ap (λ x. outer_made (net_at m 0) x (second_nets_from n 2 s.kernels) (second_nets_from n 3 s.kernels) (nets_from n (first_scalar s) s.scalars) (channels_from n (first_input s) s.inputs) (channels_from n (first_output s) s.outputs) (net_at n (done_port s))) (at 1)
-    ∙ ap (λ x. outer_made (net_at m 0) (net_at m 1) x (second_nets_from n 3 s.kernels) (nets_from n (first_scalar s) s.scalars) (channels_from n (first_input s) s.inputs) (channels_from n (first_output s) s.outputs) (net_at n (done_port s))) (seconds_same m n e 2 s.kernels)
-    ∙ ap (λ x. outer_made (net_at m 0) (net_at m 1) (second_nets_from m 2 s.kernels) x (nets_from n (first_scalar s) s.scalars) (channels_from n (first_input s) s.inputs) (channels_from n (first_output s) s.outputs) (net_at n (done_port s))) (seconds_same m n e 3 s.kernels)
-    ∙ ap (λ x. outer_made (net_at m 0) (net_at m 1) (second_nets_from m 2 s.kernels) (second_nets_from m 3 s.kernels) x (channels_from n (first_input s) s.inputs) (channels_from n (first_output s) s.outputs) (net_at n (done_port s))) (nets_same m n e (first_scalar s) s.scalars)
-    ∙ ap (λ x. outer_made (net_at m 0) (net_at m 1) (second_nets_from m 2 s.kernels) (second_nets_from m 3 s.kernels) (nets_from m (first_scalar s) s.scalars) x (channels_from n (first_output s) s.outputs) (net_at n (done_port s))) (channels_same m n e (first_input s) s.inputs)
-    ∙ ap (λ x. outer_made (net_at m 0) (net_at m 1) (second_nets_from m 2 s.kernels) (second_nets_from m 3 s.kernels) (nets_from m (first_scalar s) s.scalars) (channels_from m (first_input s) s.inputs) x (net_at n (done_port s))) (channels_same m n e (first_output s) s.outputs)
-    ∙ ap (λ x. outer_made (net_at m 0) (net_at m 1) (second_nets_from m 2 s.kernels) (second_nets_from m 3 s.kernels) (nets_from m (first_scalar s) s.scalars) (channels_from m (first_input s) s.inputs) (channels_from m (first_output s) s.outputs) x) (at (done_port s))
+    ap (λ x. outer_made x (net_at n 1) (second_nets_from n 2 s.kernels)
+    (second_nets_from n 3 s.kernels) (nets_from n (first_scalar s) s.scalars)
+    (channels_from n (first_input s) s.inputs) (channels_from n (first_output s) s.outputs)
+    (net_at n (done_port s))) (at 0)
+    ∙ ap (λ x. outer_made (net_at m 0) x (second_nets_from n 2 s.kernels)
+    (second_nets_from n 3 s.kernels) (nets_from n (first_scalar s) s.scalars)
+    (channels_from n (first_input s) s.inputs) (channels_from n (first_output s) s.outputs)
+    (net_at n (done_port s))) (at 1)
+    ∙ ap (λ x. outer_made (net_at m 0) (net_at m 1) x (second_nets_from n 3 s.kernels)
+    (nets_from n (first_scalar s) s.scalars) (channels_from n (first_input s) s.inputs)
+    (channels_from n (first_output s) s.outputs) (net_at n (done_port s)))
+    (seconds_same m n e 2 s.kernels)
+    ∙ ap (λ x. outer_made (net_at m 0) (net_at m 1) (second_nets_from m 2 s.kernels) x
+    (nets_from n (first_scalar s) s.scalars) (channels_from n (first_input s) s.inputs)
+    (channels_from n (first_output s) s.outputs) (net_at n (done_port s)))
+    (seconds_same m n e 3 s.kernels)
+    ∙ ap (λ x. outer_made (net_at m 0) (net_at m 1) (second_nets_from m 2 s.kernels)
+    (second_nets_from m 3 s.kernels) x (channels_from n (first_input s) s.inputs)
+    (channels_from n (first_output s) s.outputs) (net_at n (done_port s)))
+    (nets_same m n e (first_scalar s) s.scalars)
+    ∙ ap (λ x. outer_made (net_at m 0) (net_at m 1) (second_nets_from m 2 s.kernels)
+    (second_nets_from m 3 s.kernels) (nets_from m (first_scalar s) s.scalars) x
+    (channels_from n (first_output s) s.outputs) (net_at n (done_port s)))
+    (channels_same m n e (first_input s) s.inputs)
+    ∙ ap (λ x. outer_made (net_at m 0) (net_at m 1) (second_nets_from m 2 s.kernels)
+    (second_nets_from m 3 s.kernels) (nets_from m (first_scalar s) s.scalars)
+    (channels_from m (first_input s) s.inputs) x (net_at n (done_port s)))
+    (channels_same m n e (first_output s) s.outputs)
+    ∙ ap (λ x. outer_made (net_at m 0) (net_at m 1) (second_nets_from m 2 s.kernels)
+    (second_nets_from m 3 s.kernels) (nets_from m (first_scalar s) s.scalars)
+    (channels_from m (first_input s) s.inputs) (channels_from m
+    (first_output s) s.outputs) x) (at (done_port s))
 
 -- a bound of all numbers of ports bounds what lists of them have
 nets_below : {A : Type 0} (m : Module) (b : ℕ) → ((k : ℕ) → net_at m k < b) → (k : ℕ) (xs : List A) (i : ℕ) → 0 < b → get_or (nets_from m k xs) i 0 < b

@@ -1,5 +1,7 @@
 -- Assignments gathered in the order of nets.
-use Rattle.std.proofs.Common.{◌≡◌, ◌≢◌, ℕ, zero, suc, ◌+◌, ◌<◌, ◌⊎◌, inl, inr, cond, eqb, true, false, Bool, List, [], ◌∷◌, ◌++◌, length, get_or, Option, Some, None, refl, sym, ap, ◌∙◌, subst, ⊎_elim, arith}
+use Rattle.std.proofs.Common.{◌≡◌, ◌≢◌, ℕ, zero, suc, ◌+◌, ◌<◌, ◌⊎◌, inl, inr, cond, eqb, true}
+use Rattle.std.proofs.Common.{false, Bool, List, [], ◌∷◌, ◌++◌, length, get_or, Option, Some, None}
+use Rattle.std.proofs.Common.{refl, sym, ap, ◌∙◌, subst, ⊎_elim, arith}
 use Rattle.std.specs.Prelude.{slice_get}
 use Rattle.std.proofs.lemmas.Bool.{cases_lt, eq-eqb, eqb-true}
 use Rattle.std.proofs.lemmas.Option.{slice_get_within}
@@ -54,17 +56,25 @@ split : (j i : ℕ) → j < i + 1 → (j < i) ⊎ (j ≡ i)
 split j i less = ⊎_elim (λ q. inl q) (λ q. inr (omega arith)) (cases_lt j i)
 
 -- a net without a driver is passed over
-pub passed_over : (assigns : List Assign) (drivers : List (Option ℕ)) (nodes : List ℕ) (order : List Assign) (i : ℕ) → get_or drivers (get_or nodes i 0) None ≡ None → AreGathered assigns drivers nodes order i → AreGathered assigns drivers nodes order (i + 1)
+pub passed_over : (assigns : List Assign) (drivers : List (Option ℕ)) (nodes : List ℕ)
+    (order : List Assign) (i : ℕ) → get_or drivers (get_or nodes i 0) None ≡ None
+    → AreGathered assigns drivers nodes order i → AreGathered assigns drivers nodes order (i + 1)
 passed_over assigns drivers nodes order i none g =
     record {
       place = g.place;
       rising = g.rising;
       within = λ p lt. omega (arith, g.within p lt);
       from = g.from;
-      all = λ j k lt e. ⊎_elim (λ q. g.all j k q e) (λ q. absurd (let e' : get_or drivers (get_or nodes i 0) None ≡ Some k = subst (λ (x : ℕ). get_or drivers (get_or nodes x 0) None ≡ Some k) q e in cc)) (split j i lt);
+      all = λ j k lt e. ⊎_elim (λ q. g.all j k q e) (λ q. absurd
+          (let e' : get_or drivers (get_or nodes i 0) None ≡ Some k = subst
+          (λ (x : ℕ). get_or drivers (get_or nodes x 0) None ≡ Some k) q e in cc)) (split j i lt);
     }
 
-pub one_gathered : (assigns : List Assign) (drivers : List (Option ℕ)) (nodes : List ℕ) (order : List Assign) (i k : ℕ) (a : Assign) → get_or drivers (get_or nodes i 0) None ≡ Some k → slice_get assigns k ≡ Some a → AreGathered assigns drivers nodes order i → AreGathered assigns drivers nodes (order ++ a ∷ []) (i + 1)
+pub one_gathered : (assigns : List Assign) (drivers : List (Option ℕ)) (nodes : List ℕ)
+    (order : List Assign) (i k : ℕ) (a : Assign)
+    → get_or drivers (get_or nodes i 0) None ≡ Some k → slice_get assigns k ≡ Some a
+    → AreGathered assigns drivers nodes order i → AreGathered assigns drivers nodes (order ++ a
+    ∷ []) (i + 1)
 one_gathered assigns drivers nodes order i k a is at g =
     record {
       place = placed g.place (length order) i;

@@ -26,7 +26,9 @@ module _ {A : Type 0} (gifts_of : ℕ → List A → List (ℕ × ℕ)) (gift : 
   one_more j zero (y ∷ ys) x at =
       let same : y ≡ x = cc in
       let e : j ≡ j + 0 = omega arith in
-      more j y [] ∙ ap (λ (l : List (ℕ × ℕ)). gift j y ++ l) (none (j + 1)) ∙ after_all (gift j y) ∙ ap (gift j) same ∙ ap (λ n. gift n x) e ∙ ap (λ (l : List (ℕ × ℕ)). l ++ gift (j + 0) x) (sym (none j))
+      more j y [] ∙ ap (λ (l : List (ℕ × ℕ)). gift j y
+      ++ l) (none (j + 1)) ∙ after_all (gift j y) ∙ ap (gift j) same ∙ ap
+      (λ n. gift n x) e ∙ ap (λ (l : List (ℕ × ℕ)). l ++ gift (j + 0) x) (sym (none j))
   one_more j (suc k) (y ∷ ys) x at =
       let e : j + 1 + k ≡ j + suc k = omega arith in
       more j y (take (suc k) ys) ∙ ap (λ (l : List (ℕ × ℕ)). gift j y ++ l) (one_more (j + 1) k ys x at)
@@ -34,7 +36,9 @@ module _ {A : Type 0} (gifts_of : ℕ → List A → List (ℕ × ℕ)) (gift : 
       ∙ ap (λ (l : List (ℕ × ℕ)). l ++ gift (j + 1 + k) x) (sym (more j y (take k ys)))
       ∙ ap (λ n. gifts_of j (y ∷ take k ys) ++ gift n x) e
 
-  pub written_more : (old values : List ℕ) (j k : ℕ) (xs : List A) (x : A) → slice_get xs k ≡ Some x → values ≡ written old (gifts_of j (take k xs)) → written values (gift (j + k) x) ≡ written old (gifts_of j (take (k + 1) xs))
+  pub written_more : (old values : List ℕ) (j k : ℕ) (xs : List A) (x : A)
+      → slice_get xs k ≡ Some x → values ≡ written old (gifts_of j (take k xs))
+      → written values (gift (j + k) x) ≡ written old (gifts_of j (take (k + 1) xs))
   written_more old values j k xs x at is =
       let e : suc k ≡ k + 1 = omega arith in
       ap (λ (l : List ℕ). written l (gift (j + k) x)) is
@@ -77,22 +81,30 @@ output_written accepts old values k xs x at is =
     ∙ written_more (output_gifts accepts) (λ n y. (y.ready, bit (get_or accepts n false)) ∷ []) (λ j. refl) (λ j y ys. refl) old values 0 k xs x at is
 
 -- the nets of what is given are in range
-pub kernels_within : (n : ℕ) (steady : List ℕ) (holds : List Bool) (j : ℕ) (xs : List KernelPorts) → Every (λ (g : ℕ × ℕ). g.0 < n) (kernel_gifts steady holds j xs) → (k : ℕ) (x : KernelPorts) → slice_get xs k ≡ Some x → (x.hold < n) × (x.ticks < n)
+pub kernels_within : (n : ℕ) (steady : List ℕ) (holds : List Bool) (j : ℕ)
+    (xs : List KernelPorts) → Every (λ (g : ℕ × ℕ). g.0 < n) (kernel_gifts steady holds j xs)
+    → (k : ℕ) (x : KernelPorts) → slice_get xs k ≡ Some x → (x.hold < n) × (x.ticks < n)
 kernels_within n steady holds j [] e k x at = absurd (cc)
 kernels_within n steady holds j (y ∷ ys) e zero x at = let same : y ≡ x = cc in subst (λ (z : KernelPorts). (z.hold < n) × (z.ticks < n)) same (e.0, e.1.0)
 kernels_within n steady holds j (y ∷ ys) e (suc k) x at = kernels_within n steady holds (j + 1) ys e.1.1 k x at
 
-pub scalars_within : (n : ℕ) (steady : List ℕ) (j : ℕ) (xs : List ScalarPort) → Every (λ (g : ℕ × ℕ). g.0 < n) (scalar_gifts steady j xs) → (k : ℕ) (x : ScalarPort) → slice_get xs k ≡ Some x → x.net < n
+pub scalars_within : (n : ℕ) (steady : List ℕ) (j : ℕ) (xs : List ScalarPort)
+    → Every (λ (g : ℕ × ℕ). g.0 < n) (scalar_gifts steady j xs) → (k : ℕ) (x : ScalarPort)
+    → slice_get xs k ≡ Some x → x.net < n
 scalars_within n steady j [] e k x at = absurd (cc)
 scalars_within n steady j (y ∷ ys) e zero x at = let same : y ≡ x = cc in subst (λ (z : ScalarPort). z.net < n) same e.0
 scalars_within n steady j (y ∷ ys) e (suc k) x at = scalars_within n steady (j + 1) ys e.1 k x at
 
-pub inputs_within : (n : ℕ) (offers : List Offer) (j : ℕ) (xs : List StreamPorts) → Every (λ (g : ℕ × ℕ). g.0 < n) (input_gifts offers j xs) → (k : ℕ) (x : StreamPorts) → slice_get xs k ≡ Some x → (x.word < n) × (x.valid < n)
+pub inputs_within : (n : ℕ) (offers : List Offer) (j : ℕ) (xs : List StreamPorts)
+    → Every (λ (g : ℕ × ℕ). g.0 < n) (input_gifts offers j xs) → (k : ℕ) (x : StreamPorts)
+    → slice_get xs k ≡ Some x → (x.word < n) × (x.valid < n)
 inputs_within n offers j [] e k x at = absurd (cc)
 inputs_within n offers j (y ∷ ys) e zero x at = let same : y ≡ x = cc in subst (λ (z : StreamPorts). (z.word < n) × (z.valid < n)) same (e.0, e.1.0)
 inputs_within n offers j (y ∷ ys) e (suc k) x at = inputs_within n offers (j + 1) ys e.1.1 k x at
 
-pub outputs_within : (n : ℕ) (accepts : List Bool) (j : ℕ) (xs : List StreamPorts) → Every (λ (g : ℕ × ℕ). g.0 < n) (output_gifts accepts j xs) → (k : ℕ) (x : StreamPorts) → slice_get xs k ≡ Some x → x.ready < n
+pub outputs_within : (n : ℕ) (accepts : List Bool) (j : ℕ) (xs : List StreamPorts)
+    → Every (λ (g : ℕ × ℕ). g.0 < n) (output_gifts accepts j xs) → (k : ℕ) (x : StreamPorts)
+    → slice_get xs k ≡ Some x → x.ready < n
 outputs_within n accepts j [] e k x at = absurd (cc)
 outputs_within n accepts j (y ∷ ys) e zero x at = let same : y ≡ x = cc in subst (λ (z : StreamPorts). z.ready < n) same e.0
 outputs_within n accepts j (y ∷ ys) e (suc k) x at = outputs_within n accepts (j + 1) ys e.1 k x at

@@ -1,5 +1,7 @@
 -- One line after another, the assignments come to hold.
-use Rattle.std.proofs.Common.{◌≡◌, ◌≢◌, Bool, true, false, ℕ, ◌+◌, ◌^◌, ◌<◌, ◌≤◌, ◌⊎◌, inl, inr, List, [], ◌++◌, length, length-append, get_or, set, Some, refl, sym, ap, ◌∙◌, subst, ⊎_elim, arith, get_or-set_other, get_or-set_same}
+use Rattle.std.proofs.Common.{◌≡◌, ◌≢◌, Bool, true, false, ℕ, ◌+◌, ◌^◌, ◌<◌, ◌≤◌, ◌⊎◌, inl, inr}
+use Rattle.std.proofs.Common.{List, [], ◌++◌, length, length-append, get_or, set, Some, refl, sym}
+use Rattle.std.proofs.Common.{ap, ◌∙◌, subst, ⊎_elim, arith, get_or-set_other, get_or-set_same}
 use Rattle.std.specs.Prelude.{slice_get}
 use Rattle.std.proofs.lemmas.Bool.{cases_eq, cases_lt}
 use Rattle.std.proofs.lemmas.Option.{slice_get_within, slice_get-get_or, get_or_from_slice_get}
@@ -24,7 +26,9 @@ at_start m assigns memories old h =
     record { nets = h.nets; words = h.words; assigned = λ j a lt e. absurd (omega arith); others = λ n f. refl }
 
 -- a list of words with one of them written
-pub set_fits : (m : Module) (values : List ℕ) (t x : ℕ) → t < length values → x < 2 ^ width_of m t → ((n : ℕ) → get_or values n 0 < 2 ^ width_of m n) → (n : ℕ) → get_or (set values t x) n 0 < 2 ^ width_of m n
+pub set_fits : (m : Module) (values : List ℕ) (t x : ℕ) → t < length values
+    → x < 2 ^ width_of m t → ((n : ℕ) → get_or values n 0 < 2 ^ width_of m n) → (n : ℕ)
+    → get_or (set values t x) n 0 < 2 ^ width_of m n
 set_fits m values t x lt fx words n = ⊎_elim here other (cases_eq n t)
   where
     here : n ≡ t → get_or (set values t x) n 0 < 2 ^ width_of m n
@@ -54,15 +58,22 @@ one_more m assigns memories old new i a x o h at lt is p =
     split : (j : ℕ) → j < i + 1 → (j < i) ⊎ (j ≡ i)
     split j less = ⊎_elim (λ q. inl q) (λ q. inr (omega arith)) (cases_lt j i)
 
-    same : (j : ℕ) (b : Assign) → j ≤ i → slice_get assigns j ≡ Some b → value m (contents_of [] memories) (family_of new) (width_of m b.target) b.expr ≡ value m (contents_of [] memories) (family_of (set new a.target x)) (width_of m b.target) b.expr
+    same : (j : ℕ) (b : Assign) → j ≤ i → slice_get assigns j ≡ Some b
+        → value m (contents_of [] memories) (family_of new) (width_of m b.target) b.expr
+        ≡ value m (contents_of [] memories) (family_of (set new a.target x))
+        (width_of m b.target) b.expr
     same j b le e =
         value_agrees m (contents_of [] memories) (family_of new) (family_of (set new a.target x)) (width_of m b.target) b.expr
         (λ n r. sym (get_or-set_other new a.target n x 0 (λ q. o.unread j i b a le e at (subst (IsRead b.expr) q r))))
 
-    before : (j : ℕ) (b : Assign) → j < i → slice_get assigns j ≡ Some b → get_or (set new a.target x) b.target 0 ≡ value m (contents_of [] memories) (family_of (set new a.target x)) (width_of m b.target) b.expr
+    before : (j : ℕ) (b : Assign) → j < i → slice_get assigns j ≡ Some b
+        → get_or (set new a.target x) b.target 0 ≡ value m (contents_of [] memories)
+        (family_of (set new a.target x)) (width_of m b.target) b.expr
     before j b less e = get_or-set_other new a.target b.target x 0 (o.once j i b a less e at) ∙ p.assigned j b less e ∙ same j b (omega arith) e
 
-    here : (j : ℕ) (b : Assign) → j ≡ i → slice_get assigns j ≡ Some b → get_or (set new a.target x) b.target 0 ≡ value m (contents_of [] memories) (family_of (set new a.target x)) (width_of m b.target) b.expr
+    here : (j : ℕ) (b : Assign) → j ≡ i → slice_get assigns j ≡ Some b
+        → get_or (set new a.target x) b.target 0 ≡ value m (contents_of [] memories)
+        (family_of (set new a.target x)) (width_of m b.target) b.expr
     here j b q e =
         let e' : slice_get assigns i ≡ Some b = subst (λ (k : ℕ). slice_get assigns k ≡ Some b) q e in
         let r : a ≡ b = cc in
@@ -74,7 +85,9 @@ read_fits : (m : Module) (values : List ℕ) → ((n : ℕ) → get_or values n 
 read_fits m values words true n = let lt = words n in let le = mod-le (get_or values n 0) 18446744073709551616 in omega (arith, lt, le)
 read_fits m values words false n = words n
 
-read_same : (m : Module) (values : List ℕ) → ((n : ℕ) → get_or values n 0 < 2 ^ width_of m n) → (narrow : Bool) (n : ℕ) → (narrow ≡ true → width_of m n ≤ 64) → read_by narrow values n ≡ get_or values n 0
+read_same : (m : Module) (values : List ℕ) → ((n : ℕ) → get_or values n 0 < 2 ^ width_of m n)
+    → (narrow : Bool) (n : ℕ) → (narrow ≡ true → width_of m n ≤ 64)
+    → read_by narrow values n ≡ get_or values n 0
 read_same m values words true n small =
     let lt = words n in
     let most : 2 ^ width_of m n ≤ 2 ^ 64 = pow_mono (small refl) in
@@ -161,7 +174,9 @@ lines_between m assigns memories before lines old new i e p =
     let all : length before + i ≡ length (before ++ lines) = omega (arith, length-append before lines) in
     subst (Progress m assigns memories old new) all p
 
-pub at_last : (m : Module) (assigns : List Assign) (memories : List (List ℕ)) (lines : List Line) (old new : List ℕ) (i : ℕ) → AreLinesOf m assigns lines → length lines ≤ i → Progress m assigns memories old new i → Settles m assigns memories old new
+pub at_last : (m : Module) (assigns : List Assign) (memories : List (List ℕ))
+    (lines : List Line) (old new : List ℕ) (i : ℕ) → AreLinesOf m assigns lines
+    → length lines ≤ i → Progress m assigns memories old new i → Settles m assigns memories old new
 at_last m assigns memories lines old new i are past p =
     record {
       nets = p.nets;

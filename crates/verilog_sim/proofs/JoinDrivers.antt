@@ -60,11 +60,15 @@ module _ {d : Design} {m n : Module} {s : Place} (j : IsJoined d m s n) (h : IsP
 
       by_output : (o : Bool) → q.port.output ≡ o → Origin j (ByAssign k) t
       by_output true e =
-          let same : assign_made q.net (Plain (length m.nets + q.port.net)) ≡ a = sym (ap (λ o. cond o (assign_made q.net (Plain (length m.nets + q.port.net))) (assign_made (length m.nets + q.port.net) (Plain q.net))) e) ∙ q.is in
+          let same : assign_made q.net (Plain (length m.nets + q.port.net)) ≡ a = sym
+          (ap (λ o. cond o (assign_made q.net (Plain (length m.nets + q.port.net)))
+          (assign_made (length m.nets + q.port.net) (Plain q.net))) e) ∙ q.is in
           low (ByPort (length j.rest) i) (drives e (ap (λ (y : Assign). y.target) same ∙ is))
           (ap (λ o. cond o (ByAssign (length (own_assigns m j.inner) + i)) (ByPort (length j.rest) i)) (eq-eqb (length j.rest) (length j.rest) refl) ∙ ap ByAssign (sym place))
       by_output false e =
-          let same : assign_made (length m.nets + q.port.net) (Plain q.net) ≡ a = sym (ap (λ o. cond o (assign_made q.net (Plain (length m.nets + q.port.net))) (assign_made (length m.nets + q.port.net) (Plain q.net))) e) ∙ q.is in
+          let same : assign_made (length m.nets + q.port.net) (Plain q.net) ≡ a = sym
+          (ap (λ o. cond o (assign_made q.net (Plain (length m.nets + q.port.net)))
+          (assign_made (length m.nets + q.port.net) (Plain q.net))) e) ∙ q.is in
           port i q.port (ap (λ (y : Assign). y.target) same ∙ is) q.at e (ap ByAssign (sym place))
 
   of_port : (k i t : ℕ) → (e : Connection d n k i) → e.port.output ≡ true → e.net ≡ t → Origin j (ByPort k i) t

@@ -40,7 +40,9 @@ mem_formed : (b c mems : ℕ) (t : Target) → ((k : ℕ) → target_mem t ≡ S
 mem_formed b c mems (Reg r) h k e = absurd (cc)
 mem_formed b c mems (Place' i a) h k e = let f : c + i ≡ k = cc in omega (arith, h i refl, f)
 
-pub update_moved : (b c : ℕ) (inner n : Module) → b + length inner.nets ≤ length n.nets → c + length inner.mems ≤ length n.mems → (u : Update) → IsFormedUpdate inner u → IsFormedUpdate n (moved_update b c u)
+pub update_moved : (b c : ℕ) (inner n : Module) → b + length inner.nets ≤ length n.nets
+    → c + length inner.mems ≤ length n.mems → (u : Update) → IsFormedUpdate inner u
+    → IsFormedUpdate n (moved_update b c u)
 update_moved b c inner n nets mems u f =
     record {
       enable = omega (arith, f.enable);
@@ -49,7 +51,9 @@ update_moved b c inner n nets mems u f =
       mem = λ k e. omega (arith, mem_formed b c (length inner.mems) u.target f.mem k e);
     }
 
-target_typed : (b c : ℕ) (inner n : Module) → Sits b c inner n → (t : Target) → target_net t < length inner.nets → ((k : ℕ) → target_mem t ≡ Some k → k < length inner.mems) → target_width n (moved_target b c t) ≡ target_width inner t
+target_typed : (b c : ℕ) (inner n : Module) → Sits b c inner n → (t : Target)
+    → target_net t < length inner.nets → ((k : ℕ) → target_mem t ≡ Some k
+    → k < length inner.mems) → target_width n (moved_target b c t) ≡ target_width inner t
 target_typed b c inner n s (Reg r) net mem = s.widths r net
 target_typed b c inner n s (Place' k a) net mem = s.word_widths k (mem k refl)
 
@@ -82,18 +86,25 @@ module _ {d : Design} {m n : Module} {s : Place} (j : IsJoined d m s n) (h : IsP
   reads_one k (suc i) t e = absurd (cc)
 
   plain : (t k : ℕ) → t < length n.nets → k < length n.nets → IsFormedAssign n (assign_made t (Plain k))
-  plain t k lt less = record { target = lt; expr = record { nets = λ i r. subst (λ (x : ℕ). x < length n.nets) (reads_one k r.0 i r.1) less; mem = λ i e. absurd (cc); numbers = λ i x e. absurd (cc) } }
+  plain t k lt less = record {
+    target = lt;
+    expr = record { nets = λ i r. subst (λ (x : ℕ). x < length n.nets) (reads_one k r.0 i r.1) less; mem = λ i e. absurd (cc); numbers = λ i x e. absurd (cc) };
+  }
 
   -- a property of the assignments of n
   each_assign :
       (P : Assign → Type 0)
       → ((k : ℕ) (a : Assign) → slice_get m.assigns k ≡ Some a → P a)
       → ((k : ℕ) (a : Assign) → slice_get j.inner.assigns k ≡ Some a → P (moved_assign (length m.nets) (length m.mems) a))
-      → ((i : ℕ) (p : Port) (o : ℕ) → slice_get j.inner.ports i ≡ Some p → slice_get j.part.nets i ≡ Some o → P (assign_made o (Plain (length m.nets + p.net))) × P (assign_made (length m.nets + p.net) (Plain o)))
+      → ((i : ℕ) (p : Port) (o : ℕ) → slice_get j.inner.ports i ≡ Some p
+      → slice_get j.part.nets i ≡ Some o → P (assign_made o (Plain (length m.nets + p.net)))
+      × P (assign_made (length m.nets + p.net) (Plain o)))
       → (k : ℕ) (a : Assign) → slice_get n.assigns k ≡ Some a → P a
   each_assign P outer inner join k a at = by_origin (assigning j k a at)
     where
-      by_port : (i : ℕ) (q : JoinAt (length m.nets) j.inner.ports j.part.nets i a) → (o : Bool) → P (cond o (assign_made q.net (Plain (length m.nets + q.port.net))) (assign_made (length m.nets + q.port.net) (Plain q.net)))
+      by_port : (i : ℕ) (q : JoinAt (length m.nets) j.inner.ports j.part.nets i a) → (o : Bool)
+          → P (cond o (assign_made q.net (Plain (length m.nets + q.port.net)))
+          (assign_made (length m.nets + q.port.net) (Plain q.net)))
       by_port i q true = (join i q.port q.net q.at q.joins).0
       by_port i q false = (join i q.port q.net q.at q.joins).1
 
@@ -109,18 +120,45 @@ module _ {d : Design} {m n : Module} {s : Place} (j : IsJoined d m s n) (h : IsP
   formed =
       each_assign (IsFormedAssign n)
       (λ k a at. (let f = h.standing.ranged.assigns k a at in record { target = omega (arith, f.target, nets); expr = formed_wider m n (omega (arith, nets)) (omega (arith, mems)) a.expr f.expr }))
-      (λ k a at. (let f = g.standing.ranged.assigns k a at in record { target = omega (arith, f.target, nets); expr = formed_moved (length m.nets) (length m.mems) j.inner n (omega (arith, nets)) (omega (arith, mems)) a.expr f.expr }))
-      (λ i p o at joins. (let lt = net_of i o joins in let less = (g.ports i p at).net in let x : o < length n.nets = omega (arith, lt, nets) in let y : length m.nets + p.net < length n.nets = omega (arith, less, nets) in (plain o (length m.nets + p.net) x y, plain (length m.nets + p.net) o y x)))
+      (λ k a at. (let f = g.standing.ranged.assigns k a at in record {
+        target = omega (arith, f.target, nets);
+        expr = formed_moved (length m.nets) (length m.mems) j.inner n (omega (arith, nets)) (omega (arith, mems)) a.expr f.expr;
+      }))
+      (λ i p o at joins. (let lt = net_of i o joins in let less =
+      (g.ports i p at).net in let x : o < length n.nets = omega (
+        arith,
+        lt,
+        nets,
+      ) in let y : length m.nets + p.net < length n.nets = omega (
+        arith,
+        less,
+        nets,
+      ) in (plain o (length m.nets + p.net) x y, plain (length m.nets + p.net) o y x)))
 
   typed : (k : ℕ) (a : Assign) → slice_get n.assigns k ≡ Some a → IsTyped n (width_of n a.target) a.expr
   typed =
       each_assign (λ a. IsTyped n (width_of n a.target) a.expr)
       (λ k a at. (let f = h.standing.ranged.assigns k a at in
       subst (λ (x : Assign). IsTyped n (width_of n x.target) x.expr) (assign_same a)
-      (subst (λ (w : ℕ). IsTyped n w (moved_expr 0 0 a.expr)) (sym ((sits_outer j).widths a.target f.target)) (typed_moved 0 0 m n (sits_outer j) (width_of m a.target) a.expr f.expr (h.typed k a at)))))
+      (subst (λ (w : ℕ). IsTyped n w (moved_expr 0 0 a.expr))
+      (sym ((sits_outer j).widths a.target f.target))
+      (typed_moved 0 0 m n (sits_outer j) (width_of m a.target) a.expr f.expr
+      (h.typed k a at)))))
       (λ k a at. (let f = g.standing.ranged.assigns k a at in
-      subst (λ (w : ℕ). IsTyped n w (moved_expr (length m.nets) (length m.mems) a.expr)) (sym (inner_sits.widths a.target f.target)) (typed_moved (length m.nets) (length m.mems) j.inner n inner_sits (width_of j.inner a.target) a.expr f.expr (g.typed k a at))))
-      (λ i p o at joins. (let e : width_of n (length m.nets + p.net) ≡ width_of n o = inner_sits.widths p.net ((g.ports i p at).net) ∙ h.joined (length j.rest) i (record { part = j.part; of = inst_last j; inner = j.inner; is = j.is; port = p; at = at; net = o; joins = joins }) ∙ sym (width_outer o (net_of i o joins)) in (e, sym e)))
+      subst (λ (w : ℕ). IsTyped n w (moved_expr (length m.nets) (length m.mems) a.expr))
+      (sym (inner_sits.widths a.target f.target)) (typed_moved (length m.nets)
+      (length m.mems) j.inner n inner_sits (width_of j.inner a.target) a.expr f.expr
+      (g.typed k a at))))
+      (λ i p o at joins. (let e : width_of n (length m.nets + p.net) ≡ width_of n o = inner_sits.widths p.net ((g.ports i p at).net) ∙ h.joined (length j.rest) i (record {
+        part = j.part;
+        of = inst_last j;
+        inner = j.inner;
+        is = j.is;
+        port = p;
+        at = at;
+        net = o;
+        joins = joins;
+      }) ∙ sym (width_outer o (net_of i o joins)) in (e, sym e)))
 
   -- a property of the updates of n
   each_update :
@@ -168,7 +206,11 @@ module _ {d : Design} {m n : Module} {s : Place} (j : IsJoined d m s n) (h : IsP
           let q = g.updated (t - length m.nets) (sym (inner_sits.regs (t - length m.nets) lt) ∙ ap (is_reg n) e ∙ reg) in (
             length m.updates + q.0,
             moved_update (length m.nets) (length m.mems) q.1,
-            ap (λ (l : List Update). slice_get l (length m.updates + q.0)) j.updates ∙ get_right m.updates (map (moved_update (length m.nets) (length m.mems)) j.inner.updates) q.0 ∙ to_map (moved_update (length m.nets) (length m.mems)) j.inner.updates q.0 q.1 q.2,
+            ap (λ (l : List Update). slice_get l
+                (length m.updates + q.0)) j.updates ∙ get_right m.updates
+                (map (moved_update (length m.nets)
+                (length m.mems)) j.inner.updates) q.0 ∙ to_map
+                (moved_update (length m.nets) (length m.mems)) j.inner.updates q.0 q.1 q.2,
             ap (moved_target (length m.nets) (length m.mems)) q.3 ∙ ap Reg e,
           )
 
@@ -204,7 +246,16 @@ module _ {d : Design} {m n : Module} {s : Place} (j : IsJoined d m s n) (h : IsP
       other : k < length j.rest → width_of e.inner e.port.net ≡ width_of n e.net
       other lt =
           let of' : slice_get m.instances k ≡ Some e.part = sym (inst_other j k lt) ∙ e.of in
-          h.joined k i (record { part = e.part; of = of'; inner = e.inner; is = e.is; port = e.port; at = e.at; net = e.net; joins = e.joins }) ∙ sym (width_outer e.net (h.standing.nets k e.part i e.net of' e.joins))
+          h.joined k i (record {
+            part = e.part;
+            of = of';
+            inner = e.inner;
+            is = e.is;
+            port = e.port;
+            at = e.at;
+            net = e.net;
+            joins = e.joins;
+          }) ∙ sym (width_outer e.net (h.standing.nets k e.part i e.net of' e.joins))
 
       deep_at : (l : ℕ) (x : Connection d n (length j.rest + l) i) → width_of x.inner x.port.net ≡ width_of n x.net
       deep_at l x =

@@ -84,7 +84,11 @@ module _ (b c : ℕ) (inner n : Module) (s : Sits b c inner n) where
   typed_moved w (Plain k) f t = s.widths k (f.nets k (0, refl)) ∙ t
   typed_moved w (Literal x) f t = t
   typed_moved w (Not k) f t = s.widths k (f.nets k (0, refl)) ∙ t
-  typed_moved w (Binary o i j) f t = sign_typed o w (width_of inner i) (width_of inner j) (width_of n (b + i)) (width_of n (b + j)) (s.widths i (f.nets i (0, refl))) (s.widths j (f.nets j (1, refl))) t
+  typed_moved w (Binary o i j) f t = sign_typed o w (width_of inner i) (width_of inner j)
+      (width_of n (b + i)) (width_of n (b + j)) (s.widths i (f.nets i (
+        0,
+        refl,
+      ))) (s.widths j (f.nets j (1, refl))) t
   typed_moved w (Concat i j) f t = ap (λ x. x + width_of n (b + j)) (s.widths i (f.nets i (0, refl))) ∙ ap (λ x. width_of inner i + x) (s.widths j (f.nets j (1, refl))) ∙ t
   typed_moved w (Repeat k i) f t = ap (λ x. k * x) (s.widths i (f.nets i (0, refl))) ∙ t
   typed_moved w (Part i hi lo) f t = (t.0, subst (λ (x : ℕ). hi < x) (sym (s.widths i (f.nets i (0, refl)))) t.1, t.2)

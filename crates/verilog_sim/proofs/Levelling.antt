@@ -1,5 +1,7 @@
 -- Assignments sorted by level are in an order in which they can be evaluated.
-use Rattle.std.proofs.Common.{◌≡◌, ◌≢◌, ℕ, zero, suc, ◌+◌, ◌<◌, ◌≤◌, Bool, true, false, cond, eqb, List, [], ◌∷◌, ◌++◌, map, length, get_or, set, Some, refl, sym, ap, ◌∙◌, subst, ⊎_elim, arith, get_or-set_other, get_or-set_same}
+use Rattle.std.proofs.Common.{◌≡◌, ◌≢◌, ℕ, zero, suc, ◌+◌, ◌<◌, ◌≤◌, Bool, true, false, cond, eqb}
+use Rattle.std.proofs.Common.{List, [], ◌∷◌, ◌++◌, map, length, get_or, set, Some, refl, sym, ap}
+use Rattle.std.proofs.Common.{◌∙◌, subst, ⊎_elim, arith, get_or-set_other, get_or-set_same}
 use Rattle.std.specs.Prelude.{slice_get, IsPermutation}
 use Rattle.std.specs.List.{sum_by, Contains}
 use Rattle.std.specs.List.Sorted.{IsNonDecreasingBy}
@@ -18,7 +20,9 @@ use Rattle.verilog_sim.specs.Levels.{AreLevels, AreRanked, assign_of}
 use Rattle.verilog_sim.proofs.Gathering.{PushedAt, before, last, pushed_at}
 use Rattle.verilog_sim.proofs.Batching.{mapped_at}
 
-pub ranked_more : (levels : List ℕ) (xs : List Assign) (items : List Ranked) (r : Ranked) → r.level ≡ get_or levels r.assign.target 0 → AreRanked levels xs items → AreRanked levels (xs ++ r.assign ∷ []) (items ++ r ∷ [])
+pub ranked_more : (levels : List ℕ) (xs : List Assign) (items : List Ranked) (r : Ranked)
+    → r.level ≡ get_or levels r.assign.target 0 → AreRanked levels xs items
+    → AreRanked levels (xs ++ r.assign ∷ []) (items ++ r ∷ [])
 ranked_more levels xs items r is are =
     record { assigns = map-append assign_of items (r ∷ []) ∙ ap (λ l. l ++ r.assign ∷ []) are.assigns; levels_are = λ i s e. each i s (pushed_at items r i s e) }
   where

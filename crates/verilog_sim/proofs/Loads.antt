@@ -22,22 +22,35 @@ split : (j i : ℕ) → j < i + 1 → (j < i) ⊎ (j ≡ i)
 split j i less = ⊎_elim (λ q. inl q) (λ q. inr (omega arith)) (cases_lt j i)
 
 -- a net that is not updated as a register
-pub passed : (updates : List Update) (held old new : List ℕ) (i : ℕ) (u : Update) → slice_get updates i ≡ Some u → ((n : ℕ) → u.target ≢ Reg n) → Loaded updates held old new i → Loaded updates held old new (i + 1)
+pub passed : (updates : List Update) (held old new : List ℕ) (i : ℕ) (u : Update)
+    → slice_get updates i ≡ Some u → ((n : ℕ) → u.target ≢ Reg n)
+    → Loaded updates held old new i → Loaded updates held old new (i + 1)
 passed updates held old new i u at free p =
     record {
       size = p.size;
-      regs = λ j n w less e t. ⊎_elim (λ q. p.regs j n w q e t) (λ q. absurd (let e' : slice_get updates i ≡ Some w = subst (λ (k : ℕ). slice_get updates k ≡ Some w) q e in let r : u ≡ w = cc in free n (ap (λ (x : Update). x.target) r ∙ t))) (split j i less);
+      regs = λ j n w less e t. ⊎_elim (λ q. p.regs j n w q e t)
+          (λ q. absurd (let e' : slice_get updates i ≡ Some w = subst
+          (λ (k : ℕ). slice_get updates k ≡ Some w) q e in let r : u ≡ w = cc in free n
+          (ap (λ (x : Update). x.target) r ∙ t))) (split j i less);
       others = λ n f. p.others n (λ j w less e. f j w (omega arith) e);
       either = p.either;
     }
 
-pub one_loaded : (updates : List Update) (held old new : List ℕ) (i r : ℕ) (u : Update) → slice_get updates i ≡ Some u → u.target ≡ Reg r → r < length new → Loaded updates held old new i → Loaded updates held old (set new r (get_or held r 0)) (i + 1)
+pub one_loaded : (updates : List Update) (held old new : List ℕ) (i r : ℕ) (u : Update)
+    → slice_get updates i ≡ Some u → u.target ≡ Reg r → r < length new
+    → Loaded updates held old new i → Loaded updates held old (set new r (get_or held r 0)) (i + 1)
 one_loaded updates held old new i r u at is lt p =
     record {
       size = length-set new r (get_or held r 0) ∙ p.size;
-      regs = λ j n w less e t. ⊎_elim (λ q. at_same n q) (λ q. get_or-set_other new r n (get_or held r 0) 0 q ∙ ⊎_elim (λ k. p.regs j n w k e t) (λ k. absurd (q (again j n w k e t))) (split j i less)) (cases_eq n r);
+      regs = λ j n w less e t. ⊎_elim (λ q. at_same n q)
+          (λ q. get_or-set_other new r n (get_or held r 0) 0 q ∙ ⊎_elim
+          (λ k. p.regs j n w k e t) (λ k. absurd (q (again j n w k e t))) (split j i less))
+          (cases_eq n r);
       others = λ n f. get_or-set_other new r n (get_or held r 0) 0 (λ q. f i u (omega arith) at (is ∙ ap (λ k. Reg k) (sym q))) ∙ p.others n (λ j w less e. f j w (omega arith) e);
-      either = λ n. ⊎_elim (λ q. inr (at_same n q)) (λ q. let same : get_or (set new r (get_or held r 0)) n 0 ≡ get_or new n 0 = get_or-set_other new r n (get_or held r 0) 0 q in ⊎_elim (λ f. inl (same ∙ f)) (λ f. inr (same ∙ f)) (p.either n)) (cases_eq n r);
+      either = λ n. ⊎_elim (λ q. inr (at_same n q)) (λ q. let same : get_or
+          (set new r (get_or held r 0)) n 0 ≡ get_or new n 0 = get_or-set_other new r n
+          (get_or held r 0) 0 q in ⊎_elim (λ f. inl (same ∙ f)) (λ f. inr (same ∙ f))
+          (p.either n)) (cases_eq n r);
     }
   where
     at_same : (n : ℕ) → n ≡ r → get_or (set new r (get_or held r 0)) n 0 ≡ get_or held n 0

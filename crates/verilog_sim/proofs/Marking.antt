@@ -21,7 +21,9 @@ pub record Marked (nets : List ℕ) (old new : List Bool) (count : ℕ) : Type 0
 
 -- one more net is marked
 pub keeps_marked : (marks : List Bool) (k n : ℕ) → k < length marks → is_marked marks n ≡ true → is_marked (set marks k true) n ≡ true
-keeps_marked marks k n lt h = ⊎_elim (λ e. subst (λ (x : ℕ). get_or (set marks k true) x false ≡ true) (sym e) (get_or-set_same marks k true false lt)) (λ ne. get_or-set_other marks k n true false ne ∙ h) (cases_eq n k)
+keeps_marked marks k n lt h = ⊎_elim (λ e. subst (λ (x : ℕ). get_or (set marks k true) x false
+    ≡ true) (sym e) (get_or-set_same marks k true false lt))
+    (λ ne. get_or-set_other marks k n true false ne ∙ h) (cases_eq n k)
 
 pub now_marked : (marks : List Bool) (k : ℕ) → k < length marks → is_marked (set marks k true) k ≡ true
 now_marked marks k lt = get_or-set_same marks k true false lt
@@ -52,7 +54,9 @@ module _ (order : List Assign) (i : ℕ) (a : Assign) (at : slice_get order i �
   pub unmarked_passed : (marks : List Bool) → is_marked marks a.target ≡ false → AreMarkedFrom order marks (i + 1) → AreMarkedFrom order marks i
   unmarked_passed marks off p =
       record {
-        closed = λ j n b le e mark read. ⊎_elim (λ lt. p.closed j n b (omega arith) e mark read) (λ ge. absurd (false≢true (sym off ∙ ap (λ (x : Assign). is_marked marks x.target) (same_at j b (omega arith) e) ∙ mark))) (cases_lt i j);
+        closed = λ j n b le e mark read. ⊎_elim (λ lt. p.closed j n b (omega arith) e mark read)
+            (λ ge. absurd (false≢true (sym off ∙ ap (λ (x : Assign). is_marked marks x.target)
+            (same_at j b (omega arith) e) ∙ mark))) (cases_lt i j);
       }
 
   -- an assignment to a marked net

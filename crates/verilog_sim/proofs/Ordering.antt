@@ -32,11 +32,15 @@ graph_is m graph drivers count h d b i lt =
     let in_nets = follows_in m (get_or (reads_of graph b) i 0) b h (follows_of m graph drivers count b (get_or (reads_of graph b) i 0) d (i, lt, refl)) in
     omega (arith, in_nets, d.nodes)
 
-chain_to : (m : Module) (graph : List (List ℕ)) (drivers : List (Option ℕ)) (count : ℕ) (walk : List ℕ) → AreDrivers m graph drivers count → IsClosedWalk graph walk → (i : ℕ) → i < length walk → Chain m (get_or walk 0 0) (get_or walk i 0)
+chain_to : (m : Module) (graph : List (List ℕ)) (drivers : List (Option ℕ)) (count : ℕ)
+    (walk : List ℕ) → AreDrivers m graph drivers count → IsClosedWalk graph walk → (i : ℕ)
+    → i < length walk → Chain m (get_or walk 0 0) (get_or walk i 0)
 chain_to m graph drivers count walk d w zero lt = stay
 chain_to m graph drivers count walk d w (suc i) lt =
     on (chain_to m graph drivers count walk d w i (omega arith))
-    (follows_of m graph drivers count (get_or walk (suc i) 0) (get_or walk i 0) d (let e : i + 1 ≡ suc i = omega arith in subst (λ (j : ℕ). Reads graph (get_or walk j 0) (get_or walk i 0)) e (w.each i (omega arith))))
+    (follows_of m graph drivers count (get_or walk (suc i) 0) (get_or walk i 0) d
+    (let e : i + 1 ≡ suc i = omega arith in subst (λ (j : ℕ). Reads graph (get_or walk j 0)
+    (get_or walk i 0)) e (w.each i (omega arith))))
 
 pub no_walk : (m : Module) (graph : List (List ℕ)) (drivers : List (Option ℕ)) (count : ℕ) (walk : List ℕ) → IsRunnable m → AreDrivers m graph drivers count → IsClosedWalk graph walk → ⊥
 no_walk m graph drivers count walk h d w =

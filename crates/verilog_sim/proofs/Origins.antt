@@ -1,5 +1,8 @@
 -- Assignments that read nets where they come from say the same.
-use Rattle.std.proofs.Common.{◌≡◌, ◌≢◌, ℕ, zero, suc, ◌+◌, ◌-◌, ◌*◌, ◌/◌, ◌%◌, ◌^◌, ◌<◌, ◌≤◌, Bool, true, false, cond, eqb, ltb, List, [], ◌∷◌, ◌++◌, map, length, get_or, set, Some, refl, sym, ap, ◌∙◌, subst, ⊎_elim, arith, get_or-set_other, get_or-set_same}
+use Rattle.std.proofs.Common.{◌≡◌, ◌≢◌, ℕ, zero, suc, ◌+◌, ◌-◌, ◌*◌, ◌/◌, ◌%◌, ◌^◌, ◌<◌, ◌≤◌, Bool}
+use Rattle.std.proofs.Common.{true, false, cond, eqb, ltb, List, [], ◌∷◌, ◌++◌, map, length, get_or}
+use Rattle.std.proofs.Common.{set, Some, refl, sym, ap, ◌∙◌, subst, ⊎_elim, arith, get_or-set_other}
+use Rattle.std.proofs.Common.{get_or-set_same}
 use Rattle.std.specs.Prelude.{slice_get}
 use Rattle.std.proofs.lemmas.Bool.{cases_eq, cases_lt}
 use Rattle.std.proofs.lemmas.Option.{slice_get_within, slice_get-get_or}
@@ -71,7 +74,9 @@ module _ (os : List ℕ) where
   typed_at m w (Choose n o p) h t = (h n (0, refl) ∙ t.0, h o (1, refl) ∙ t.1, h p (2, refl) ∙ t.2)
   typed_at m w (Cell k n) h t = t
 
-  value_at : (m : Module) (c : Contents) (v : Family) (w : ℕ) (e : Expr) → ((n : ℕ) → IsRead e n → width_of m (get_or os n 0) ≡ width_of m n) → value m c v w (expr_at os e) ≡ value m c (λ n. v (get_or os n 0)) w e
+  value_at : (m : Module) (c : Contents) (v : Family) (w : ℕ) (e : Expr)
+      → ((n : ℕ) → IsRead e n → width_of m (get_or os n 0) ≡ width_of m n)
+      → value m c v w (expr_at os e) ≡ value m c (λ n. v (get_or os n 0)) w e
   value_at m c v w (Plain n) h = refl
   value_at m c v w (Literal x) h = refl
   value_at m c v w (Not n) h = refl
@@ -215,7 +220,9 @@ module _ (m : Module) (order : List Assign) (o : IsInOrder m order) (os : List �
         }
 
 -- an assignment more, and its origin where it is a copy
-pub origin_noted : (m : Module) (order : List Assign) (o : IsInOrder m order) (os : List ℕ) (new : List Assign) (i k : ℕ) (b : Assign) → slice_get new k ≡ Some b → AreAtOrigins m order os new i → AreAtOrigins m order (with_origin b.expr b.target os) new i
+pub origin_noted : (m : Module) (order : List Assign) (o : IsInOrder m order) (os : List ℕ)
+    (new : List Assign) (i k : ℕ) (b : Assign) → slice_get new k ≡ Some b
+    → AreAtOrigins m order os new i → AreAtOrigins m order (with_origin b.expr b.target os) new i
 origin_noted m order o os new i k b bt p = by_case b.expr refl
   where
     by_case : (e : Expr) → b.expr ≡ e → AreAtOrigins m order (with_origin e b.target os) new i
@@ -280,13 +287,17 @@ reg_at : (os : List ℕ) (t : Target) (n : ℕ) → target_at os t ≡ Reg n →
 reg_at os (Reg k) n e = e
 reg_at os (Place k a) n e = absurd (cc)
 
-written_at : (m n : Module) (v : Family) (os : List ℕ) (t : Target) (x : ℕ) (c : Contents) → n.mems ≡ m.mems → v (target_net (target_at os t)) ≡ v (target_net t) → written n v (target_at os t) x c ≡ written m v t x c
+written_at : (m n : Module) (v : Family) (os : List ℕ) (t : Target) (x : ℕ) (c : Contents)
+    → n.mems ≡ m.mems → v (target_net (target_at os t)) ≡ v (target_net t)
+    → written n v (target_at os t) x c ≡ written m v t x c
 written_at m n v os (Reg r) x c e same = refl
 written_at m n v os (Place k a) x c e same =
     ap (λ y. cond (ltb y (depth_of n k)) (with_cell k y x c) c) same
     ∙ ap (λ (l : List _). cond (ltb (v a) (Rattle.rtl_ir.specs.Value.mem_depth (slice_get l k))) (with_cell k (v a) x c) c) e
 
-updated_at : (m n : Module) (v : Family) (os : List ℕ) (u : Update) (c : Contents) → n.mems ≡ m.mems → ((k : ℕ) → k < length m.nets → v (get_or os k 0) ≡ v k) → AreNetsBelow (length m.nets) u → updated n v (update_at os u) c ≡ updated m v u c
+updated_at : (m n : Module) (v : Family) (os : List ℕ) (u : Update) (c : Contents)
+    → n.mems ≡ m.mems → ((k : ℕ) → k < length m.nets → v (get_or os k 0) ≡ v k)
+    → AreNetsBelow (length m.nets) u → updated n v (update_at os u) c ≡ updated m v u c
 updated_at m n v os u c e same b =
     ap (λ y. cond (eqb y 1) (written n v (target_at os u.target) (v (get_or os u.value 0)) c) c) (same u.enable b.enable)
     ∙ ap (λ y. cond (eqb (v u.enable) 1) (written n v (target_at os u.target) y c) c) (same u.value b.value)
@@ -296,14 +307,20 @@ updated_at m n v os u c e same b =
     by_target (Reg r) lt = refl
     by_target (Place k a) lt = same a lt
 
-updates_at_same : (m n : Module) (v : Family) (os : List ℕ) (us : List Update) (c : Contents) → n.mems ≡ m.mems → ((k : ℕ) → k < length m.nets → v (get_or os k 0) ≡ v k) → ((j : ℕ) (u : Update) → slice_get us j ≡ Some u → AreNetsBelow (length m.nets) u) → updated_all n v (map (update_at os) us) c ≡ updated_all m v us c
+updates_at_same : (m n : Module) (v : Family) (os : List ℕ) (us : List Update) (c : Contents)
+    → n.mems ≡ m.mems → ((k : ℕ) → k < length m.nets → v (get_or os k 0) ≡ v k)
+    → ((j : ℕ) (u : Update) → slice_get us j ≡ Some u → AreNetsBelow (length m.nets) u)
+    → updated_all n v (map (update_at os) us) c ≡ updated_all m v us c
 updates_at_same m n v os [] c e same b = refl
 updates_at_same m n v os (u ∷ us) c e same b =
     ap (updated_all n v (map (update_at os) us)) (updated_at m n v os u c e same (b 0 u refl))
     ∙ updates_at_same m n v os us (updated m v u c) e same (λ j x at. b (suc j) x at)
 
 -- a net that is read for another one is given no value from that one's assignment on
-behind : (m : Module) → ((j k : ℕ) (b a : Assign) → j ≤ k → slice_get m.assigns j ≡ Some b → slice_get m.assigns k ≡ Some a → IsRead b.expr a.target → ⊥) → (a b : ℕ) → Chain m a b → (j : ℕ) (x : Assign) → slice_get m.assigns j ≡ Some x → IsRead x.expr b → (k : ℕ) (y : Assign) → j ≤ k → slice_get m.assigns k ≡ Some y → y.target ≢ a
+behind : (m : Module) → ((j k : ℕ) (b a : Assign) → j ≤ k → slice_get m.assigns j ≡ Some b
+    → slice_get m.assigns k ≡ Some a → IsRead b.expr a.target → ⊥) → (a b : ℕ) → Chain m a b
+    → (j : ℕ) (x : Assign) → slice_get m.assigns j ≡ Some x → IsRead x.expr b
+    → (k : ℕ) (y : Assign) → j ≤ k → slice_get m.assigns k ≡ Some y → y.target ≢ a
 behind m unread a b stay j x xt read k y le yt e = unread j k x y le xt yt (subst (IsRead x.expr) (sym e) read)
 behind m unread a b (on ch (by i n z zt rd)) j x xt read k y le yt e =
     ⊎_elim
@@ -314,7 +331,9 @@ behind m unread a b (on ch (by i n z zt rd)) j x xt read k y le yt e =
 no_loop : (m : Module) → ((j k : ℕ) (b a : Assign) → j ≤ k → slice_get m.assigns j ≡ Some b → slice_get m.assigns k ≡ Some a → IsRead b.expr a.target → ⊥) → (a b : ℕ) → Chain m a b → Follows m b a → ⊥
 no_loop m unread a b ch (by j n x xt read) = behind m unread x.target n ch j x xt read j x (omega arith) xt refl
 
-pub stand_for : (m : Module) (order : List Assign) (os : List ℕ) (new : List Assign) → IsRunnable m → IsOrderOf m order → AreAtOrigins m order os new (length order) → StandFor m new (map (update_at os) m.updates)
+pub stand_for : (m : Module) (order : List Assign) (os : List ℕ) (new : List Assign)
+    → IsRunnable m → IsOrderOf m order → AreAtOrigins m order os new (length order)
+    → StandFor m new (map (update_at os) m.updates)
 stand_for m order os new r o p =
     record {
       runnable = runnable;

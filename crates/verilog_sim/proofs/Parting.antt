@@ -31,8 +31,14 @@ pub record Standing (d : Design) (m : Module) : Type 0 where
   pub nets : (k : ℕ) (i : Instance) (j o : ℕ) → slice_get m.instances k ≡ Some i → slice_get i.nets j ≡ Some o → o < length m.nets
   pub sizes : (k : ℕ) (i : Instance) (inner : Module) → slice_get m.instances k ≡ Some i → slice_get d.modules i.«module» ≡ Some inner → length i.nets ≡ length inner.ports
 
-module _ (d : Design) (b c last : ℕ) (inner n : Module) (s : Sits b c inner n) (st : Standing d inner) (inst : (k : ℕ) → slice_get n.instances (last + k) ≡ option_map (moved_instance b) (slice_get inner.instances k)) where
-  same_module : (o : Option Instance) → option_and_then (λ (i : Instance). slice_get d.modules i.«module») (option_map (moved_instance b) o) ≡ option_and_then (λ (i : Instance). slice_get d.modules i.«module») o
+module _ (d : Design) (b c last : ℕ) (inner n : Module) (s : Sits b c inner n)
+    (st : Standing d inner) (inst : (k : ℕ)
+    → slice_get n.instances (last + k) ≡ option_map (moved_instance b)
+    (slice_get inner.instances k)) where
+  same_module : (o : Option Instance)
+      → option_and_then (λ (i : Instance). slice_get d.modules i.«module»)
+      (option_map (moved_instance b) o) ≡ option_and_then
+      (λ (i : Instance). slice_get d.modules i.«module») o
   same_module None = refl
   same_module (Some i) = refl
 
@@ -59,7 +65,10 @@ module _ (d : Design) (b c last : ℕ) (inner n : Module) (s : Sits b c inner n)
       parts k i y at is =
           let g = h.parts (last + k) (moved_instance b i) y (inst k ∙ ap (option_map (moved_instance b)) at) is in (
             joined_of (cut_family b (length inner.nets) (v [])) (v ((last + k) ∷ [])) y.ports i.nets (st.sizes k i y at is)
-                (λ j p o e f. joined_at (v []) (v ((last + k) ∷ [])) y.ports (map (λ t. b + t) i.nets) j p (b + o) g.0 e (to_map (λ t. b + t) i.nets j o f) ∙ sym (cut_at b (length inner.nets) (v []) o (st.nets k i j o at f))),
+                (λ j p o e f. joined_at (v []) (v ((last + k)
+                ∷ [])) y.ports (map (λ t. b + t) i.nets) j p (b + o) g.0 e
+                (to_map (λ t. b + t) i.nets j o f) ∙ sym
+                (cut_at b (length inner.nets) (v []) o (st.nets k i j o at f))),
             g.1,
           )
 
@@ -138,7 +147,11 @@ module _ {d : Design} {m n : Module} {s : Place} (j : IsJoined d m s n) where
   -- a port of the part and the net that it is joined to
   pub joined_value : (x : Contents) (v : Family) → Fits n x v → (i : ℕ) (p : Port) (o : ℕ) → slice_get j.inner.ports i ≡ Some p → slice_get j.part.nets i ≡ Some o → v (length m.nets + p.net) ≡ v o
   joined_value x v f i p o e g =
-      by_output p.output (assigned_at n x v n.assigns (length own + i) (join_of (length m.nets) p o) f.assigned (ap (λ (l : List Assign). slice_get l (length own + i)) j.assigns ∙ get_right own (joins_of (length m.nets) j.inner.ports j.part.nets) i ∙ join_at (length m.nets) j.inner.ports j.part.nets i p o e g))
+      by_output p.output (assigned_at n x v n.assigns (length own + i)
+      (join_of (length m.nets) p o) f.assigned (ap (λ (l : List Assign). slice_get l
+      (length own + i)) j.assigns ∙ get_right own (joins_of
+      (length m.nets) j.inner.ports j.part.nets) i ∙ join_at
+      (length m.nets) j.inner.ports j.part.nets i p o e g))
     where
       own : List Assign
       own = m.assigns ++ map (moved_assign (length m.nets) (length m.mems)) j.inner.assigns
@@ -148,7 +161,9 @@ module _ {d : Design} {m n : Module} {s : Place} (j : IsJoined d m s n) where
       by_output false h = h
 
 -- what a module with one more part says of the module with the instance
-module _ {d : Design} {m n : Module} {s : Place} (j : IsJoined d m s n) (a : Standing d m) (b : Standing d j.inner) (ports : (i : ℕ) (p : Port) → slice_get j.inner.ports i ≡ Some p → p.net < length j.inner.nets) where
+module _ {d : Design} {m n : Module} {s : Place} (j : IsJoined d m s n) (a : Standing d m)
+    (b : Standing d j.inner) (ports : (i : ℕ) (p : Port) → slice_get j.inner.ports i ≡ Some p
+    → p.net < length j.inner.nets) where
   sits : Sits (length m.nets) (length m.mems) j.inner n
   sits = sits_inner j a.ranged
 
@@ -172,7 +187,10 @@ module _ {d : Design} {m n : Module} {s : Place} (j : IsJoined d m s n) (a : Sta
       other k i y is in' lt =
           let g = h.parts k i y (inst_other j k lt ∙ is) in' in
           let w = with_other {A = Family} (length j.rest) no_family (cut_family 0 (length m.nets)) (cut_family (length m.nets) (length j.inner.nets)) v k in
-          let z = with_other {A = Contents} (length j.rest) no_contents (cut_contents 0 (length m.nets) 0 (length m.mems)) (cut_contents (length m.nets) (length j.inner.nets) (length m.mems) (length j.inner.mems)) x k in (
+          let z = with_other {A = Contents} (length j.rest) no_contents
+          (cut_contents 0 (length m.nets) 0 (length m.mems))
+          (cut_contents (length m.nets) (length j.inner.nets) (length m.mems)
+          (length j.inner.mems)) x k in (
             joined_of (cut_family 0 (length m.nets) (v [])) (families_before (place_of (length j.rest) m j.inner) v (k ∷ [])) y.ports i.nets (a.sizes k i y is in')
                 (λ q p o e f. ap (λ (u : Family). u p.net) (w [] lt) ∙ joined_at (v []) (v (k ∷ [])) y.ports i.nets q p o g.0 e f ∙ outer_at (v []) o (a.nets k i q o is f)),
             subst (λ (u : Families). FitsFlat d y (below k (contents_before (place_of (length j.rest) m j.inner) x)) u) (sym (fun_ext (λ p. w p lt)))
@@ -182,9 +200,18 @@ module _ {d : Design} {m n : Module} {s : Place} (j : IsJoined d m s n) (a : Sta
       last : PartFits d m j.rest j.inner x v (length j.rest) j.part j.inner
       last =
           let w = with_last {A = Family} (length j.rest) no_family (cut_family 0 (length m.nets)) (cut_family (length m.nets) (length j.inner.nets)) v in
-          let z = with_last {A = Contents} (length j.rest) no_contents (cut_contents 0 (length m.nets) 0 (length m.mems)) (cut_contents (length m.nets) (length j.inner.nets) (length m.mems) (length j.inner.mems)) x in (
-            joined_of (cut_family 0 (length m.nets) (v [])) (families_before (place_of (length j.rest) m j.inner) v (length j.rest ∷ [])) j.inner.ports j.part.nets (a.sizes (length j.rest) j.part j.inner (inst_last j) j.is)
-                (λ q p o e f. ap (λ (u : Family). u p.net) (w []) ∙ cut_at (length m.nets) (length j.inner.nets) (v []) p.net (ports q p e) ∙ joined_value j (x []) (v []) h.own q p o e f ∙ outer_at (v []) o (a.nets (length j.rest) j.part q o (inst_last j) f)),
+          let z = with_last {A = Contents} (length j.rest) no_contents
+          (cut_contents 0 (length m.nets) 0 (length m.mems))
+          (cut_contents (length m.nets) (length j.inner.nets) (length m.mems)
+          (length j.inner.mems)) x in (
+            joined_of (cut_family 0 (length m.nets) (v []))
+                (families_before (place_of (length j.rest) m j.inner) v (length j.rest
+                ∷ [])) j.inner.ports j.part.nets (a.sizes (length j.rest) j.part j.inner
+                (inst_last j) j.is)
+                (λ q p o e f. ap (λ (u : Family). u p.net) (w []) ∙ cut_at (length m.nets)
+                (length j.inner.nets) (v []) p.net (ports q p e) ∙ joined_value j (x [])
+                (v []) h.own q p o e f ∙ outer_at (v []) o
+                (a.nets (length j.rest) j.part q o (inst_last j) f)),
             subst (λ (u : Families). FitsFlat d j.inner (below (length j.rest) (contents_before (place_of (length j.rest) m j.inner) x)) u) (sym (fun_ext w))
                 (subst (λ (u : AllContents). FitsFlat d j.inner u (within_part (length j.rest) (cut_family (length m.nets) (length j.inner.nets)) v)) (sym (fun_ext z))
                 (fits_within d (length m.nets) (length m.mems) (length j.rest) j.inner n sits b (inst_inner j) x v f)),

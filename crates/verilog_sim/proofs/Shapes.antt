@@ -8,7 +8,10 @@ use Rattle.rtl_ir.specs.declared.design.Port.{Port}
 use Rattle.rtl_ir.specs.declared.design.Module.{Module}
 use Rattle.rtl_ir.specs.Value.{width_of}
 use Rattle.rtl_ir.specs.Run.{Channel}
-use Rattle.rtl_ir.specs.Ports.{Shape, PortView, kernel_ports, scalar_ports, host_input_ports, host_output_ports, shape_ports, port_view, HasShape, port_net, net_at, nets_from, second_nets_from, channels_from, first_scalar, first_input, first_output, done_port, outer_of}
+use Rattle.rtl_ir.specs.Ports.{Shape, PortView, kernel_ports, scalar_ports, host_input_ports}
+use Rattle.rtl_ir.specs.Ports.{host_output_ports, shape_ports, port_view, HasShape, port_net}
+use Rattle.rtl_ir.specs.Ports.{net_at, nets_from, second_nets_from, channels_from, first_scalar}
+use Rattle.rtl_ir.specs.Ports.{first_input, first_output, done_port, outer_of}
 
 -- a port of this width and direction at a place of a list
 pub record ViewAt (l : List PortView) (i w : ℕ) (out : Bool) : Type 0 where
@@ -127,7 +130,10 @@ scalar_at s k i lt e =
     let n = length_kernels s.kernels in (
       r.0,
       in_middle s i (2 * length s.kernels + k) r.0 false (omega arith)
-          (in_left _ (host_output_ports s.outputs) _ r.0 false (in_left _ (host_input_ports s.inputs) _ r.0 false (in_right (kernel_ports s.kernels) (scalar_ports s.scalars) (2 * length s.kernels + k) k r.0 false (omega (arith, n)) r.1))),
+          (in_left _ (host_output_ports s.outputs) _ r.0 false
+          (in_left _ (host_input_ports s.inputs) _ r.0 false
+          (in_right (kernel_ports s.kernels) (scalar_ports s.scalars)
+          (2 * length s.kernels + k) k r.0 false (omega (arith, n)) r.1))),
     )
 
 length_front : (s : Shape) → length (kernel_ports s.kernels ++ scalar_ports s.scalars) ≡ 2 * length s.kernels + length s.scalars
@@ -150,11 +156,20 @@ length_three s = omega (arith, length-append (kernel_ports s.kernels ++ scalar_p
 pub accept_at : (s : Shape) (k i : ℕ) → k < length s.outputs → i ≡ first_output s + 2 + 3 * k → ViewAt (shape_ports s) i 1 false
 accept_at s k i lt e =
     in_middle s i (2 * length s.kernels + length s.scalars + 3 * length s.inputs + (2 + 3 * k)) 1 false (omega arith)
-    (in_right (kernel_ports s.kernels ++ scalar_ports s.scalars ++ host_input_ports s.inputs) (host_output_ports s.outputs) _ (2 + 3 * k) 1 false (omega (arith, length_three s)) (accept_in s.outputs k (2 + 3 * k) lt refl))
+    (in_right (kernel_ports s.kernels ++ scalar_ports s.scalars
+    ++ host_input_ports s.inputs) (host_output_ports s.outputs) _ (2 + 3 * k) 1 false
+    (omega (arith, length_three s)) (accept_in s.outputs k (2 + 3 * k) lt refl))
 
 pub length_shape : (s : Shape) → length (shape_ports s) ≡ 2 + 2 * length s.kernels + length s.scalars + 3 * length s.inputs + 3 * length s.outputs + 1
 length_shape s =
-    omega (arith, length-append (middle s) (done_view ∷ []), length-append (kernel_ports s.kernels ++ scalar_ports s.scalars ++ host_input_ports s.inputs) (host_output_ports s.outputs), length_three s, length_outputs s.outputs)
+    omega (
+      arith,
+      length-append (middle s) (done_view ∷ []),
+      length-append (kernel_ports s.kernels ++ scalar_ports s.scalars
+          ++ host_input_ports s.inputs) (host_output_ports s.outputs),
+      length_three s,
+      length_outputs s.outputs,
+    )
 
 -- a port of a module with this width and direction
 pub record PortAt (m : Module) (i w : ℕ) (out : Bool) : Type 0 where
@@ -225,7 +240,9 @@ same_channels m k [] (y ∷ ys) e = absurd (omega arith)
 same_channels m k (x ∷ xs) [] e = absurd (omega arith)
 same_channels m k (x ∷ xs) (y ∷ ys) e = ap (λ (l : List Channel). channel_at m k ∷ l) (same_channels m (k + 3) xs ys (omega arith))
 
-pub same_outer : (m : Module) (s t : Shape) → length s.kernels ≡ length t.kernels → length s.scalars ≡ length t.scalars → length s.inputs ≡ length t.inputs → length s.outputs ≡ length t.outputs → outer_of s m ≡ outer_of t m
+pub same_outer : (m : Module) (s t : Shape) → length s.kernels ≡ length t.kernels
+    → length s.scalars ≡ length t.scalars → length s.inputs ≡ length t.inputs
+    → length s.outputs ≡ length t.outputs → outer_of s m ≡ outer_of t m
 same_outer m s t ek es ei eo =
     let es' : first_scalar s ≡ first_scalar t = omega (arith, ek) in
     let ei' : first_input s ≡ first_input t = omega (arith, es, ek) in
@@ -234,12 +251,60 @@ same_outer m s t ek es ei eo =
     let holds = same_seconds m 2 s.kernels t.kernels ek in
     let ticks = same_seconds m 3 s.kernels t.kernels ek in
     let scalars : nets_from m (first_scalar s) s.scalars ≡ nets_from m (first_scalar t) t.scalars = ap (λ k. nets_from m k s.scalars) es' ∙ same_nets m (first_scalar t) s.scalars t.scalars es in
-    let inputs : channels_from m (first_input s) s.inputs ≡ channels_from m (first_input t) t.inputs = ap (λ k. channels_from m k s.inputs) ei' ∙ same_channels m (first_input t) s.inputs t.inputs ei in
-    let outputs : channels_from m (first_output s) s.outputs ≡ channels_from m (first_output t) t.outputs = ap (λ k. channels_from m k s.outputs) eo' ∙ same_channels m (first_output t) s.outputs t.outputs eo in
+    let inputs : channels_from m (first_input s) s.inputs ≡ channels_from m
+    (first_input t) t.inputs = ap (λ k. channels_from m k s.inputs) ei' ∙ same_channels m
+    (first_input t) s.inputs t.inputs ei in
+    let outputs : channels_from m (first_output s) s.outputs ≡ channels_from m
+    (first_output t) t.outputs = ap (λ k. channels_from m k s.outputs) eo' ∙ same_channels m
+    (first_output t) s.outputs t.outputs eo in
     let done : net_at m (done_port s) ≡ net_at m (done_port t) = ap (net_at m) ed in
-    let steady : second_nets_from m 3 s.kernels ++ nets_from m (first_scalar s) s.scalars ≡ second_nets_from m 3 t.kernels ++ nets_from m (first_scalar t) t.scalars = ap (λ (l : List ℕ). l ++ nets_from m (first_scalar s) s.scalars) ticks ∙ ap (λ (l : List ℕ). second_nets_from m 3 t.kernels ++ l) scalars in
-    ap (λ (l : List ℕ). record { clock = net_at m 0; reset = net_at m 1; holds = l; steady = second_nets_from m 3 s.kernels ++ nets_from m (first_scalar s) s.scalars; inputs = channels_from m (first_input s) s.inputs; outputs = channels_from m (first_output s) s.outputs; done = net_at m (done_port s) }) holds
-    ∙ ap (λ (l : List ℕ). record { clock = net_at m 0; reset = net_at m 1; holds = second_nets_from m 2 t.kernels; steady = l; inputs = channels_from m (first_input s) s.inputs; outputs = channels_from m (first_output s) s.outputs; done = net_at m (done_port s) }) steady
-    ∙ ap (λ (l : List Channel). record { clock = net_at m 0; reset = net_at m 1; holds = second_nets_from m 2 t.kernels; steady = second_nets_from m 3 t.kernels ++ nets_from m (first_scalar t) t.scalars; inputs = l; outputs = channels_from m (first_output s) s.outputs; done = net_at m (done_port s) }) inputs
-    ∙ ap (λ (l : List Channel). record { clock = net_at m 0; reset = net_at m 1; holds = second_nets_from m 2 t.kernels; steady = second_nets_from m 3 t.kernels ++ nets_from m (first_scalar t) t.scalars; inputs = channels_from m (first_input t) t.inputs; outputs = l; done = net_at m (done_port s) }) outputs
-    ∙ ap (λ n. record { clock = net_at m 0; reset = net_at m 1; holds = second_nets_from m 2 t.kernels; steady = second_nets_from m 3 t.kernels ++ nets_from m (first_scalar t) t.scalars; inputs = channels_from m (first_input t) t.inputs; outputs = channels_from m (first_output t) t.outputs; done = n }) done
+    let steady : second_nets_from m 3 s.kernels
+    ++ nets_from m (first_scalar s) s.scalars ≡ second_nets_from m 3 t.kernels
+    ++ nets_from m (first_scalar t) t.scalars = ap (λ (l : List ℕ). l
+    ++ nets_from m (first_scalar s) s.scalars) ticks ∙ ap
+    (λ (l : List ℕ). second_nets_from m 3 t.kernels ++ l) scalars in
+    ap (λ (l : List ℕ). record {
+      clock = net_at m 0;
+      reset = net_at m 1;
+      holds = l;
+      steady = second_nets_from m 3 s.kernels ++ nets_from m (first_scalar s) s.scalars;
+      inputs = channels_from m (first_input s) s.inputs;
+      outputs = channels_from m (first_output s) s.outputs;
+      done = net_at m (done_port s);
+    }) holds
+    ∙ ap (λ (l : List ℕ). record {
+      clock = net_at m 0;
+      reset = net_at m 1;
+      holds = second_nets_from m 2 t.kernels;
+      steady = l;
+      inputs = channels_from m (first_input s) s.inputs;
+      outputs = channels_from m (first_output s) s.outputs;
+      done = net_at m (done_port s);
+    }) steady
+    ∙ ap (λ (l : List Channel). record {
+      clock = net_at m 0;
+      reset = net_at m 1;
+      holds = second_nets_from m 2 t.kernels;
+      steady = second_nets_from m 3 t.kernels ++ nets_from m (first_scalar t) t.scalars;
+      inputs = l;
+      outputs = channels_from m (first_output s) s.outputs;
+      done = net_at m (done_port s);
+    }) inputs
+    ∙ ap (λ (l : List Channel). record {
+      clock = net_at m 0;
+      reset = net_at m 1;
+      holds = second_nets_from m 2 t.kernels;
+      steady = second_nets_from m 3 t.kernels ++ nets_from m (first_scalar t) t.scalars;
+      inputs = channels_from m (first_input t) t.inputs;
+      outputs = l;
+      done = net_at m (done_port s);
+    }) outputs
+    ∙ ap (λ n. record {
+      clock = net_at m 0;
+      reset = net_at m 1;
+      holds = second_nets_from m 2 t.kernels;
+      steady = second_nets_from m 3 t.kernels ++ nets_from m (first_scalar t) t.scalars;
+      inputs = channels_from m (first_input t) t.inputs;
+      outputs = channels_from m (first_output t) t.outputs;
+      done = n;
+    }) done

@@ -38,7 +38,10 @@ pub data Side {A : Type 0} (xs ys : List A) (k : ℕ) (x : A) : Type 0 where
   right : (j : ℕ) → k ≡ length xs + j → slice_get ys j ≡ Some x → Side xs ys k x
 
 pub side_of : {A : Type 0} (xs ys : List A) (k : ℕ) (x : A) → slice_get (xs ++ ys) k ≡ Some x → Side xs ys k x
-side_of xs ys k x e = ⊎_elim (λ lt. left lt (sym (get_left xs ys k lt) ∙ e)) (λ ge. (let q : length xs + (k - length xs) ≡ k = omega arith in right (k - length xs) (sym q) (sym (get_right xs ys (k - length xs)) ∙ ap (slice_get (xs ++ ys)) q ∙ e))) (cases_lt k (length xs))
+side_of xs ys k x e = ⊎_elim (λ lt. left lt (sym (get_left xs ys k lt) ∙ e))
+    (λ ge. (let q : length xs + (k - length xs) ≡ k = omega arith in right (k - length xs)
+    (sym q) (sym (get_right xs ys (k - length xs)) ∙ ap (slice_get (xs
+    ++ ys)) q ∙ e))) (cases_lt k (length xs))
 
 pub some_of_map : {A B : Type 0} (f : A → B) (o : Option A) (y : B) → option_map f o ≡ Some y → (x : A) × (o ≡ Some x) × (f x ≡ y)
 some_of_map f None y e = absurd (cc)
@@ -86,7 +89,9 @@ abbrev update_made : ℕ → Target → ℕ → Update
 update_made e t x = record { enable = e; target = t; value = x }
 
 pub update_same : (u : Update) → moved_update 0 0 u ≡ u
-update_same u = ap (λ i. update_made i (moved_target 0 0 u.target) (0 + u.value)) (none u.enable) ∙ ap (λ t. update_made u.enable t (0 + u.value)) (target_same u.target) ∙ ap (update_made u.enable u.target) (none u.value)
+update_same u = ap (λ i. update_made i (moved_target 0 0 u.target) (0 + u.value))
+    (none u.enable) ∙ ap (λ t. update_made u.enable t (0 + u.value)) (target_same u.target) ∙ ap
+    (update_made u.enable u.target) (none u.value)
 
 -- names say nothing of widths
 width_bare : (o : Option Net) → net_width (option_map bare_net o) ≡ net_width o
@@ -138,7 +143,11 @@ sits_inner {m = m} {n = n} j r =
       assigns = λ k a at. (
         length m.assigns + k,
         ap (λ (l : List Assign). slice_get l (length m.assigns + k)) j.assigns
-            ∙ some_left (m.assigns ++ moved) (joins_of (length m.nets) j.inner.ports j.part.nets) (length m.assigns + k) (moved_assign (length m.nets) (length m.mems) a) (get_right m.assigns moved k ∙ to_map (moved_assign (length m.nets) (length m.mems)) j.inner.assigns k a at),
+            ∙ some_left (m.assigns ++ moved) (joins_of
+            (length m.nets) j.inner.ports j.part.nets) (length m.assigns + k)
+            (moved_assign (length m.nets) (length m.mems) a)
+            (get_right m.assigns moved k ∙ to_map (moved_assign (length m.nets)
+            (length m.mems)) j.inner.assigns k a at),
       );
       before = m.updates;
       behind = [];
@@ -161,7 +170,10 @@ sits_outer {m = m} {n = n} j =
       assigns = λ k a at. (
         k,
         ap (λ (l : List Assign). slice_get l k) j.assigns
-            ∙ some_left (m.assigns ++ moved) (joins_of (length m.nets) j.inner.ports j.part.nets) k (moved_assign 0 0 a) (some_left m.assigns moved k (moved_assign 0 0 a) (at ∙ ap Some (sym (assign_same a)))),
+            ∙ some_left (m.assigns ++ moved) (joins_of
+            (length m.nets) j.inner.ports j.part.nets) k (moved_assign 0 0 a)
+            (some_left m.assigns moved k (moved_assign 0 0 a)
+            (at ∙ ap Some (sym (assign_same a)))),
       );
       before = [];
       behind = map (moved_update (length m.nets) (length m.mems)) j.inner.updates;

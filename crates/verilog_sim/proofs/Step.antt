@@ -1,5 +1,7 @@
 -- A step computes the value of its expression.
-use Rattle.std.proofs.Common.{◌≡◌, ℕ, zero, suc, ◌+◌, ◌-◌, ◌*◌, ◌/◌, ◌%◌, ◌^◌, ◌<◌, ◌≤◌, Bool, true, false, cond, eqb, ltb, bit_and, bit_or, bit_xor, List, [], length, get_or, refl, sym, ap, ◌∙◌, subst, arith}
+use Rattle.std.proofs.Common.{◌≡◌, ℕ, zero, suc, ◌+◌, ◌-◌, ◌*◌, ◌/◌, ◌%◌, ◌^◌, ◌<◌, ◌≤◌, Bool, true}
+use Rattle.std.proofs.Common.{false, cond, eqb, ltb, bit_and, bit_or, bit_xor, List, [], length}
+use Rattle.std.proofs.Common.{get_or, refl, sym, ap, ◌∙◌, subst, arith}
 use Rattle.std.proofs.Math.ListN.{get_or-eq_default}
 use Rattle.std.proofs.Math.Nat.{suc-mul}
 use Rattle.std.proofs.lemmas.Bool.{ltb-false}
@@ -10,7 +12,14 @@ use Rattle.rtl_ir.specs.declared.design.Expr.TheVariants.{Net as Plain, Literal,
 use Rattle.rtl_ir.specs.Value.{Family, value, width_of, depth_of, quotient, repeated}
 use Rattle.rtl_ir.specs.Typed.{IsTyped}
 use Rattle.verilog_sim.specs.declared.line.Step.{Step}
-use Rattle.verilog_sim.specs.declared.line.Step.TheVariants.{Copy, Literal as DoLiteral, Not as DoNot, Add as DoAdd, Sub as DoSub, Mul as DoMul, Div as DoDiv, And as DoAnd, Or as DoOr, Xor as DoXor, Eq as DoEq, Lt as DoLt, Concat as DoConcat, Repeat as DoRepeat, Part as DoPart, Choose as DoChoose, Cell as DoCell}
+use Rattle.verilog_sim.specs.declared.line.Step.TheVariants.{Copy, Literal as DoLiteral}
+use Rattle.verilog_sim.specs.declared.line.Step.TheVariants.{Not as DoNot, Add as DoAdd}
+use Rattle.verilog_sim.specs.declared.line.Step.TheVariants.{Sub as DoSub, Mul as DoMul}
+use Rattle.verilog_sim.specs.declared.line.Step.TheVariants.{Div as DoDiv, And as DoAnd, Or as DoOr}
+use Rattle.verilog_sim.specs.declared.line.Step.TheVariants.{Xor as DoXor, Eq as DoEq, Lt as DoLt}
+use Rattle.verilog_sim.specs.declared.line.Step.TheVariants.{Concat as DoConcat, Repeat as DoRepeat}
+use Rattle.verilog_sim.specs.declared.line.Step.TheVariants.{Part as DoPart, Choose as DoChoose}
+use Rattle.verilog_sim.specs.declared.line.Step.TheVariants.{Cell as DoCell}
 use Rattle.verilog_sim.specs.Lines.{step_value, joined, again}
 use Rattle.verilog_sim.specs.Contents.{contents_of, HasDepths}
 use Rattle.verilog_sim.specs.Compiled.{IsStepOf}
@@ -49,7 +58,9 @@ cell_is cells a depth e = by_test (ltb a depth) refl
     by_test true f = refl
     by_test false f = get_or-eq_default cells 0 (let q : depth ≤ a = ltb-false a depth f in omega arith)
 
-pub step_is : (m : Module) (mems : List (List ℕ)) (v : Family) (w : ℕ) (e : Expr) (s : Step) → IsTyped m w e → IsStepOf m e s → 1 ≤ w → w ≤ 128 → ((n : ℕ) → v n < 2 ^ width_of m n) → HasDepths m mems → step_value mems v w s ≡ value m (contents_of [] mems) v w e
+pub step_is : (m : Module) (mems : List (List ℕ)) (v : Family) (w : ℕ) (e : Expr) (s : Step)
+    → IsTyped m w e → IsStepOf m e s → 1 ≤ w → w ≤ 128 → ((n : ℕ) → v n < 2 ^ width_of m n)
+    → HasDepths m mems → step_value mems v w s ≡ value m (contents_of [] mems) v w e
 step_is m mems v w (Plain n) (Copy a) t h some le range depths = ap v h
 step_is m mems v w (Literal x) (DoLiteral word) t h some le range depths = h
 step_is m mems v w (Not n) (DoNot a) t h some le range depths = ap (λ i. (2 ^ 128 - 1 - v i) % 2 ^ w) h ∙ low_not (v n) w le (at_width (v n) w (width_of m n) t (range n))
@@ -64,9 +75,13 @@ step_is m mems v w (Binary Xor n o) (DoXor a b) t h some le range depths = ap (�
 step_is m mems v w (Binary Eq n o) (DoEq a b) t h some le range depths = ap (λ i. cond (eqb (v i) (v b)) 1 0) h.0 ∙ ap (λ i. cond (eqb (v n) (v i)) 1 0) h.1
 step_is m mems v w (Binary Lt n o) (DoLt a b) t h some le range depths = ap (λ i. cond (ltb (v i) (v b)) 1 0) h.0 ∙ ap (λ i. cond (ltb (v n) (v i)) 1 0) h.1
 step_is m mems v w (Concat n o) (DoConcat a b low) t h some le range depths =
-    ap (λ i. joined (v i) low (v b)) h.0 ∙ ap (λ i. joined (v n) low (v i)) h.1 ∙ ap (λ i. joined (v n) i (v o)) h.2 ∙ joined_is (v n) (v o) (width_of m n) (width_of m o) (range n) (range o) (omega (arith, t))
+    ap (λ i. joined (v i) low (v b)) h.0 ∙ ap (λ i. joined (v n) low (v i)) h.1 ∙ ap
+    (λ i. joined (v n) i (v o)) h.2 ∙ joined_is (v n) (v o) (width_of m n) (width_of m o)
+    (range n) (range o) (omega (arith, t))
 step_is m mems v w (Repeat k n) (DoRepeat times low a) t h some le range depths =
-    ap (λ i. again (i - 1) low (v a)) h.0 ∙ ap (λ i. again (k - 1) i (v a)) h.1 ∙ ap (λ i. again (k - 1) (width_of m n) (v i)) h.2 ∙ repeat_is k (width_of m n) (v n) (some_times k (width_of m n) w t some) (omega (arith, t)) (range n)
+    ap (λ i. again (i - 1) low (v a)) h.0 ∙ ap (λ i. again (k - 1) i (v a)) h.1 ∙ ap
+    (λ i. again (k - 1) (width_of m n) (v i)) h.2 ∙ repeat_is k (width_of m n) (v n)
+    (some_times k (width_of m n) w t some) (omega (arith, t)) (range n)
 step_is m mems v w (Part n hi lo) (DoPart a low) t h some le range depths =
     ap (λ i. (v i / 2 ^ low) % 2 ^ w) h.0 ∙ ap (λ i. (v n / 2 ^ i) % 2 ^ w) h.1 ∙ ap (λ i. (v n / 2 ^ lo) % 2 ^ i) (sym t.2)
 step_is m mems v w (Choose n o p) (DoChoose a b c) t h some le range depths =

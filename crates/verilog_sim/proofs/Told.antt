@@ -47,36 +47,60 @@ module _ (v : Family) where
   abbrev pub Told : List (ℕ × ℕ) → Type 0
   Told gs = Every (λ (g : ℕ × ℕ). v g.0 ≡ g.1) gs
 
-  holds_same : (steady : List ℕ) (holds : List Bool) (j : ℕ) (xs : List KernelPorts) (ys : List Bool) → length ys ≡ length xs → Along false holds j ys → Told (kernel_gifts steady holds j xs) → Same (map (λ (k : KernelPorts). k.hold) xs) (map bit ys) v
+  holds_same : (steady : List ℕ) (holds : List Bool) (j : ℕ) (xs : List KernelPorts)
+      (ys : List Bool) → length ys ≡ length xs → Along false holds j ys
+      → Told (kernel_gifts steady holds j xs)
+      → Same (map (λ (k : KernelPorts). k.hold) xs) (map bit ys) v
   holds_same steady holds j [] [] e a t = tt
   holds_same steady holds j [] (y ∷ ys) e a t = absurd (omega arith)
   holds_same steady holds j (x ∷ xs) [] e a t = absurd (omega arith)
   holds_same steady holds j (x ∷ xs) (y ∷ ys) e a t = (t.0 ∙ ap bit (first false holds j y ys a), holds_same steady holds (j + 1) xs ys (omega (arith, e)) (onward false holds j y ys a) t.1.1)
 
-  ticks_same : (steady : List ℕ) (holds : List Bool) (j : ℕ) (xs : List KernelPorts) (ns ys : List ℕ) → length xs ≤ length ys → Along 0 steady j ys → Told (kernel_gifts steady holds j xs) → Same ns (drop (length xs) ys) v → Same (map (λ (k : KernelPorts). k.ticks) xs ++ ns) ys v
+  ticks_same : (steady : List ℕ) (holds : List Bool) (j : ℕ) (xs : List KernelPorts)
+      (ns ys : List ℕ) → length xs ≤ length ys → Along 0 steady j ys
+      → Told (kernel_gifts steady holds j xs) → Same ns (drop (length xs) ys) v
+      → Same (map (λ (k : KernelPorts). k.ticks) xs ++ ns) ys v
   ticks_same steady holds j [] ns ys e a t s = s
   ticks_same steady holds j (x ∷ xs) ns [] e a t s = absurd (omega arith)
   ticks_same steady holds j (x ∷ xs) ns (y ∷ ys) e a t s = (t.1.0 ∙ first 0 steady j y ys a, ticks_same steady holds (j + 1) xs ns ys (omega (arith, e)) (onward 0 steady j y ys a) t.1.1 s)
 
-  scalars_same : (steady : List ℕ) (j : ℕ) (xs : List ScalarPort) (ys : List ℕ) → length ys ≡ length xs → Along 0 steady j ys → Told (scalar_gifts steady j xs) → Same (map (λ (s : ScalarPort). s.net) xs) ys v
+  scalars_same : (steady : List ℕ) (j : ℕ) (xs : List ScalarPort) (ys : List ℕ)
+      → length ys ≡ length xs → Along 0 steady j ys → Told (scalar_gifts steady j xs)
+      → Same (map (λ (s : ScalarPort). s.net) xs) ys v
   scalars_same steady j [] [] e a t = tt
   scalars_same steady j [] (y ∷ ys) e a t = absurd (omega arith)
   scalars_same steady j (x ∷ xs) [] e a t = absurd (omega arith)
   scalars_same steady j (x ∷ xs) (y ∷ ys) e a t = (t.0 ∙ first 0 steady j y ys a, scalars_same steady (j + 1) xs ys (omega (arith, e)) (onward 0 steady j y ys a) t.1)
 
-  words_same : (offers : List Offer) (j : ℕ) (xs : List StreamPorts) (ys : List Offer) → length ys ≡ length xs → Along nothing offers j ys → Told (input_gifts offers j xs) → Same (map (λ (c : Channel). c.word) (map stream_channel xs)) (map (λ (x : Offer). x.word) ys) v
+  words_same : (offers : List Offer) (j : ℕ) (xs : List StreamPorts) (ys : List Offer)
+      → length ys ≡ length xs → Along nothing offers j ys → Told (input_gifts offers j xs)
+      → Same (map (λ (c : Channel). c.word) (map stream_channel xs))
+      (map (λ (x : Offer). x.word) ys) v
   words_same offers j [] [] e a t = tt
   words_same offers j [] (y ∷ ys) e a t = absurd (omega arith)
   words_same offers j (x ∷ xs) [] e a t = absurd (omega arith)
-  words_same offers j (x ∷ xs) (y ∷ ys) e a t = (t.0 ∙ ap (λ (o : Offer). o.word) (first nothing offers j y ys a), words_same offers (j + 1) xs ys (omega (arith, e)) (onward nothing offers j y ys a) t.1.1)
+  words_same offers j (x ∷ xs) (y
+      ∷ ys) e a t = (
+        t.0 ∙ ap (λ (o : Offer). o.word) (first nothing offers j y ys a),
+        words_same offers (j + 1) xs ys (omega (arith, e)) (onward nothing offers j y ys a) t.1.1,
+      )
 
-  valid_same : (offers : List Offer) (j : ℕ) (xs : List StreamPorts) (ys : List Offer) → length ys ≡ length xs → Along nothing offers j ys → Told (input_gifts offers j xs) → Same (map (λ (c : Channel). c.valid) (map stream_channel xs)) (map (λ (x : Offer). bit x.valid) ys) v
+  valid_same : (offers : List Offer) (j : ℕ) (xs : List StreamPorts) (ys : List Offer)
+      → length ys ≡ length xs → Along nothing offers j ys → Told (input_gifts offers j xs)
+      → Same (map (λ (c : Channel). c.valid) (map stream_channel xs))
+      (map (λ (x : Offer). bit x.valid) ys) v
   valid_same offers j [] [] e a t = tt
   valid_same offers j [] (y ∷ ys) e a t = absurd (omega arith)
   valid_same offers j (x ∷ xs) [] e a t = absurd (omega arith)
-  valid_same offers j (x ∷ xs) (y ∷ ys) e a t = (t.1.0 ∙ ap (λ (o : Offer). bit o.valid) (first nothing offers j y ys a), valid_same offers (j + 1) xs ys (omega (arith, e)) (onward nothing offers j y ys a) t.1.1)
+  valid_same offers j (x ∷ xs) (y
+      ∷ ys) e a t = (
+        t.1.0 ∙ ap (λ (o : Offer). bit o.valid) (first nothing offers j y ys a),
+        valid_same offers (j + 1) xs ys (omega (arith, e)) (onward nothing offers j y ys a) t.1.1,
+      )
 
-  ready_same : (accepts : List Bool) (j : ℕ) (xs : List StreamPorts) (ys : List Bool) → length ys ≡ length xs → Along false accepts j ys → Told (output_gifts accepts j xs) → Same (map (λ (c : Channel). c.ready) (map stream_channel xs)) (map bit ys) v
+  ready_same : (accepts : List Bool) (j : ℕ) (xs : List StreamPorts) (ys : List Bool)
+      → length ys ≡ length xs → Along false accepts j ys → Told (output_gifts accepts j xs)
+      → Same (map (λ (c : Channel). c.ready) (map stream_channel xs)) (map bit ys) v
   ready_same accepts j [] [] e a t = tt
   ready_same accepts j [] (y ∷ ys) e a t = absurd (omega arith)
   ready_same accepts j (x ∷ xs) [] e a t = absurd (omega arith)
@@ -96,7 +120,12 @@ module _ (v : Family) where
         clock = t.0;
         restarts = t.1.0;
         steadily = ticks_same steady holds 0 i.kernels (map (λ (s : ScalarPort). s.net) i.scalars) steady (omega (arith, ls)) (from_start 0 steady steady (λ k. refl)) kernels
-            (scalars_same steady (length i.kernels) i.scalars (drop (length i.kernels) steady) (omega (arith, length_dropped steady (length i.kernels), ls)) (along_drop 0 steady (length i.kernels)) scalars);
+            (scalars_same steady (length i.kernels) i.scalars (drop (length i.kernels) steady)
+            (omega (
+              arith,
+              length_dropped steady (length i.kernels),
+              ls,
+            )) (along_drop 0 steady (length i.kernels)) scalars);
         held = holds_same steady holds 0 i.kernels holds' lh (from_start false holds holds' same.holds_same) kernels;
         words = words_same offers 0 i.inputs offers' lo (from_start nothing offers offers' same.offers_same) inputs;
         valid = valid_same offers 0 i.inputs offers' lo (from_start nothing offers offers' same.offers_same) inputs;

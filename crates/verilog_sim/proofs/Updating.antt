@@ -42,7 +42,9 @@ written_agrees : (m : Module) (v w : Family) (t : Target) (x : ℕ) (c : Content
 written_agrees m v w (Reg n) x c e = refl
 written_agrees m v w (Cell k a) x c e = ap (λ y. cond (ltb y (depth_of m k)) (with_cell k y x c) c) e
 
-update_agrees : (m : Module) (v w : Family) (u : Update) (c : Contents) → v u.enable ≡ w u.enable → v u.value ≡ w u.value → v (target_net u.target) ≡ w (target_net u.target) → updated m v u c ≡ updated m w u c
+update_agrees : (m : Module) (v w : Family) (u : Update) (c : Contents)
+    → v u.enable ≡ w u.enable → v u.value ≡ w u.value
+    → v (target_net u.target) ≡ w (target_net u.target) → updated m v u c ≡ updated m w u c
 update_agrees m v w u c enable value net =
     ap (λ y. cond (eqb y 1) (written m v u.target (v u.value) c) c) enable
     ∙ ap (λ y. cond (eqb (w u.enable) 1) (written m v u.target y c) c) value

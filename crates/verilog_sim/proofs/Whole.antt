@@ -45,7 +45,10 @@ module _ (d : Design) (h : IsAccepted d) where
       (subst (λ (u : Families). FitsFlat d m (contents_first ss (contents_before s x)) u) (sym (families_last ss s v))
       (fits_joins js g (contents_before s x) (families_before s v) (fits_before j (placed_joins js g).standing i.standing (λ k p at. (i.ports k p at).net) x v f)))
 
-  after_joins : {m n : Module} {ss : List Place} → Joins d m ss n → IsPlaced d m → (x : AllContents) (v : Families) → contents_first ss (after_flat d n x v) ≡ after_flat d m (contents_first ss x) (families_first ss v)
+  after_joins : {m n : Module} {ss : List Place} → Joins d m ss n → IsPlaced d m
+      → (x : AllContents) (v : Families)
+      → contents_first ss (after_flat d n x v) ≡ after_flat d m (contents_first ss x)
+      (families_first ss v)
   after_joins start g x v = refl
   after_joins {m = m} {n = n} (join {ss = ss} {s = s} js j) g x v =
       let i = inner_placed j in
@@ -90,7 +93,10 @@ module _ (d : Design) (h : IsAccepted d) where
 
     pub whole_after : (x : Contents) (v : Family) → contents_by_path (Some f.top) ss (after_edge n x v) ≡ after_flat d f.top (contents_by_path (Some f.top) ss x) (families_of f.top ss v)
     whole_after x v =
-        ap (λ (u : AllContents). within_part 0 (cut_contents 0 (length f.top.nets) 0 (length f.top.mems)) (contents_first ss u)) (after_alone d n (alone_contents x) (alone_contents (after_edge n x v)) v f.whole refl (λ k p. refl))
+        ap (λ (u : AllContents). within_part 0 (cut_contents 0 (length f.top.nets) 0
+        (length f.top.mems)) (contents_first ss u))
+        (after_alone d n (alone_contents x) (alone_contents
+        (after_edge n x v)) v f.whole refl (λ k p. refl))
         ∙ ap (within_part 0 (cut_contents 0 (length f.top.nets) 0 (length f.top.mems))) (after_joins f.joins (placed_copied d f.copied top_placed) (alone_contents x) (alone v))
         ∙ fun_ext (after_within d 0 0 0 f.top f.copy (sits_copied f.copied) top_placed.standing (inst_copied d f.copied) (contents_first ss (alone_contents x)) (families_first ss (alone v)))
 

@@ -1,5 +1,7 @@
 -- Writes to the registers and the memories.
-use Rattle.std.proofs.Common.{◌≡◌, ◌≢◌, ℕ, ◌<◌, ◌≤◌, Bool, true, false, cond, ◌&&◌, ⊎_elim, eqb, ltb, List, [], length, get_or, set, drop, ◌+◌, refl, sym, ap, ◌∙◌, arith, subst, get_or-set_other, get_or-set_same}
+use Rattle.std.proofs.Common.{◌≡◌, ◌≢◌, ℕ, ◌<◌, ◌≤◌, Bool, true, false, cond, ◌&&◌, ⊎_elim, eqb}
+use Rattle.std.proofs.Common.{ltb, List, [], length, get_or, set, drop, ◌+◌, refl, sym, ap, ◌∙◌}
+use Rattle.std.proofs.Common.{arith, subst, get_or-set_other, get_or-set_same}
 use mathlib.Core.Path.{fun_ext}
 use Rattle.std.proofs.lemmas.Bool.{false≢true, eqb-true, eq-eqb, ltb-true, ltb-false, cases_eq}
 use Rattle.std.proofs.lemmas.List.{length-set, set-get_or, set_past, get_or_read, at_drop_more}
@@ -23,7 +25,10 @@ reg_written held memories n x lt =
     ap f (fun_ext (λ i. set_at held n x i lt (eqb i n) refl))
 
 -- one word of one memory
-cell_at : (mems : List (List ℕ)) (k a x j b : ℕ) → k < length mems → a < length (get_or mems k []) → (e : Bool) → eqb j k ≡ e → get_or (get_or (set mems k (set (get_or mems k []) a x)) j []) b 0 ≡ cond (e && eqb b a) x (get_or (get_or mems j []) b 0)
+cell_at : (mems : List (List ℕ)) (k a x j b : ℕ) → k < length mems
+    → a < length (get_or mems k []) → (e : Bool) → eqb j k ≡ e
+    → get_or (get_or (set mems k (set (get_or mems k []) a x)) j []) b 0 ≡ cond (e
+    && eqb b a) x (get_or (get_or mems j []) b 0)
 cell_at mems k a x j b hk ha true e =
     let q : j ≡ k = eqb-true j k e in
     ap (λ i. get_or (get_or (set mems k (set (get_or mems k []) a x)) i []) b 0) q
@@ -34,12 +39,18 @@ cell_at mems k a x j b hk ha false e =
     let q : j ≢ k = λ g. false≢true (sym e ∙ eq-eqb j k g) in
     ap (λ (l : List ℕ). get_or l b 0) (get_or-set_other mems k j (set (get_or mems k []) a x) [] q)
 
-within : (held : List ℕ) (mems : List (List ℕ)) (k a x : ℕ) → k < length mems → a < length (get_or mems k []) → contents_of held (set mems k (set (get_or mems k []) a x)) ≡ with_cell k a x (contents_of held mems)
+within : (held : List ℕ) (mems : List (List ℕ)) (k a x : ℕ) → k < length mems
+    → a < length (get_or mems k [])
+    → contents_of held (set mems k (set (get_or mems k []) a x)) ≡ with_cell k a x
+    (contents_of held mems)
 within held mems k a x hk ha =
     let f : (ℕ → ℕ → ℕ) → Contents = λ g. record { regs = λ n. get_or held n 0; cells = g } in
     ap f (fun_ext (λ j. fun_ext (λ b. cell_at mems k a x j b hk ha (eqb j k) refl)))
 
-pub cell_written : (m : Module) (held : List ℕ) (mems : List (List ℕ)) (k a x : ℕ) → k < length mems → HasDepths m mems → contents_of held (set mems k (set (get_or mems k []) a x)) ≡ cond (ltb a (depth_of m k)) (with_cell k a x (contents_of held mems)) (contents_of held mems)
+pub cell_written : (m : Module) (held : List ℕ) (mems : List (List ℕ)) (k a x : ℕ)
+    → k < length mems → HasDepths m mems
+    → contents_of held (set mems k (set (get_or mems k []) a x)) ≡ cond (ltb a (depth_of m k))
+    (with_cell k a x (contents_of held mems)) (contents_of held mems)
 cell_written m held mems k a x hk depths = by_test (ltb a (depth_of m k)) refl
   where
     by_test : (b : Bool) → ltb a (depth_of m k) ≡ b → contents_of held (set mems k (set (get_or mems k []) a x)) ≡ cond b (with_cell k a x (contents_of held mems)) (contents_of held mems)

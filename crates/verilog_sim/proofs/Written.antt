@@ -28,7 +28,9 @@ written_all values (g ∷ gs) lt apart = (
   written_all (set values g.0 g.1) gs (subst (λ (k : ℕ). Every (λ (h : ℕ × ℕ). h.0 < k) gs) (sym (length-set values g.0 g.1)) lt.1) apart.1,
 )
 
-pub written_fits : (w : ℕ → ℕ) (values : List ℕ) (gs : List (ℕ × ℕ)) → ((n : ℕ) → get_or values n 0 < 2 ^ w n) → Every (λ (g : ℕ × ℕ). g.0 < length values) gs → Every (λ (g : ℕ × ℕ). g.1 < 2 ^ w g.0) gs → (n : ℕ) → get_or (written values gs) n 0 < 2 ^ w n
+pub written_fits : (w : ℕ → ℕ) (values : List ℕ) (gs : List (ℕ × ℕ))
+    → ((n : ℕ) → get_or values n 0 < 2 ^ w n) → Every (λ (g : ℕ × ℕ). g.0 < length values) gs
+    → Every (λ (g : ℕ × ℕ). g.1 < 2 ^ w g.0) gs → (n : ℕ) → get_or (written values gs) n 0 < 2 ^ w n
 written_fits w values [] old lt fit n = old n
 written_fits w values (g ∷ gs) old lt fit n =
     written_fits w (set values g.0 g.1) gs now (subst (λ (k : ℕ). Every (λ (h : ℕ × ℕ). h.0 < k) gs) (sym (length-set values g.0 g.1)) lt.1) fit.1 n

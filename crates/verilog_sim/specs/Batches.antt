@@ -9,7 +9,11 @@ use Rattle.verilog_sim.specs.declared.line.Step.TheVariants.{Copy, Not, Add, Sub
 use Rattle.verilog_sim.specs.declared.line.Line.{Line}
 use Rattle.verilog_sim.specs.declared.batch.Entry.{Entry}
 use Rattle.verilog_sim.specs.declared.batch.Batch.{Batch}
-use Rattle.verilog_sim.specs.declared.batch.Batch.TheVariants.{General, Aliases, Complements, Sums, Differences, Products, Conjunctions, Disjunctions, ExclusiveOrs, Equalities, Orders, Concatenations, PartSelects, Choices, MemoryReads}
+use Rattle.verilog_sim.specs.declared.batch.Batch.TheVariants.{General, Aliases, Complements, Sums}
+use Rattle.verilog_sim.specs.declared.batch.Batch.TheVariants.{Differences, Products, Conjunctions}
+use Rattle.verilog_sim.specs.declared.batch.Batch.TheVariants.{Disjunctions, ExclusiveOrs}
+use Rattle.verilog_sim.specs.declared.batch.Batch.TheVariants.{Equalities, Orders, Concatenations}
+use Rattle.verilog_sim.specs.declared.batch.Batch.TheVariants.{PartSelects, Choices, MemoryReads}
 
 -- the line of an entry, where its operation is this step
 abbrev pub line_of : {R : Type 0} → (R → Step) → Entry R → Line

@@ -20,7 +20,8 @@ pub record IsLiteralAt (assigns : List Assign) (n x : ℕ) : Type 0 where
 -- each net that one of the first so many assignments gives a literal has the word of one, and all others have what they had
 pub record AreLiteralsSet (assigns : List Assign) (old new : List ℕ) (count : ℕ) : Type 0 where
   pub size : length new ≡ length old
-  pub each : (k : ℕ) (a : Assign) (x : Word) → k < count → slice_get assigns k ≡ Some a → a.expr ≡ Literal x → IsLiteralAt assigns a.target (slice_index new a.target)
+  pub each : (k : ℕ) (a : Assign) (x : Word) → k < count → slice_get assigns k ≡ Some a
+      → a.expr ≡ Literal x → IsLiteralAt assigns a.target (slice_index new a.target)
   pub others : (n : ℕ) → (slice_index new n ≡ slice_index old n) ⊎ IsLiteralAt assigns n (slice_index new n)
 
 -- the words of registers and of literals, and 0 at all others

@@ -23,7 +23,13 @@ pub record IsCopied (m n : Module) : Type 0 where
 
 -- where a module stands after it became a part of m in place of the instance with this number
 abbrev pub place_of : ℕ → Module → Module → Place
-place_of instance m inner = record { instance = instance; first_net = length m.nets; nets = length inner.nets; first_mem = length m.mems; mems = length inner.mems }
+place_of instance m inner = record {
+  instance = instance;
+  first_net = length m.nets;
+  nets = length inner.nets;
+  first_mem = length m.mems;
+  mems = length inner.mems;
+}
 
 -- the last instance of m, which is of this module, became a part of n
 pub record IsJoined (d : Design) (m : Module) (s : Place) (n : Module) : Type 0 where

@@ -1,5 +1,7 @@
 -- What a line of the list computes, and when it is safe.
-use Rattle.std.specs.Prelude.{◌≡◌, Bool, true, false, ℕ, zero, suc, ◌+◌, ◌-◌, ◌*◌, ◌/◌, ◌%◌, ◌^◌, ◌<◌, ◌≤◌, List, [], if◌then◌else◌, nat_eq, nat_lt, slice_index, slice_index_or, bit_and, bit_or, bit_xor}
+use Rattle.std.specs.Prelude.{◌≡◌, Bool, true, false, ℕ, zero, suc, ◌+◌, ◌-◌, ◌*◌, ◌/◌, ◌%◌, ◌^◌}
+use Rattle.std.specs.Prelude.{◌<◌, ◌≤◌, List, [], if◌then◌else◌, nat_eq, nat_lt, slice_index}
+use Rattle.std.specs.Prelude.{slice_index_or, bit_and, bit_or, bit_xor}
 use Rattle.rtl_ir.specs.Value.{quotient}
 use Rattle.verilog_sim.specs.declared.line.Step.{Step}
 use Rattle.verilog_sim.specs.declared.line.Step.TheVariants.{Copy, Literal, Not, Add, Sub, Mul, Div, And, Or, Xor, Eq, Lt, Concat, Repeat, Part, Choose, Cell}

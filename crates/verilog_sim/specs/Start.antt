@@ -1,5 +1,7 @@
 -- What a simulator holds before its first call, and how much there is of it.
-use Rattle.std.specs.Prelude.{Option, Some, None, nat_lt, ◌≡◌, ℕ, ◌+◌, ◌-◌, ◌^◌, ◌%◌, ◌<◌, min, true, if◌then◌else◌, List, [], ◌∷◌, ◌++◌, length, slice_index, replicate, sum_by}
+use Rattle.std.specs.Prelude.{Option, Some, None, nat_lt, ◌≡◌, ℕ, ◌+◌, ◌-◌, ◌^◌, ◌%◌, ◌<◌, min}
+use Rattle.std.specs.Prelude.{true, if◌then◌else◌, List, [], ◌∷◌, ◌++◌, length, slice_index}
+use Rattle.std.specs.Prelude.{replicate, sum_by}
 use Rattle.rtl_ir.specs.declared.design.Net.{Net}
 use Rattle.rtl_ir.specs.declared.design.Mem.{Mem}
 use Rattle.rtl_ir.specs.declared.design.Instance.{Instance}

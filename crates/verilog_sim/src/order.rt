@@ -7,7 +7,9 @@ ghost use Rattle.verilog_sim.specs.Drivers.{AreDrivers, IsGathered};
 ghost use Rattle.rtl_ir.specs.declared.design.Port.{Port};
 ghost use Rattle.rtl_ir.specs.declared.design.Update.{Update};
 ghost use Rattle.verilog_sim.specs.Feeding;
-ghost use Rattle.verilog_sim.specs.Feeding.{is_marked, AreMarkedFrom, AreReadsMarked, IsFeeding, marked_of, IsSeen, ArePortsIn, AreNetsBelow, AreNetsMarked, AreOrders};
+ghost use Rattle.verilog_sim.specs.Feeding.{is_marked, AreMarkedFrom, AreReadsMarked, IsFeeding};
+ghost use Rattle.verilog_sim.specs.Feeding.{marked_of, IsSeen, ArePortsIn, AreNetsBelow};
+ghost use Rattle.verilog_sim.specs.Feeding.{AreNetsMarked, AreOrders};
 
 use crate::level::by_level;
 use digraph::{Found, Row, rank};

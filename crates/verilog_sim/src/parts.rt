@@ -4,7 +4,9 @@ ghost use Rattle.rtl_ir.specs.declared.design.Assign.{Assign};
 ghost use Rattle.rtl_ir.specs.declared.design.Update.{Update};
 ghost use Rattle.rtl_ir.specs.declared.design.Instance.{Instance};
 ghost use Rattle.rtl_ir.specs.declared.design.Port.{Port};
-ghost use Rattle.verilog_sim.specs.Moved.{bare_net, bare_mem, moved_assign as assign_of, moved_update as update_of, moved_instance as instance_of, joins_of, IsAssignMovable, IsUpdateMovable};
+ghost use Rattle.verilog_sim.specs.Moved.{bare_net, bare_mem, moved_assign as assign_of};
+ghost use Rattle.verilog_sim.specs.Moved.{moved_update as update_of, moved_instance as instance_of};
+ghost use Rattle.verilog_sim.specs.Moved.{joins_of, IsAssignMovable, IsUpdateMovable};
 
 use crate::moved::{First, joined, moved_assign, moved_net, moved_update};
 use mx_base::{List, NoMemory, Text};

@@ -1,5 +1,7 @@
 -- How many digits a printed number has at most.
-use Rattle.std.proofs.Common.{◌≡◌, ℕ, zero, suc, ◌+◌, ◌*◌, ◌/◌, ◌%◌, ◌^◌, ◌<◌, ◌≤◌, Bool, true, false, [], ◌∷◌, ◌++◌, length, refl, ltb, arith, length-append, if◌then◌else◌, div-lt_iff_lt-mul, pow-suc, pow_mono, ap}
+use Rattle.std.proofs.Common.{◌≡◌, ℕ, zero, suc, ◌+◌, ◌*◌, ◌/◌, ◌%◌, ◌^◌, ◌<◌, ◌≤◌, Bool, true}
+use Rattle.std.proofs.Common.{false, [], ◌∷◌, ◌++◌, length, refl, ltb, arith, length-append}
+use Rattle.std.proofs.Common.{if◌then◌else◌, div-lt_iff_lt-mul, pow-suc, pow_mono, ap}
 use Rattle.std.proofs.Math.Nat.{pow-zero}
 use Rattle.std.proofs.lemmas.Bool.{ltb-false}
 use Rattle.verilog_print.specs.Printed.{digit_byte, digits_from, digits}

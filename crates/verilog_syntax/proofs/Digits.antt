@@ -34,7 +34,9 @@ after_none : (front : List ℕ) → list_all (is_in NotApostrophe) front ≡ tru
 after_none [] h = refl
 after_none (x ∷ xs) h = let (a, b) = and_true (not (x == 39)) _ h in after_later is_quote x xs (unquoted x a) ∙ after_none xs b
 
-pub digits_are : (bytes front rest : List ℕ) → bytes ≡ front ++ rest → list_all (is_in NotApostrophe) front ≡ true → BeginsOutside NotApostrophe rest → hex_digits (after_first is_quote bytes) ≡ drop 2 rest
+pub digits_are : (bytes front rest : List ℕ) → bytes ≡ front ++ rest
+    → list_all (is_in NotApostrophe) front ≡ true → BeginsOutside NotApostrophe rest
+    → hex_digits (after_first is_quote bytes) ≡ drop 2 rest
 digits_are bytes front [] e h o = ap (λ l. hex_digits (after_first is_quote l)) (e ∙ append-nil front) ∙ ap hex_digits (after_none front h)
 digits_are bytes front (c ∷ []) e h o = ap (λ l. hex_digits (after_first is_quote l)) e ∙ ap hex_digits (parts_at is_quote (is_in NotApostrophe) unquoted front c [] h (quote_is c o)).after
 digits_are bytes front (c ∷ d ∷ ds) e h o = ap (λ l. hex_digits (after_first is_quote l)) e ∙ ap hex_digits (parts_at is_quote (is_in NotApostrophe) unquoted front c (d ∷ ds) h (quote_is c o)).after

@@ -254,7 +254,9 @@ no_literal (Token.Literal w v ∷ ts) e t back f n g h =
     let q : n.value ≡ v = cc in
     e (subst (λ x. IsTree LiteralOf (record { width = w; value = x })) q (subst (λ x. IsTree LiteralOf (record { width = x; value = n.value })) p h))
 
-literal_only : {below : List Part} {w v : ℕ} {b : SizedNumber} {u : List Token} → Starts Is Choice (Literal b.width b.value ∷ below) (Token.Literal w v ∷ u) → (b ≡ record { width = w; value = v }) × Starts Is Choice below u
+literal_only : {below : List Part} {w v : ℕ} {b : SizedNumber} {u : List Token}
+    → Starts Is Choice (Literal b.width b.value ∷ below) (Token.Literal w v ∷ u)
+    → (b ≡ record { width = w; value = v }) × Starts Is Choice below u
 literal_only {w = w} {v = v} {b = b} (Starts.eat i st) =
     let p : b.width ≡ w = cc in
     let q : b.value ≡ v = cc in

@@ -9,8 +9,15 @@ use Rattle.verilog_syntax.specs.declared.keyword.Keyword.TheVariants as words
 use Rattle.verilog_syntax.specs.declared.mark.Mark.TheVariants as marks
 use Rattle.verilog_syntax.proofs.Fronts.{front_is}
 use Rattle.verilog_syntax.proofs.Plans.{Left, Refuses, either, done, begin, take_left, take_right}
-use Rattle.verilog_syntax.proofs.Productions.{port_plans, input_plan, output_plan, expr_plans, complement_plan, braces_plan, named_plan, literal_plan, item_plans, wire_plan, storage_plan, assign_plan, always_plan, instance_plan, choose_plan, index_plan}
-use Rattle.verilog_syntax.proofs.Refusals.{other, no_piece, neither, not_name, no_sign_at, name_not_literal, sign_no_name, sign_not_literal, word_no_name, goes_on, signed, no_other_sign, not_question, not_bracket}
+use Rattle.verilog_syntax.proofs.Productions.{port_plans, input_plan, output_plan, expr_plans}
+use Rattle.verilog_syntax.proofs.Productions.{complement_plan, braces_plan, named_plan}
+use Rattle.verilog_syntax.proofs.Productions.{literal_plan, item_plans, wire_plan, storage_plan}
+use Rattle.verilog_syntax.proofs.Productions.{assign_plan, always_plan, instance_plan, choose_plan}
+use Rattle.verilog_syntax.proofs.Productions.{index_plan}
+use Rattle.verilog_syntax.proofs.Refusals.{other, no_piece, neither, not_name, no_sign_at}
+use Rattle.verilog_syntax.proofs.Refusals.{name_not_literal, sign_no_name, sign_not_literal}
+use Rattle.verilog_syntax.proofs.Refusals.{word_no_name, goes_on, signed, no_other_sign}
+use Rattle.verilog_syntax.proofs.Refusals.{not_question, not_bracket}
 
 heads : {t u : Token} {ts us : List Token} → t ∷ ts ≡ u ∷ us → t ≡ u
 heads e = cc
@@ -21,18 +28,24 @@ module _ (ys : List Token) where
   pub complement_left : begins_with (piece_token (Sign marks.Tilde)) ys ≡ true → Left ExprOf complement_plan ys ys
   complement_left e =
       let f = front_is (Sign marks.Tilde) ys e in
-      take_left (begin expr_plans ys) (neither (no_piece (Sign marks.OpenBrace) (other (Sign marks.Tilde) (Sign marks.OpenBrace) ys e refl)) (neither (not_name (sign_no_name ys _ f)) (sign_not_literal _ f)))
+      take_left (begin expr_plans ys) (neither (no_piece (Sign marks.OpenBrace)
+      (other (Sign marks.Tilde) (Sign marks.OpenBrace) ys e refl))
+      (neither (not_name (sign_no_name ys _ f)) (sign_not_literal _ f)))
 
   pub braces_left : begins_with (piece_token (Sign marks.OpenBrace)) ys ≡ true → Left ExprOf braces_plan ys ys
   braces_left e =
       let f = front_is (Sign marks.OpenBrace) ys e in
-      take_left (take_right (begin expr_plans ys) (no_piece (Sign marks.Tilde) (other (Sign marks.OpenBrace) (Sign marks.Tilde) ys e refl))) (neither (not_name (sign_no_name ys _ f)) (sign_not_literal _ f))
+      take_left (take_right (begin expr_plans ys) (no_piece (Sign marks.Tilde)
+      (other (Sign marks.OpenBrace) (Sign marks.Tilde) ys e refl)))
+      (neither (not_name (sign_no_name ys _ f)) (sign_not_literal _ f))
 
   pub named_left : is_some (name_at ys) ≡ true → Left ExprOf named_plan ys ys
   named_left e =
       take_left (take_right (take_right (begin expr_plans ys) (no_piece (Sign marks.Tilde) (no_sign_at ys _ e))) (no_piece (Sign marks.OpenBrace) (no_sign_at ys _ e))) (name_not_literal e)
 
-  pub literal_left : begins_with (piece_token (Sign marks.Tilde)) ys ≡ false → begins_with (piece_token (Sign marks.OpenBrace)) ys ≡ false → is_some (name_at ys) ≡ false → Left ExprOf literal_plan ys ys
+  pub literal_left : begins_with (piece_token (Sign marks.Tilde)) ys ≡ false
+      → begins_with (piece_token (Sign marks.OpenBrace)) ys ≡ false
+      → is_some (name_at ys) ≡ false → Left ExprOf literal_plan ys ys
   literal_left e f g = take_right (take_right (take_right (begin expr_plans ys) (no_piece (Sign marks.Tilde) e)) (no_piece (Sign marks.OpenBrace) f)) (not_name g)
 
   -- ports
@@ -48,30 +61,45 @@ module _ (ys : List Token) where
   pub wire_left : begins_with (piece_token (Word words.Wire)) ys ≡ true → Left ItemOf wire_plan ys ys
   wire_left e =
       let f = front_is (Word words.Wire) ys e in
-      take_left (begin item_plans ys) (neither (no_piece (Word words.Reg) (other (Word words.Wire) (Word words.Reg) ys e refl)) (neither (no_piece (Word words.Assign) (other (Word words.Wire) (Word words.Assign) ys e refl))
+      take_left (begin item_plans ys) (neither (no_piece (Word words.Reg)
+      (other (Word words.Wire) (Word words.Reg) ys e refl))
+      (neither (no_piece (Word words.Assign) (other (Word words.Wire)
+      (Word words.Assign) ys e refl))
       (neither (no_piece (Word words.Always) (other (Word words.Wire) (Word words.Always) ys e refl)) (not_name (word_no_name ys _ f refl)))))
 
   pub storage_left : begins_with (piece_token (Word words.Reg)) ys ≡ true → Left ItemOf storage_plan ys ys
   storage_left e =
       let f = front_is (Word words.Reg) ys e in
-      take_left (take_right (begin item_plans ys) (no_piece (Word words.Wire) (other (Word words.Reg) (Word words.Wire) ys e refl))) (neither (no_piece (Word words.Assign) (other (Word words.Reg) (Word words.Assign) ys e refl))
+      take_left (take_right (begin item_plans ys) (no_piece (Word words.Wire)
+      (other (Word words.Reg) (Word words.Wire) ys e refl)))
+      (neither (no_piece (Word words.Assign) (other (Word words.Reg)
+      (Word words.Assign) ys e refl))
       (neither (no_piece (Word words.Always) (other (Word words.Reg) (Word words.Always) ys e refl)) (not_name (word_no_name ys _ f refl))))
 
   pub assign_left : begins_with (piece_token (Word words.Assign)) ys ≡ true → Left ItemOf assign_plan ys ys
   assign_left e =
       let f = front_is (Word words.Assign) ys e in
-      take_left (take_right (take_right (begin item_plans ys) (no_piece (Word words.Wire) (other (Word words.Assign) (Word words.Wire) ys e refl))) (no_piece (Word words.Reg) (other (Word words.Assign) (Word words.Reg) ys e refl)))
+      take_left (take_right (take_right (begin item_plans ys)
+      (no_piece (Word words.Wire) (other (Word words.Assign) (Word words.Wire) ys e refl)))
+      (no_piece (Word words.Reg) (other (Word words.Assign) (Word words.Reg) ys e refl)))
       (neither (no_piece (Word words.Always) (other (Word words.Assign) (Word words.Always) ys e refl)) (not_name (word_no_name ys _ f refl)))
 
   pub always_left : begins_with (piece_token (Word words.Always)) ys ≡ true → Left ItemOf always_plan ys ys
   always_left e =
       let f = front_is (Word words.Always) ys e in
-      take_left (take_right (take_right (take_right (begin item_plans ys) (no_piece (Word words.Wire) (other (Word words.Always) (Word words.Wire) ys e refl))) (no_piece (Word words.Reg) (other (Word words.Always) (Word words.Reg) ys e refl)))
+      take_left (take_right (take_right (take_right (begin item_plans ys)
+      (no_piece (Word words.Wire) (other (Word words.Always) (Word words.Wire) ys e refl)))
+      (no_piece (Word words.Reg) (other (Word words.Always) (Word words.Reg) ys e refl)))
       (no_piece (Word words.Assign) (other (Word words.Always) (Word words.Assign) ys e refl))) (not_name (word_no_name ys _ f refl))
 
-  pub instance_left : begins_with (piece_token (Word words.Wire)) ys ≡ false → begins_with (piece_token (Word words.Reg)) ys ≡ false → begins_with (piece_token (Word words.Assign)) ys ≡ false → begins_with (piece_token (Word words.Always)) ys ≡ false → Left ItemOf instance_plan ys ys
+  pub instance_left : begins_with (piece_token (Word words.Wire)) ys ≡ false
+      → begins_with (piece_token (Word words.Reg)) ys ≡ false
+      → begins_with (piece_token (Word words.Assign)) ys ≡ false
+      → begins_with (piece_token (Word words.Always)) ys ≡ false → Left ItemOf instance_plan ys ys
   instance_left e f g h =
-      take_right (take_right (take_right (take_right (begin item_plans ys) (no_piece (Word words.Wire) e)) (no_piece (Word words.Reg) f)) (no_piece (Word words.Assign) g)) (no_piece (Word words.Always) h)
+      take_right (take_right (take_right (take_right (begin item_plans ys)
+      (no_piece (Word words.Wire) e)) (no_piece (Word words.Reg) f))
+      (no_piece (Word words.Assign) g)) (no_piece (Word words.Always) h)
 
   -- what may stand behind the first name of an expression
 

@@ -8,7 +8,12 @@ use Rattle.rtl_ir.specs.declared.design.Sign.TheVariants.{Add}
 use Rattle.rtl_text.specs.Tokens.{Token}
 use Rattle.rtl_text.specs.Tree.{PlainTree, InputPort, RegisterUpdate, WireItem}
 use Rattle.rtl_text.specs.Productions.{Part, Is, Choice}
-use Rattle.verilog_syntax.specs.Parsing.{Symbol, NameOf, NumberTo, LiteralOf, OperatorOf, RangeOf, PortOf, PortsOf, MorePortsOf, ExprOf, UpdateOf, UpdatesOf, ConnectionOf, ConnectionsOf, MoreConnectionsOf, ItemOf, ItemsOf, ModuleOf, ModulesOf, FileOf, TreeOf, part, IsTree, GoesOn, Ends, ended, end_token, Reads, Stops, ReadsAll, StopsAll}
+use Rattle.verilog_syntax.specs.Parsing.{Symbol, NameOf, NumberTo, LiteralOf, OperatorOf, RangeOf}
+use Rattle.verilog_syntax.specs.Parsing.{PortOf, PortsOf, MorePortsOf, ExprOf, UpdateOf, UpdatesOf}
+use Rattle.verilog_syntax.specs.Parsing.{ConnectionOf, ConnectionsOf, MoreConnectionsOf, ItemOf}
+use Rattle.verilog_syntax.specs.Parsing.{ItemsOf, ModuleOf, ModulesOf, FileOf, TreeOf, part, IsTree}
+use Rattle.verilog_syntax.specs.Parsing.{GoesOn, Ends, ended, end_token, Reads, Stops, ReadsAll}
+use Rattle.verilog_syntax.specs.Parsing.{StopsAll}
 
 pub data Plan (V : Type 0) : Type 0 where
   done : V → Plan V  -- nothing more: the tree
@@ -144,11 +149,16 @@ module _ {s : Symbol} {xs ys zs : List Token} where
     derives = λ x u d. assoc_derives l.taken r.read u (l.derives (a, r.valid, x) (r.read ++ u) (joined Is Choice r.derived d));
   }
     where
-      step : (w : TreeOf s) (below : List Part) → Ends s below → (u back : List Token) → (u ≡ [] → ⊥) → ended zs ≡ u ++ back → (x : Path (read q k)) → w ≡ value (read q k) x → Starts Is Choice (stack (read q k) x ++ below) (r.read ++ u)
+      step : (w : TreeOf s) (below : List Part) → Ends s below → (u back : List Token)
+          → (u ≡ [] → ⊥) → ended zs ≡ u ++ back → (x : Path (read q k)) → w ≡ value (read q k) x
+          → Starts Is Choice (stack (read q k) x ++ below) (r.read ++ u)
           → (x : Path (k a)) × (w ≡ value (k a) x) × Starts Is Choice (stack (k a) x ++ below) u
       step w below e u back n f (b, v, x) g t =
           let (same, t) = r.only b v (stack (k b) x ++ below) (ends b x below e) u back n f t in
-          subst (λ c. (x : Path (k c)) → w ≡ value (k c) x → Starts Is Choice (stack (k c) x ++ below) u → (x : Path (k a)) × (w ≡ value (k a) x) × Starts Is Choice (stack (k a) x ++ below) u) (sym same) (λ x g t. (x, g, t)) x g t
+          subst (λ c. (x : Path (k c)) → w ≡ value (k c) x
+          → Starts Is Choice (stack (k c) x ++ below) u → (x : Path (k a))
+          × (w ≡ value (k a) x) × Starts Is Choice (stack (k a) x
+          ++ below) u) (sym same) (λ x g t. (x, g, t)) x g t
 
   pub pass : {ps : List Part} {k : Plan (TreeOf s)} → Left s (fixed ps k) xs ys → ReadsAll ps ys zs → Left s k xs zs
   pass {ps = ps} {k = k} l r = record {
@@ -158,7 +168,10 @@ module _ {s : Symbol} {xs ys zs : List Token} where
     only = λ w below e u back n f st.
         let (x, g, t) = l.only w below e (r.read ++ u) back (some_more r.read u n) (ended_behind zs r.read u back r.split f) (assoc_back l.taken r.read u st) in
         (x, g, r.only (stack k x ++ below) u back n f (subst (λ ls. Starts Is Choice ls (r.read ++ u)) (append_assoc ps (stack k x) below) t));
-    begins = λ x below u st. assoc_starts l.taken r.read u (l.begins x below (r.read ++ u) (subst (λ ls. Starts Is Choice ls (r.read ++ u)) (sym (append_assoc ps (stack k x) below)) (starts_then Is Choice (stack k x ++ below) u r.derived st)));
+    begins = λ x below u st. assoc_starts l.taken r.read u (l.begins x below (r.read
+        ++ u) (subst (λ ls. Starts Is Choice ls (r.read
+        ++ u)) (sym (append_assoc ps (stack k x) below)) (starts_then Is Choice (stack k x
+        ++ below) u r.derived st)));
     derives = λ x u d. assoc_derives l.taken r.read u (l.derives x (r.read ++ u) (joined Is Choice r.derived d));
   }
 
@@ -219,7 +232,9 @@ module _ {s : Symbol} {p q : Plan (TreeOf s)} {xs ys : List Token} where
     derives = λ x u d. l.derives (inl x) u d;
   }
     where
-      chosen : (w : TreeOf s) (below : List Part) → Ends s below → (u back : List Token) → (u ≡ [] → ⊥) → ended ys ≡ u ++ back → (x : Path (either p q)) → w ≡ value (either p q) x → Starts Is Choice (stack (either p q) x ++ below) u
+      chosen : (w : TreeOf s) (below : List Part) → Ends s below → (u back : List Token)
+          → (u ≡ [] → ⊥) → ended ys ≡ u ++ back → (x : Path (either p q))
+          → w ≡ value (either p q) x → Starts Is Choice (stack (either p q) x ++ below) u
           → (x : Path p) × (w ≡ value p x) × Starts Is Choice (stack p x ++ below) u
       chosen w below e u back n f (inl x) g st = (x, g, st)
       chosen w below e u back n f (inr x) g st =
@@ -236,7 +251,9 @@ module _ {s : Symbol} {p q : Plan (TreeOf s)} {xs ys : List Token} where
     derives = λ x u d. l.derives (inr x) u d;
   }
     where
-      chosen : (w : TreeOf s) (below : List Part) → Ends s below → (u back : List Token) → (u ≡ [] → ⊥) → ended ys ≡ u ++ back → (x : Path (either p q)) → w ≡ value (either p q) x → Starts Is Choice (stack (either p q) x ++ below) u
+      chosen : (w : TreeOf s) (below : List Part) → Ends s below → (u back : List Token)
+          → (u ≡ [] → ⊥) → ended ys ≡ u ++ back → (x : Path (either p q))
+          → w ≡ value (either p q) x → Starts Is Choice (stack (either p q) x ++ below) u
           → (x : Path q) × (w ≡ value q x) × Starts Is Choice (stack q x ++ below) u
       chosen w below e u back n f (inr x) g st = (x, g, st)
       chosen w below e u back n f (inl x) g st =
@@ -280,7 +297,10 @@ module _ {s q m : Symbol} {front : List Part} {add : TreeOf m → TreeOf q → T
   }
     where
       one_more : (w : TreeOf s) (below : List Part) → Ends s below → (u back : List Token) → (u ≡ [] → ⊥) → ended ys ≡ u ++ back → (v : TreeOf q) → w ≡ f v → Starts Is Choice (part q v ∷ below) u
-          → (x : Path (fixed front (read m (λ a. read q (λ w. done (f (add a w))))))) × (w ≡ value (fixed front (read m (λ a. read q (λ w. done (f (add a w)))))) x) × Starts Is Choice (stack (fixed front (read m (λ a. read q (λ w. done (f (add a w)))))) x ++ below) u
+          → (x : Path (fixed front (read m (λ a. read q (λ w. done (f (add a w)))))))
+          × (w ≡ value (fixed front (read m (λ a. read q (λ w. done (f (add a w)))))) x)
+          × Starts Is Choice (stack (fixed front (read m
+          (λ a. read q (λ w. done (f (add a w)))))) x ++ below) u
       one_more w below e u back n h v k Starts.end = absurd (n refl)
       one_more w below e u back n h v k (Starts.eat i st) = absurd (g.no_token v _ i)
       one_more w below e u back n h v k (Starts.pick qs c st) =
@@ -315,7 +335,18 @@ module _ {s q m : Symbol} {front : List Part} {add : TreeOf m → TreeOf q → T
             | inr z ↦ (
                 let (a, b, same, split) = z in
                 let (t, t', eq, h) = first_is (ended ys) u back n h in
-                absurd (r.none (a, g.all_items a, (b, g.all b, tt)) below (ends below e) t t' (t' ++ back) h (subst (λ l. Starts Is Choice ((front ++ (part m a ∷ part q b ∷ [])) ++ below) l) eq (subst (λ l. Starts Is Choice (l ++ below) u) split st))))
+                absurd (r.none (
+                  a,
+                  g.all_items a,
+                  (
+                    b,
+                    g.all b,
+                    tt,
+                  ),
+                ) below (ends below e) t t' (t'
+                ++ back) h (subst (λ l. Starts Is Choice ((front
+                ++ (part m a ∷ part q b ∷ [])) ++ below) l) eq
+                (subst (λ l. Starts Is Choice (l ++ below) u) split st))))
           ]
 
 -- another word for the tree

@@ -1,8 +1,17 @@
 -- The productions as plans.
 use Rattle.std.proofs.Common.{◌≡◌, ◌⊎◌, inl, inr, ℕ, ◌+◌, ◌-◌, ◌≤◌, List, [], ◌∷◌, ◌++◌, refl, ap, subst, arith, codes}
-use Rattle.rtl_text.specs.Tree.{Name, PortTree, InputPort, OutputPort, ExprTree, PlainTree, LiteralTree, NotTree, BinaryTree, ConcatTree, RepeatTree, PartTree, ChooseTree, CellTree, UpdateTree, RegisterUpdate, CellUpdate, Connection, ItemTree, WireItem, RegisterItem, MemoryItem, AssignItem, AlwaysItem, InstanceItem, ModuleTree}
-use Rattle.rtl_text.specs.Productions.{Part, Sign_, Reserved, Clock, Number, Id, Range, Port, Ports, MorePorts, Expr, Update, Updates, Connected, Connections, MoreConnections, Item, Items, Module, Modules, File, Choice}
-use Rattle.verilog_syntax.specs.Parsing.{NameOf, NumberTo, LiteralOf, OperatorOf, RangeOf, PortOf, PortsOf, MorePortsOf, ExprOf, UpdateOf, UpdatesOf, ConnectionOf, ConnectionsOf, MoreConnectionsOf, ItemOf, ItemsOf, ModuleOf, ModulesOf, FileOf}
+use Rattle.rtl_text.specs.Tree.{Name, PortTree, InputPort, OutputPort, ExprTree, PlainTree}
+use Rattle.rtl_text.specs.Tree.{LiteralTree, NotTree, BinaryTree, ConcatTree, RepeatTree, PartTree}
+use Rattle.rtl_text.specs.Tree.{ChooseTree, CellTree, UpdateTree, RegisterUpdate, CellUpdate}
+use Rattle.rtl_text.specs.Tree.{Connection, ItemTree, WireItem, RegisterItem, MemoryItem}
+use Rattle.rtl_text.specs.Tree.{AssignItem, AlwaysItem, InstanceItem, ModuleTree}
+use Rattle.rtl_text.specs.Productions.{Part, Sign_, Reserved, Clock, Number, Id, Range, Port, Ports}
+use Rattle.rtl_text.specs.Productions.{MorePorts, Expr, Update, Updates, Connected, Connections}
+use Rattle.rtl_text.specs.Productions.{MoreConnections, Item, Items, Module, Modules, File, Choice}
+use Rattle.verilog_syntax.specs.Parsing.{NameOf, NumberTo, LiteralOf, OperatorOf, RangeOf, PortOf}
+use Rattle.verilog_syntax.specs.Parsing.{PortsOf, MorePortsOf, ExprOf, UpdateOf, UpdatesOf}
+use Rattle.verilog_syntax.specs.Parsing.{ConnectionOf, ConnectionsOf, MoreConnectionsOf, ItemOf}
+use Rattle.verilog_syntax.specs.Parsing.{ItemsOf, ModuleOf, ModulesOf, FileOf}
 use Rattle.verilog_syntax.proofs.Plans.{Plan, done, read, fixed, either, Path, value, stack, Plans, Repeats}
 
 -- ranges and ports
@@ -124,7 +133,9 @@ abbrev pub write_register_plan : Name → Name → Plan UpdateTree
 write_register_plan e r = fixed (Sign_ (codes "<=") ∷ []) (read NameOf (λ v. fixed (Sign_ (codes ";") ∷ []) (done (RegisterUpdate e r v))))
 
 abbrev pub write_cell_plan : Name → Name → Plan UpdateTree
-write_cell_plan e m = fixed (Sign_ (codes "[") ∷ []) (read NameOf (λ a. fixed (Sign_ (codes "]") ∷ Sign_ (codes "<=") ∷ []) (read NameOf (λ v. fixed (Sign_ (codes ";") ∷ []) (done (CellUpdate e m a v))))))
+write_cell_plan e m = fixed (Sign_ (codes "[") ∷ []) (read NameOf (λ a. fixed (Sign_ (codes "]")
+    ∷ Sign_ (codes "<=") ∷ []) (read NameOf (λ v. fixed (Sign_ (codes ";")
+    ∷ []) (done (CellUpdate e m a v))))))
 
 abbrev pub update_plan : Plan UpdateTree
 update_plan = fixed (Reserved (codes "if") ∷ Sign_ (codes "(") ∷ []) (read NameOf (λ e. fixed (Sign_ (codes ")") ∷ []) (read NameOf (λ r. either (write_register_plan e r) (write_cell_plan e r)))))
@@ -140,7 +151,9 @@ update_to w ps (Choice.update_cell {enable = e} {name = m} {address = a} {value 
 pub update_plans : Plans UpdateOf update_plan
 update_plans = record { all = λ w. tt; from = update_from; to = update_to; no_token = λ w t i. i }
 
-pub updates_cases : (w : List UpdateTree) (ps : List Part) → Choice (Updates w) ps → ((w ≡ []) × (ps ≡ [])) ⊎ ((a : UpdateTree) × (v : List UpdateTree) × (w ≡ a ∷ v) × (ps ≡ [] ++ (Update a ∷ Updates v ∷ [])))
+pub updates_cases : (w : List UpdateTree) (ps : List Part) → Choice (Updates w) ps
+    → ((w ≡ []) × (ps ≡ [])) ⊎ ((a : UpdateTree) × (v : List UpdateTree) × (w ≡ a ∷ v)
+    × (ps ≡ [] ++ (Update a ∷ Updates v ∷ [])))
 updates_cases w ps Choice.no_updates = inl (refl, refl)
 updates_cases w ps (Choice.more_updates {u = u} {us = us}) = inr (u, us, refl, refl)
 
@@ -173,7 +186,15 @@ more_connections_cases w ps Choice.no_more_connections = inl (refl, refl)
 more_connections_cases w ps (Choice.more_connections {c = c} {cs = cs}) = inr (c, cs, refl, refl)
 
 abbrev pub more_connections : Repeats MoreConnectionsOf ConnectionOf (Sign_ (codes ",") ∷ []) (λ a w. a ∷ w)
-more_connections = record { no_token = λ w t i. i; all = λ w. tt; all_items = λ w. tt; end = []; none = Choice.no_more_connections; more = λ a w. Choice.more_connections; cases = more_connections_cases }
+more_connections = record {
+  no_token = λ w t i. i;
+  all = λ w. tt;
+  all_items = λ w. tt;
+  end = [];
+  none = Choice.no_more_connections;
+  more = λ a w. Choice.more_connections;
+  cases = more_connections_cases;
+}
 
 -- items
 
@@ -198,10 +219,15 @@ instance_plan = read NameOf (λ m. read NameOf (λ n. fixed (Sign_ (codes "(") �
 abbrev pub item_plan : Plan ItemTree
 item_plan = either wire_plan (either storage_plan (either assign_plan (either always_plan instance_plan)))
 
-memory_from : (w : ℕ) (n : Name) (m : ℕ) → m ≤ 268435455 → Choice (Item (MemoryItem w n (m + 1))) (Reserved (codes "reg") ∷ Range w ∷ Id n ∷ Sign_ (codes "[") ∷ Number 0 ∷ Sign_ (codes ":") ∷ Number m ∷ Sign_ (codes "]") ∷ Sign_ (codes ";") ∷ [])
+memory_from : (w : ℕ) (n : Name) (m : ℕ) → m ≤ 268435455
+    → Choice (Item (MemoryItem w n (m + 1))) (Reserved (codes "reg") ∷ Range w ∷ Id n
+    ∷ Sign_ (codes "[") ∷ Number 0 ∷ Sign_ (codes ":") ∷ Number m ∷ Sign_ (codes "]")
+    ∷ Sign_ (codes ";") ∷ [])
 memory_from w n m h =
     let same : m + 1 - 1 ≡ m = omega arith in
-    subst (λ k. Choice (Item (MemoryItem w n (m + 1))) (Reserved (codes "reg") ∷ Range w ∷ Id n ∷ Sign_ (codes "[") ∷ Number 0 ∷ Sign_ (codes ":") ∷ Number k ∷ Sign_ (codes "]") ∷ Sign_ (codes ";") ∷ [])) same
+    subst (λ k. Choice (Item (MemoryItem w n (m + 1))) (Reserved (codes "reg") ∷ Range w ∷ Id n
+    ∷ Sign_ (codes "[") ∷ Number 0 ∷ Sign_ (codes ":") ∷ Number k ∷ Sign_ (codes "]")
+    ∷ Sign_ (codes ";") ∷ [])) same
     (Choice.memory {w = w} {n = m + 1} {name = n} (omega arith, omega arith))
 
 item_from : (x : Path item_plan) → Choice (Item (value item_plan x)) (stack item_plan x)
@@ -236,7 +262,10 @@ items = record { no_token = λ w t i. i; all = λ w. tt; all_items = λ w. tt; e
 -- modules
 
 abbrev pub module_plan : Plan ModuleTree
-module_plan = fixed (Reserved (codes "module") ∷ []) (read NameOf (λ n. fixed (Sign_ (codes "(") ∷ []) (read PortsOf (λ ps. fixed (Sign_ (codes ")") ∷ Sign_ (codes ";") ∷ []) (read ItemsOf (λ is. fixed (Reserved (codes "endmodule") ∷ []) (done (record { name = n; ports = ps; items = is }))))))))
+module_plan = fixed (Reserved (codes "module") ∷ []) (read NameOf (λ n. fixed (Sign_ (codes "(")
+    ∷ []) (read PortsOf (λ ps. fixed (Sign_ (codes ")") ∷ Sign_ (codes ";")
+    ∷ []) (read ItemsOf (λ is. fixed (Reserved (codes "endmodule")
+    ∷ []) (done (record { name = n; ports = ps; items = is }))))))))
 
 module_to : (w : ModuleTree) (ps : List Part) → Choice (Module w) ps → (x : Path module_plan) × (w ≡ value module_plan x) × (ps ≡ stack module_plan x)
 module_to w ps (Choice.module' {name = n} {ports = p} {items = is}) = ((n, tt, (p, tt, (is, tt, tt))), refl, refl)
@@ -253,7 +282,9 @@ file_to w ps (Choice.file {m = m} {ms = ms}) = ((m, tt, (ms, tt, tt)), refl, ref
 pub file_plans : Plans FileOf file_plan
 file_plans = record { all = λ w. tt; from = λ x. Choice.file; to = file_to; no_token = λ w t i. i }
 
-pub modules_cases : (w : List ModuleTree) (ps : List Part) → Choice (Modules w) ps → ((w ≡ []) × (ps ≡ [])) ⊎ ((a : ModuleTree) × (v : List ModuleTree) × (w ≡ a ∷ v) × (ps ≡ [] ++ (Module a ∷ Modules v ∷ [])))
+pub modules_cases : (w : List ModuleTree) (ps : List Part) → Choice (Modules w) ps
+    → ((w ≡ []) × (ps ≡ [])) ⊎ ((a : ModuleTree) × (v : List ModuleTree) × (w ≡ a ∷ v)
+    × (ps ≡ [] ++ (Module a ∷ Modules v ∷ [])))
 modules_cases w ps Choice.no_modules = inl (refl, refl)
 modules_cases w ps (Choice.more_modules {m = m} {ms = ms}) = inr (m, ms, refl, refl)
 

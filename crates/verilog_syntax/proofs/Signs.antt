@@ -8,7 +8,11 @@ use Rattle.rtl_text.specs.Tokens.{Token, token_of, is_hex_part, is_quote, is_sig
 use Rattle.rtl_ir.specs.Names.{begins_name, continues_name}
 use Rattle.rtl_ir.specs.declared.design.Sign.TheVariants.{Add, Sub, Mul, Div, And, Or, Xor, Eq, Lt}
 use Rattle.verilog_syntax.specs.declared.mark.Mark.{Mark}
-use Rattle.verilog_syntax.specs.declared.mark.Mark.TheVariants.{Open, Close, OpenBracket, CloseBracket, OpenBrace, CloseBrace, Semicolon, Colon, Comma, Dot, At, Question, Assign, LessEqual, Tilde, Operator}
+use Rattle.verilog_syntax.specs.declared.mark.Mark.TheVariants.{Open, Close, OpenBracket}
+use Rattle.verilog_syntax.specs.declared.mark.Mark.TheVariants.{CloseBracket, OpenBrace, CloseBrace}
+use Rattle.verilog_syntax.specs.declared.mark.Mark.TheVariants.{Semicolon, Colon, Comma, Dot, At}
+use Rattle.verilog_syntax.specs.declared.mark.Mark.TheVariants.{Question, Assign, LessEqual, Tilde}
+use Rattle.verilog_syntax.specs.declared.mark.Mark.TheVariants.{Operator}
 use Rattle.text_scan.specs.Classes.{BeginsOutside}
 use Rattle.text_scan.specs.declared.bytes.ByteClass.TheVariants.{WordOrDollar, Digit, Hex}
 use Rattle.rtl_text.specs.Tokens.{Apart, BeginsStar}
@@ -20,7 +24,9 @@ use Rattle.verilog_syntax.proofs.Words.{start_is_name, token_of_word, no_longer_
 
 -- words
 
-pub word_taken : (text front rest : List ℕ) → BeginsNoGap text → starts_name text ≡ true → text ≡ front ++ rest → list_all continues_name front ≡ true → BeginsOutside WordOrDollar rest → Takes text (Token.Word front) rest
+pub word_taken : (text front rest : List ℕ) → BeginsNoGap text → starts_name text ≡ true
+    → text ≡ front ++ rest → list_all continues_name front ≡ true
+    → BeginsOutside WordOrDollar rest → Takes text (Token.Word front) rest
 word_taken text [] [] gap h e a o = absurd (clash (sym (ap starts_name e) ∙ h) refl)
 word_taken text [] (y ∷ rest) gap h e a o = absurd (clash (start_is_name y (sym (ap starts_name e) ∙ h)) o)
 word_taken text (b ∷ bs) rest gap h e a o =
@@ -32,7 +38,9 @@ word_taken text (b ∷ bs) rest gap h e a o =
 
 -- numbers
 
-pub number_taken : (text front rest : List ℕ) → BeginsNoGap text → begins_number text ≡ true → text ≡ front ++ rest → list_all is_digit front ≡ true → BeginsOutside Digit rest → begins_hex_part rest ≡ false → Takes text (Token.Number (decimal_value front)) rest
+pub number_taken : (text front rest : List ℕ) → BeginsNoGap text → begins_number text ≡ true
+    → text ≡ front ++ rest → list_all is_digit front ≡ true → BeginsOutside Digit rest
+    → begins_hex_part rest ≡ false → Takes text (Token.Number (decimal_value front)) rest
 number_taken text [] [] gap h e a o x = absurd (clash (sym (ap begins_number e) ∙ h) refl)
 number_taken text [] (y ∷ rest) gap h e a o x = absurd (clash (sym (ap begins_number e) ∙ h) o)
 number_taken text (b ∷ bs) rest gap h e a o x = taken (b ∷ bs) rest e gap (token_of_number (b ∷ bs) a) longer tt
@@ -53,7 +61,10 @@ number_taken text (b ∷ bs) rest gap h e a o x = taken (b ∷ bs) rest e gap (t
       | inr q ↦ none_some _ (no_longer_number b bs c cs a (subst (BeginsOutside Digit) f o) q) s
     ]
 
-pub literal_taken : (text front behind hs rest : List ℕ) → BeginsNoGap text → begins_number text ≡ true → text ≡ front ++ behind → list_all is_digit front ≡ true → BeginsOutside Digit behind → behind ≡ 39 ∷ hs ++ rest → is_hex_part hs ≡ true → BeginsOutside Hex rest
+pub literal_taken : (text front behind hs rest : List ℕ) → BeginsNoGap text
+    → begins_number text ≡ true → text ≡ front ++ behind → list_all is_digit front ≡ true
+    → BeginsOutside Digit behind → behind ≡ 39 ∷ hs ++ rest → is_hex_part hs ≡ true
+    → BeginsOutside Hex rest
     → (word : List ℕ) → text ≡ word ++ rest → Takes text (Token.Literal (literal_width word) (literal_value word)) rest
 literal_taken text [] [] hs rest gap h e a o f p q word w = absurd (clash (sym (ap begins_number e) ∙ h) refl)
 literal_taken text [] (y ∷ behind) hs rest gap h e a o f p q word w = absurd (clash (sym (ap begins_number e) ∙ h) o)
@@ -102,7 +113,9 @@ some_sign b bs n d s = elim (true_or_false (is_sign (b ∷ bs))) [
 sign_is : (b : ℕ) (bs : List ℕ) → begins_name b ≡ false → is_digit b ≡ false → is_sign (b ∷ bs) ≡ true → token_of (b ∷ bs) ≡ Some (Token.Sign (b ∷ bs))
 sign_is b bs n d s = sign_alone b bs n d ∙ (rw s refl)
 
-pub double_taken : (text rest : List ℕ) (b : ℕ) → BeginsNoGap text → text ≡ b ∷ 61 ∷ rest → is_sign (b ∷ 61 ∷ []) ≡ true → begins_name b ≡ false → is_digit b ≡ false → Takes text (Token.Sign (b ∷ 61 ∷ [])) rest
+pub double_taken : (text rest : List ℕ) (b : ℕ) → BeginsNoGap text → text ≡ b ∷ 61 ∷ rest
+    → is_sign (b ∷ 61 ∷ []) ≡ true → begins_name b ≡ false → is_digit b ≡ false
+    → Takes text (Token.Sign (b ∷ 61 ∷ [])) rest
 double_taken text rest b gap e h n d = taken (b ∷ 61 ∷ []) rest e gap (sign_is b (61 ∷ []) n d h) (λ c cs back f s. longer c cs (sign_long b 61 (c ∷ cs) (some_sign b (61 ∷ c ∷ cs) n d s)).1) apart
   where
     longer : (c : ℕ) (cs : List ℕ) → c ∷ cs ≡ [] → ⊥

@@ -60,7 +60,9 @@ first_bad {xs = xs} {ys = ys} r =
       within = omega (arith, ap length r.split, length-append r.read ys);
       start = File r.tree;
       starts = (r.tree, refl);
-      begun = subst (λ l. Begins Is Choice (File r.tree) (take (length r.read) l)) (sym r.split) (subst (λ l. Begins Is Choice (File r.tree) l) (sym (take-append_seam r.read ys)) (begins_from_starts Is Choice r.begun));
+      begun = subst (λ l. Begins Is Choice (File r.tree) (take (length r.read) l)) (sym r.split)
+          (subst (λ l. Begins Is Choice (File r.tree) l) (sym (take-append_seam r.read ys))
+          (begins_from_starts Is Choice r.begun));
       bad = λ h p f b. at ys refl h p f b;
       none = λ p f d. over ys refl p f d;
     })
@@ -72,7 +74,9 @@ first_bad {xs = xs} {ys = ys} r =
     at [] e h p f b = absurd (omega (arith, ap length r.split, ap length e, length-append r.read ys))
     at (t ∷ rest) e h p (trees, f) b =
         let n : length r.read + 1 ≡ length (r.read ++ t ∷ []) = sym (length-append r.read (t ∷ [])) in
-        let front : take (length r.read + 1) xs ≡ r.read ++ t ∷ [] = ap (λ k. take k xs) n ∙ ap (λ l. take (length (r.read ++ t ∷ [])) l) (behind t rest e) ∙ take-append_seam (r.read ++ t ∷ []) rest in
+        let front : take (length r.read + 1) xs ≡ r.read ++ t
+        ∷ [] = ap (λ k. take k xs) n ∙ ap (λ l. take (length (r.read ++ t
+        ∷ [])) l) (behind t rest e) ∙ take-append_seam (r.read ++ t ∷ []) rest in
         r.bad t rest e trees (subst (λ l. Starts Is Choice (File trees ∷ []) l) front (starts_from_begins Is Choice [] (subst (λ q. Begins Is Choice q (take (length r.read + 1) xs)) f b)))
 
     over : (zs : List Token) → ys ≡ zs → (p : Part) → IsFile p → Derives Is Choice (p ∷ []) xs → ⊥

@@ -117,7 +117,9 @@ hex_part_ends (h ∷ d ∷ ds) c cs p e = not_true _ (λ t. clash (and_true (is_
 -- digits and then a byte that is neither a digit nor a quote
 pub no_longer_number : (b : ℕ) (bs : List ℕ) (c : ℕ) (cs : List ℕ) → list_all is_digit (b ∷ bs) ≡ true → is_digit c ≡ false → is_quote c ≡ false → token_of (b ∷ bs ++ c ∷ cs) ≡ None
 no_longer_number b bs c cs d e q =
-    let before : before_first is_quote (b ∷ bs ++ c ∷ cs) ≡ b ∷ bs ++ c ∷ before_first is_quote cs = before_more is_quote is_digit digit_is_no_quote (b ∷ bs) (c ∷ cs) d ∙ ap (λ l. b ∷ bs ++ l) (before_later is_quote c cs q) in
+    let before : before_first is_quote (b ∷ bs ++ c ∷ cs) ≡ b ∷ bs ++ c
+    ∷ before_first is_quote cs = before_more is_quote is_digit digit_is_no_quote (b ∷ bs) (c
+    ∷ cs) d ∙ ap (λ l. b ∷ bs ++ l) (before_later is_quote c cs q) in
     let literal : is_literal (b ∷ bs ++ c ∷ cs) ≡ false = not_true _ (λ t. clash (sym (ap is_number before) ∙ (and_true _ _ t).0) (number_ends b bs c (before_first is_quote cs) e)) in
     token_behind b bs c cs d e ∙ (rw literal refl)
 

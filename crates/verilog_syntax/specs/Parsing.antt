@@ -6,7 +6,10 @@ use Rattle.rtl_ir.specs.declared.design.Sign.{Sign}
 use Rattle.rtl_text.specs.Tokens.{Token}
 use Rattle.rtl_ir.specs.Names.{is_reserved}
 use Rattle.rtl_text.specs.Tree.{Name, PortTree, ExprTree, UpdateTree, Connection, ItemTree, ModuleTree}
-use Rattle.rtl_text.specs.Productions.{Part, Sign_, Id, Number, Literal, File, Modules, Module, Ports, MorePorts, Port, Range, Items, Item, Updates, Update, Connections, MoreConnections, Connected, Expr, Is, Choice, IsWidth}
+use Rattle.rtl_text.specs.Productions.{Part, Sign_, Id, Number, Literal, File, Modules, Module}
+use Rattle.rtl_text.specs.Productions.{Ports, MorePorts, Port, Range, Items, Item, Updates, Update}
+use Rattle.rtl_text.specs.Productions.{Connections, MoreConnections, Connected, Expr, Is, Choice}
+use Rattle.rtl_text.specs.Productions.{IsWidth}
 use Rattle.rtl_ir.specs.Spelling.{sign_bytes}
 
 -- a part without its tree
@@ -122,7 +125,9 @@ pub record Reads (s : Symbol) (xs ys : List Token) (a : TreeOf s) : Type 0 where
   pub split : xs ≡ read ++ ys
   pub valid : IsTree s a
   pub derived : Derives Is Choice (part s a ∷ []) read
-  pub only : (b : TreeOf s) → IsTree s b → (below : List Part) → Ends s below → (u back : List Token) → (u ≡ [] → ⊥) → ended ys ≡ u ++ back → Starts Is Choice (part s b ∷ below) (read ++ u) → (b ≡ a) × Starts Is Choice below u
+  pub only : (b : TreeOf s) → IsTree s b → (below : List Part) → Ends s below
+      → (u back : List Token) → (u ≡ [] → ⊥) → ended ys ≡ u ++ back
+      → Starts Is Choice (part s b ∷ below) (read ++ u) → (b ≡ a) × Starts Is Choice below u
 
 -- The first token of ys is the first with which xs begins no such part and what may stand behind it. Where ys is empty the tokens are
 -- too few.
@@ -132,14 +137,17 @@ pub record Stops (s : Symbol) (xs ys : List Token) : Type 0 where
   pub tree : TreeOf s
   pub valid : IsTree s tree
   pub begun : (below : List Part) → Starts Is Choice (part s tree ∷ below) read
-  pub bad : (t : Token) (back : List Token) → ended ys ≡ t ∷ back → (b : TreeOf s) → IsTree s b → (below : List Part) → Ends s below → Starts Is Choice (part s b ∷ below) (read ++ t ∷ []) → ⊥
+  pub bad : (t : Token) (back : List Token) → ended ys ≡ t ∷ back → (b : TreeOf s) → IsTree s b
+      → (below : List Part) → Ends s below → Starts Is Choice (part s b ∷ below) (read ++ t
+      ∷ []) → ⊥
 
 -- the same of parts that have no trees
 pub record ReadsAll (ps : List Part) (xs ys : List Token) : Type 0 where
   pub read : List Token
   pub split : xs ≡ read ++ ys
   pub derived : Derives Is Choice ps read
-  pub only : (below : List Part) (u back : List Token) → (u ≡ [] → ⊥) → ended ys ≡ u ++ back → Starts Is Choice (ps ++ below) (read ++ u) → Starts Is Choice below u
+  pub only : (below : List Part) (u back : List Token) → (u ≡ [] → ⊥) → ended ys ≡ u ++ back
+      → Starts Is Choice (ps ++ below) (read ++ u) → Starts Is Choice below u
 
 pub record StopsAll (ps : List Part) (xs ys : List Token) : Type 0 where
   pub read : List Token

@@ -9,7 +9,11 @@ use Rattle.std.specs.List.{before_first, after_first}
 use Rattle.text_scan.specs.Places as places
 use Rattle.text_scan.specs.Gaps.{BeginsNoGap}
 use Rattle.verilog_syntax.specs.declared.mark.Mark.{Mark}
-use Rattle.verilog_syntax.specs.declared.mark.Mark.TheVariants.{Open, Close, OpenBracket, CloseBracket, OpenBrace, CloseBrace, Semicolon, Colon, Comma, Dot, At, Question, Assign, LessEqual, Tilde, Operator}
+use Rattle.verilog_syntax.specs.declared.mark.Mark.TheVariants.{Open, Close, OpenBracket}
+use Rattle.verilog_syntax.specs.declared.mark.Mark.TheVariants.{CloseBracket, OpenBrace, CloseBrace}
+use Rattle.verilog_syntax.specs.declared.mark.Mark.TheVariants.{Semicolon, Colon, Comma, Dot, At}
+use Rattle.verilog_syntax.specs.declared.mark.Mark.TheVariants.{Question, Assign, LessEqual, Tilde}
+use Rattle.verilog_syntax.specs.declared.mark.Mark.TheVariants.{Operator}
 use Rattle.verilog_syntax.specs.declared.token.Token.{Token as Read}
 use Rattle.verilog_syntax.specs.declared.token.Token.TheVariants.{Word, Number, Literal, Sign as MarkOf}
 use Rattle.verilog_syntax.specs.declared.token.Placed.{Placed}

@@ -5,7 +5,9 @@ ghost use Rattle.std.specs.Str.{bytes_eq};
 ghost use Rattle.rtl_ir.specs.Names as names;
 ghost use Rattle.rtl_text.specs.Tokens as tokens;
 ghost use Rattle.verilog_syntax.specs.Parsing.{Reads, ReadsAll, NameOf, NumberTo, LiteralOf, OperatorOf};
-ghost use Rattle.verilog_syntax.specs.Pieces.{piece_part, piece_token, begins_with, same_token, name_at, number_at, operator_at, BeginsLiteral, BeginsNoLiteral};
+ghost use Rattle.verilog_syntax.specs.Pieces.{piece_part, piece_token, begins_with, same_token};
+ghost use Rattle.verilog_syntax.specs.Pieces.{name_at, number_at, operator_at, BeginsLiteral};
+ghost use Rattle.verilog_syntax.specs.Pieces.{BeginsNoLiteral};
 ghost use Rattle.verilog_syntax.specs.Scanning.{token_view};
 ghost use Rattle.verilog_syntax.specs.Trees.{left, word_view, FailsAt, FailsAllAt};
 
@@ -160,7 +162,9 @@ impl<'t, 'a> Parser<'t, 'a> {
 
     /// Reads these tokens.
     pub fn expect(&mut self, pieces: &[Piece]) -> Result<(), Fault>
-        ensures exact { MatchResult result (λ _. ReadsAll (map piece_part pieces.now) (left self.old) (left self.new)) (λ f. FailsAllAt (map piece_part pieces.now) f (left self.old) (left self.new)) }
+        ensures exact { MatchResult result (λ _. ReadsAll (map piece_part pieces.now)
+            (left self.old) (left self.new)) (λ f. FailsAllAt (map piece_part pieces.now) f
+            (left self.old) (left self.new)) }
         ensures fewer { IfOk result (λ _. length (left self.new) + length pieces.now ≡ length (left self.old)) }
     {
         for piece in pieces {
@@ -174,7 +178,8 @@ impl<'t, 'a> Parser<'t, 'a> {
 
     /// Reads a name.
     pub fn name(&mut self) -> Result<&'a [u8], Fault>
-        ensures exact { MatchResult result (λ name. Reads NameOf (left self.old) (left self.new) name.now) (λ f. FailsAt NameOf f (left self.old) (left self.new)) }
+        ensures exact { MatchResult result (λ name. Reads NameOf (left self.old)
+            (left self.new) name.now) (λ f. FailsAt NameOf f (left self.old) (left self.new)) }
         ensures fewer { IfOk result (λ _. length (left self.new) < length (left self.old)) }
     {
         match self.next_name() {
@@ -188,7 +193,8 @@ impl<'t, 'a> Parser<'t, 'a> {
 
     /// Reads a number that is at most `limit`.
     pub fn number(&mut self, limit: u32) -> Result<u32, Fault>
-        ensures exact { MatchResult result (λ n. Reads (NumberTo limit) (left self.old) (left self.new) n) (λ f. FailsAt (NumberTo limit) f (left self.old) (left self.new)) }
+        ensures exact { MatchResult result (λ n. Reads (NumberTo limit) (left self.old)
+            (left self.new) n) (λ f. FailsAt (NumberTo limit) f (left self.old) (left self.new)) }
         ensures fewer { IfOk result (λ _. length (left self.new) < length (left self.old)) }
         ensures within { IfOk result (λ n. n ≤ limit) }
     {
@@ -203,7 +209,8 @@ impl<'t, 'a> Parser<'t, 'a> {
 
     /// Reads a literal.
     pub fn literal(&mut self) -> Result<Word, Fault>
-        ensures exact { MatchResult result (λ w. Reads LiteralOf (left self.old) (left self.new) (word_view w)) (λ f. FailsAt LiteralOf f (left self.old) (left self.new)) }
+        ensures exact { MatchResult result (λ w. Reads LiteralOf (left self.old) (left self.new)
+            (word_view w)) (λ f. FailsAt LiteralOf f (left self.old) (left self.new)) }
         ensures fewer { IfOk result (λ _. length (left self.new) < length (left self.old)) }
     {
         match self.next_literal() {
@@ -217,7 +224,8 @@ impl<'t, 'a> Parser<'t, 'a> {
 
     /// Reads an operator of two operands.
     pub fn operator(&mut self) -> Result<Sign, Fault>
-        ensures exact { MatchResult result (λ s. Reads OperatorOf (left self.old) (left self.new) s) (λ f. FailsAt OperatorOf f (left self.old) (left self.new)) }
+        ensures exact { MatchResult result (λ s. Reads OperatorOf (left self.old)
+            (left self.new) s) (λ f. FailsAt OperatorOf f (left self.old) (left self.new)) }
         ensures fewer { IfOk result (λ _. length (left self.new) < length (left self.old)) }
     {
         match self.next_operator() {

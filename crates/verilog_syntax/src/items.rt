@@ -87,7 +87,9 @@ impl<'t, 'a> Parser<'t, 'a> {
     }
 
     fn connection(&mut self) -> Result<Connection<'a>, Fault>
-        ensures exact { MatchResult result (λ c. Reads ConnectionOf (left self.old) (left self.new) (connection_view c)) (λ f. FailsAt ConnectionOf f (left self.old) (left self.new)) }
+        ensures exact { MatchResult result (λ c. Reads ConnectionOf (left self.old)
+            (left self.new) (connection_view c)) (λ f. FailsAt ConnectionOf f (left self.old)
+            (left self.new)) }
         ensures fewer { IfOk result (λ _. length (left self.new) < length (left self.old)) }
     {
         self.expect(&[Piece::Sign(Mark::Dot)])?;
@@ -100,7 +102,9 @@ impl<'t, 'a> Parser<'t, 'a> {
 
     /// Reads one connection or more, with commas between them.
     fn connections(&mut self, alloc: Global) -> Result<List<Connection<'a>>, Fault>
-        ensures exact { MatchResult result (λ cs. Reads ConnectionsOf (left self.old) (left self.new) (map connection_view cs)) (λ f. FailsAt ConnectionsOf f (left self.old) (left self.new)) }
+        ensures exact { MatchResult result (λ cs. Reads ConnectionsOf (left self.old)
+            (left self.new) (map connection_view cs)) (λ f. FailsAt ConnectionsOf f
+            (left self.old) (left self.new)) }
         ensures fewer { IfOk result (λ _. length (left self.new) < length (left self.old)) }
     {
         let mut connections = List::new(alloc);
@@ -162,7 +166,8 @@ impl<'t, 'a> Parser<'t, 'a> {
 
     /// Reads items up to a token that begins none.
     pub fn items(&mut self, alloc: Global) -> Result<List<ItemTree<'a>>, Fault>
-        ensures exact { MatchResult result (λ is. Reads ItemsOf (left self.old) (left self.new) (map item_view is)) (λ f. FailsAt ItemsOf f (left self.old) (left self.new)) }
+        ensures exact { MatchResult result (λ is. Reads ItemsOf (left self.old) (left self.new)
+            (map item_view is)) (λ f. FailsAt ItemsOf f (left self.old) (left self.new)) }
         ensures fewer { IfOk result (λ _. length (left self.new) ≤ length (left self.old)) }
     {
         let mut items = List::new(alloc);

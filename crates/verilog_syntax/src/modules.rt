@@ -27,7 +27,8 @@ pub enum ParseError {
 
 impl<'t, 'a> Parser<'t, 'a> {
     fn module(&mut self, alloc: Global) -> Result<ModuleTree<'a>, Fault>
-        ensures exact { MatchResult result (λ m. Reads ModuleOf (left self.old) (left self.new) (module_view m)) (λ f. FailsAt ModuleOf f (left self.old) (left self.new)) }
+        ensures exact { MatchResult result (λ m. Reads ModuleOf (left self.old) (left self.new)
+            (module_view m)) (λ f. FailsAt ModuleOf f (left self.old) (left self.new)) }
         ensures fewer { IfOk result (λ _. length (left self.new) < length (left self.old)) }
     {
         self.expect(&[Piece::Word(Keyword::Module)])?;
@@ -42,7 +43,8 @@ impl<'t, 'a> Parser<'t, 'a> {
 
     /// Reads one module or more, up to a token that begins none.
     fn file(&mut self, alloc: Global) -> Result<List<ModuleTree<'a>>, Fault>
-        ensures { MatchResult result (λ ms. Reads FileOf (left self.old) (left self.new) (map module_view ms)) (λ f. FailsAt FileOf f (left self.old) (left self.new)) }
+        ensures { MatchResult result (λ ms. Reads FileOf (left self.old) (left self.new)
+            (map module_view ms)) (λ f. FailsAt FileOf f (left self.old) (left self.new)) }
     {
         let mut modules = List::new(alloc);
         let first = self.module(alloc)?;

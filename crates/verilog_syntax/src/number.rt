@@ -67,7 +67,8 @@ fn behind_quote(part: &[u8]) -> &[u8]
 
 /// The word that a literal says, where its width is 1 to 128 and its value fits.
 pub fn literal(bytes: &[u8]) -> Option<Word>
-    ensures { MatchOption result (IsLiteral bytes.now → ⊥) (λ w. IsLiteral bytes.now × (w.width ≡ literal_width bytes.now) × (w.bits ≡ literal_value bytes.now)) }
+    ensures { MatchOption result (IsLiteral bytes.now → ⊥) (λ w. IsLiteral bytes.now
+        × (w.width ≡ literal_width bytes.now) × (w.bits ≡ literal_value bytes.now)) }
 {
     let split = split_front(bytes, ByteClass::NotApostrophe);
     let width = match decimal(split.front, 128) {

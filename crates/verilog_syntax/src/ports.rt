@@ -31,7 +31,8 @@ impl<'t, 'a> Parser<'t, 'a> {
 
     fn input(&mut self) -> Result<PortTree<'a>, Fault>
         requires { begins_with (piece_token (pieces.Word words.Output)) (left self.old) ≡ false }
-        ensures exact { MatchResult result (λ p. Reads PortOf (left self.old) (left self.new) (port_view p)) (λ f. FailsAt PortOf f (left self.old) (left self.new)) }
+        ensures exact { MatchResult result (λ p. Reads PortOf (left self.old) (left self.new)
+            (port_view p)) (λ f. FailsAt PortOf f (left self.old) (left self.new)) }
         ensures fewer { IfOk result (λ _. length (left self.new) < length (left self.old)) }
     {
         self.expect(&[Piece::Word(Keyword::Input), Piece::Word(Keyword::Wire)])?;
@@ -42,7 +43,8 @@ impl<'t, 'a> Parser<'t, 'a> {
 
     fn output(&mut self) -> Result<PortTree<'a>, Fault>
         requires { begins_with (piece_token (pieces.Word words.Output)) (left self.old) ≡ true }
-        ensures exact { MatchResult result (λ p. Reads PortOf (left self.old) (left self.new) (port_view p)) (λ f. FailsAt PortOf f (left self.old) (left self.new)) }
+        ensures exact { MatchResult result (λ p. Reads PortOf (left self.old) (left self.new)
+            (port_view p)) (λ f. FailsAt PortOf f (left self.old) (left self.new)) }
         ensures fewer { IfOk result (λ _. length (left self.new) < length (left self.old)) }
     {
         self.expect(&[Piece::Word(Keyword::Output), Piece::Word(Keyword::Wire)])?;
@@ -52,7 +54,8 @@ impl<'t, 'a> Parser<'t, 'a> {
     }
 
     fn port(&mut self) -> Result<PortTree<'a>, Fault>
-        ensures exact { MatchResult result (λ p. Reads PortOf (left self.old) (left self.new) (port_view p)) (λ f. FailsAt PortOf f (left self.old) (left self.new)) }
+        ensures exact { MatchResult result (λ p. Reads PortOf (left self.old) (left self.new)
+            (port_view p)) (λ f. FailsAt PortOf f (left self.old) (left self.new)) }
         ensures fewer { IfOk result (λ _. length (left self.new) < length (left self.old)) }
     {
         if self.begins(Piece::Word(Keyword::Output)) {
@@ -64,7 +67,8 @@ impl<'t, 'a> Parser<'t, 'a> {
 
     /// Reads one port or more, with commas between them.
     pub fn ports(&mut self, alloc: Global) -> Result<List<PortTree<'a>>, Fault>
-        ensures exact { MatchResult result (λ ps. Reads PortsOf (left self.old) (left self.new) (map port_view ps)) (λ f. FailsAt PortsOf f (left self.old) (left self.new)) }
+        ensures exact { MatchResult result (λ ps. Reads PortsOf (left self.old) (left self.new)
+            (map port_view ps)) (λ f. FailsAt PortsOf f (left self.old) (left self.new)) }
         ensures fewer { IfOk result (λ _. length (left self.new) < length (left self.old)) }
     {
         let mut ports = List::new(alloc);

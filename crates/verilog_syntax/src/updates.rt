@@ -12,7 +12,8 @@ use std::alloc::Global;
 
 impl<'t, 'a> Parser<'t, 'a> {
     fn update(&mut self) -> Result<UpdateTree<'a>, Fault>
-        ensures exact { MatchResult result (λ u. Reads UpdateOf (left self.old) (left self.new) (update_view u)) (λ f. FailsAt UpdateOf f (left self.old) (left self.new)) }
+        ensures exact { MatchResult result (λ u. Reads UpdateOf (left self.old) (left self.new)
+            (update_view u)) (λ f. FailsAt UpdateOf f (left self.old) (left self.new)) }
         ensures fewer { IfOk result (λ _. length (left self.new) < length (left self.old)) }
     {
         self.expect(&[Piece::Word(Keyword::If), Piece::Sign(Mark::Open)])?;
@@ -38,7 +39,9 @@ impl<'t, 'a> Parser<'t, 'a> {
 
     /// Reads updates up to a token that begins none.
     pub fn updates(&mut self, alloc: Global) -> Result<List<UpdateTree<'a>>, Fault>
-        ensures exact { MatchResult result (λ us. Reads UpdatesOf (left self.old) (left self.new) (map update_view us)) (λ f. FailsAt UpdatesOf f (left self.old) (left self.new)) }
+        ensures exact { MatchResult result (λ us. Reads UpdatesOf (left self.old)
+            (left self.new) (map update_view us)) (λ f. FailsAt UpdatesOf f (left self.old)
+            (left self.new)) }
         ensures fewer { IfOk result (λ _. length (left self.new) ≤ length (left self.old)) }
     {
         let mut updates = List::new(alloc);

@@ -42,11 +42,20 @@ too_long bytes h =
 pub taken_line : (file piece : List ℕ) (lines : List (List ℕ)) (k p q n : ℕ) → length piece ≡ 33 → drop k lines ≡ lines_from [] (drop p file) → IsLineTaken file p q piece (Some n)
     → (line : List ℕ) × (slice_get lines k ≡ Some line) × (word_of line ≡ word_of (take n piece))
 taken_line file piece lines k p q n size left (inl taken) = (take n piece, item lines k _ _ (left ∙ taken), refl)
-taken_line file piece lines k p q n size left (inr taken) =
-    (take n piece ++ taken.1.0, item lines k _ _ (left ∙ taken.1.2), too_long (take n piece ++ taken.1.0) (grind (arith, common_steps, taken.0)) ∙ sym (too_long (take n piece) (grind (arith, common_steps, taken.0))))
+taken_line file piece lines k p q n size left (inr taken) = (
+  take n piece ++ taken.1.0,
+  item lines k _ _ (left ∙ taken.1.2),
+  too_long (take n piece ++ taken.1.0) (grind (
+    arith,
+    common_steps,
+    taken.0,
+  )) ∙ sym (too_long (take n piece) (grind (arith, common_steps, taken.0))),
+)
 
 -- and where they are a word, the next line is ahead
-pub taken_next : (file piece : List ℕ) (lines : List (List ℕ)) (k p q n v : ℕ) → length piece ≡ 33 → drop k lines ≡ lines_from [] (drop p file) → IsLineTaken file p q piece (Some n) → word_of (take n piece) ≡ Some v
+pub taken_next : (file piece : List ℕ) (lines : List (List ℕ)) (k p q n v : ℕ)
+    → length piece ≡ 33 → drop k lines ≡ lines_from [] (drop p file)
+    → IsLineTaken file p q piece (Some n) → word_of (take n piece) ≡ Some v
     → drop (k + 1) lines ≡ lines_from [] (drop q file)
 taken_next file piece lines k p q n v size left (inl taken) is = items_after lines k _ _ (left ∙ taken)
 taken_next file piece lines k p q n v size left (inr taken) is =

@@ -1,5 +1,7 @@
 -- Sets of names.
-use Rattle.std.proofs.Common.{◌≡◌, List, ℕ, [], ◌∷◌, ◌++◌, ◌||◌, ◌&&◌, ◌↔◌, IsTrue, not, Bor, Bool, true, false, cond, bytes_eq, nat_cmp, BTreeSet, suc, take, drop, length, get_or, map, ◌<◌, ◌+◌, add-one, sym, ap, ◌∙◌, refl}
+use Rattle.std.proofs.Common.{◌≡◌, List, ℕ, [], ◌∷◌, ◌++◌, ◌||◌, ◌&&◌, ◌↔◌, IsTrue, not, Bor, Bool}
+use Rattle.std.proofs.Common.{true, false, cond, bytes_eq, nat_cmp, BTreeSet, suc, take, drop}
+use Rattle.std.proofs.Common.{length, get_or, map, ◌<◌, ◌+◌, add-one, sym, ap, ◌∙◌, refl}
 use Rattle.std.specs.BTreeSet as sorted
 use Rattle.std.specs.Cmp.Lexicographic.{slice_cmp, nat_list_eq_equiv}
 use Rattle.std.specs.List.{list_any, list_all}
@@ -17,7 +19,9 @@ or_if true b = refl
 or_if false b = refl
 
 -- one more name
-pub one_more : (s n : BTreeSet (Bor (List ℕ))) (k : Bor (List ℕ)) (names : List (List ℕ)) → sorted.Updates (λ x y. slice_cmp nat_cmp x.now y.now) s n k true → HasKeys s names → HasKeys n (k.now ∷ names)
+pub one_more : (s n : BTreeSet (Bor (List ℕ))) (k : Bor (List ℕ)) (names : List (List ℕ))
+    → sorted.Updates (λ x y. slice_cmp nat_cmp x.now y.now) s n k true → HasKeys s names
+    → HasKeys n (k.now ∷ names)
 one_more s n k names u has q =
     u.0 q ∙ ap (λ b. cond b true (sorted.contains (λ x y. slice_cmp nat_cmp x.now y.now) s q)) (is_eq-slice_cmp k.now q.now ∙ nat_list_eq_equiv.symm k.now q.now)
     ∙ or_if (bytes_eq q.now k.now) (sorted.contains (λ x y. slice_cmp nat_cmp x.now y.now) s q) ∙ ap (λ b. bytes_eq q.now k.now || b) (has q)
@@ -29,7 +33,9 @@ or_comm false true = refl
 or_comm false false = refl
 
 -- the same where the new name stands last
-pub one_last : (s n : BTreeSet (Bor (List ℕ))) (k : Bor (List ℕ)) (names : List (List ℕ)) → sorted.Updates (λ x y. slice_cmp nat_cmp x.now y.now) s n k true → HasKeys s names → HasKeys n (names ++ k.now ∷ [])
+pub one_last : (s n : BTreeSet (Bor (List ℕ))) (k : Bor (List ℕ)) (names : List (List ℕ))
+    → sorted.Updates (λ x y. slice_cmp nat_cmp x.now y.now) s n k true → HasKeys s names
+    → HasKeys n (names ++ k.now ∷ [])
 one_last s n k names u has q =
     one_more s n k names u has q ∙ sym (list_any-append (bytes_eq q.now) names (k.now ∷ []) ∙ or_comm (list_any (bytes_eq q.now) names) (bytes_eq q.now k.now))
 
@@ -46,11 +52,15 @@ was_not_there true e = sym e
 was_not_there false e = refl
 
 -- a file that is taken is shared
-pub shared_here : (s : BTreeSet (Bor (List ℕ))) (k : Bor (List ℕ)) (names rest : List (List ℕ)) → HasKeys s names → not (sorted.contains (λ x y. slice_cmp nat_cmp x.now y.now) s k) ≡ false → is_shared names (k.now ∷ rest) ≡ true
+pub shared_here : (s : BTreeSet (Bor (List ℕ))) (k : Bor (List ℕ)) (names rest : List (List ℕ))
+    → HasKeys s names → not (sorted.contains (λ x y. slice_cmp nat_cmp x.now y.now) s k) ≡ false
+    → is_shared names (k.now ∷ rest) ≡ true
 shared_here s k names rest has e = ap (λ b. b || is_shared (k.now ∷ names) rest) (sym (has k) ∙ was_there _ e)
 
 -- a file that is not taken is taken from then on
-pub apart_here : (s : BTreeSet (Bor (List ℕ))) (k : Bor (List ℕ)) (names rest : List (List ℕ)) → HasKeys s names → not (sorted.contains (λ x y. slice_cmp nat_cmp x.now y.now) s k) ≡ true → is_shared names (k.now ∷ rest) ≡ is_shared (k.now ∷ names) rest
+pub apart_here : (s : BTreeSet (Bor (List ℕ))) (k : Bor (List ℕ)) (names rest : List (List ℕ))
+    → HasKeys s names → not (sorted.contains (λ x y. slice_cmp nat_cmp x.now y.now) s k) ≡ true
+    → is_shared names (k.now ∷ rest) ≡ is_shared (k.now ∷ names) rest
 apart_here s k names rest has e = ap (λ b. b || is_shared (k.now ∷ names) rest) (sym (has k) ∙ was_not_there _ e)
 
 -- what a function gives of the items up to one
@@ -71,7 +81,9 @@ is_same false true f g = g refl
 is_same false false f g = refl
 
 -- sets that are parts of each other have the same names
-pub same_names : (s t : BTreeSet (Bor (List ℕ))) (xs ys : List (List ℕ)) → HasKeys s xs → HasKeys t ys → sorted.IsSubset (λ x y. slice_cmp nat_cmp x.now y.now) s t → sorted.IsSubset (λ x y. slice_cmp nat_cmp x.now y.now) t s → SameNames xs ys
+pub same_names : (s t : BTreeSet (Bor (List ℕ))) (xs ys : List (List ℕ)) → HasKeys s xs
+    → HasKeys t ys → sorted.IsSubset (λ x y. slice_cmp nat_cmp x.now y.now) s t
+    → sorted.IsSubset (λ x y. slice_cmp nat_cmp x.now y.now) t s → SameNames xs ys
 unfolding at_name
 same_names s t xs ys h k f g name =
     is_same _ _
@@ -82,7 +94,11 @@ same_names s t xs ys h k f g name =
 pub is_part : (s t : BTreeSet (Bor (List ℕ))) (xs ys : List (List ℕ)) → HasKeys s xs → HasKeys t ys → SameNames xs ys → sorted.IsSubset (λ x y. slice_cmp nat_cmp x.now y.now) s t
 is_part s t xs ys h k e q there = k q ∙ sym (e q.now) ∙ sym (h q) ∙ there
 
-pub same_decides : (s t : BTreeSet (Bor (List ℕ))) (xs ys : List (List ℕ)) → HasKeys s xs → HasKeys t ys → (within around both : Bool) → IsTrue within ↔ sorted.IsSubset (λ x y. slice_cmp nat_cmp x.now y.now) s t → IsTrue around ↔ sorted.IsSubset (λ x y. slice_cmp nat_cmp x.now y.now) t s → both ≡ (within && around) → IsTrue both ↔ SameNames xs ys
+pub same_decides : (s t : BTreeSet (Bor (List ℕ))) (xs ys : List (List ℕ)) → HasKeys s xs
+    → HasKeys t ys → (within around both : Bool) → IsTrue within
+    ↔ sorted.IsSubset (λ x y. slice_cmp nat_cmp x.now y.now) s t → IsTrue around
+    ↔ sorted.IsSubset (λ x y. slice_cmp nat_cmp x.now y.now) t s → both ≡ (within && around)
+    → IsTrue both ↔ SameNames xs ys
 same_decides s t xs ys h k true around both f g e =
     (λ r. same_names s t xs ys h k (f.0 refl) (g.0 (sym e ∙ r)), λ n. e ∙ g.1 (is_part t s ys xs k h (λ name. sym (n name))))
 same_decides s t xs ys h k false around both f g e =

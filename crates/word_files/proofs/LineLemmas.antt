@@ -47,10 +47,17 @@ either false begun b ended going e g = (b ∷ g.0, g.1, g.2 ∙ ap (λ line. lin
 pub begins_with : (begun bs : List ℕ) → 0 < length begun → (more : List ℕ) × (others : List (List ℕ)) × (lines_from begun bs ≡ (begun ++ more) ∷ others)
 unfolding BeginsWith
 begins_with begun [] some = ([], [], line_at_end begun some ∙ ap (λ line. line ∷ []) (sym (append-nil begun)))
-begins_with begun (b ∷ bs) some = either (b == 10) begun b _ _ ([], lines_from [] bs, ap (λ line. line ∷ lines_from [] bs) (sym (append-nil begun))) (begins_with (begun ++ b ∷ []) bs (grind (arith, common_steps)))
+begins_with begun (b ∷ bs) some = either (b == 10) begun b _ _ (
+  [],
+  lines_from [] bs,
+  ap (λ line. line ∷ lines_from [] bs) (sym (append-nil begun)),
+) (begins_with (begun ++ b
+    ∷ []) bs (grind (arith, common_steps)))
 
 -- a piece that takes the next byte, the LF, or the end of the file
-pub goes_on : (file piece : List ℕ) (n p q b : ℕ) → slice_get file p ≡ Some b → b ≢ 10 → n < length piece → q ≡ p + 1 → lines_from (take n piece) (drop p file) ≡ lines_from (take (n + 1) (set piece n b)) (drop q file)
+pub goes_on : (file piece : List ℕ) (n p q b : ℕ) → slice_get file p ≡ Some b → b ≢ 10
+    → n < length piece → q ≡ p + 1 → lines_from (take n piece) (drop p file) ≡ lines_from
+    (take (n + 1) (set piece n b)) (drop q file)
 goes_on file piece n p q b e other h at =
     ap (lines_from (take n piece)) (left_some file p b e) ∙ line_goes_on (take n piece) (drop (p + 1) file) b other
     ∙ ap (λ x. lines_from x (drop (p + 1) file)) (sym (ap (λ m. take m (set piece n b)) (add-one n) ∙ take-suc-set piece n b h))

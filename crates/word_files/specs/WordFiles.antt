@@ -29,7 +29,8 @@ abbrev pub IsOfLine : List ℕ → ℕ → ℕ → Option (List ℕ) → Result 
 IsOfLine name width number line (Ok None) = line ≡ None
 IsOfLine name width number line (Ok (Some word)) = (option_map word_of line ≡ Some (Some word.bits)) × (word.width ≡ width)
 IsOfLine name width number line (Err (BadLine file at)) = (file ≡ name) × (at ≡ number) × (option_map word_of line ≡ Some None)
-IsOfLine name width number line (Err (WordRange file at)) = (file ≡ name) × (at ≡ number) × ((value : ℕ) × (option_map word_of line ≡ Some (Some value)) × (2 ^ width ≤ value))
+IsOfLine name width number line (Err (WordRange file at)) = (file ≡ name) × (at ≡ number)
+    × ((value : ℕ) × (option_map word_of line ≡ Some (Some value)) × (2 ^ width ≤ value))
 IsOfLine name width number line (Err ReadFault) = Unit {0}
 IsOfLine name width number line (Err WriteFault) = ⊥
 IsOfLine name width number line (Err NoMemory) = Unit {0}

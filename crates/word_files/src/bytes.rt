@@ -1,5 +1,7 @@
 // The bytes of a file, one after another.
-ghost use Rattle.std.specs.Prelude.{◌≡◌, ◌⊎◌, ◌≤◌, ◌<◌, ◌+◌, ◌-◌, ◌^◌, ℕ, List, vec_len, slice_get, is_some, Some, if◌then◌else◌, IfOk, OnOk, IsTrue, Err, false, length};
+ghost use Rattle.std.specs.Prelude.{◌≡◌, ◌⊎◌, ◌≤◌, ◌<◌, ◌+◌, ◌-◌, ◌^◌, ℕ, List, vec_len, slice_get};
+ghost use Rattle.std.specs.Prelude.{is_some, Some, if◌then◌else◌, IfOk, OnOk, IsTrue, Err, false};
+ghost use Rattle.std.specs.Prelude.{length};
 ghost use Rattle.mx_base.specs.Counts.{Rose};
 ghost use Rattle.mx_base.specs.Files.{Holds, Lacks};
 ghost use Rattle.mx_base.specs.declared.error.ReadError.TheVariants.{ReadFault};

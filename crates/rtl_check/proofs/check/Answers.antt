@@ -55,7 +55,9 @@ returns-in_err-paths-clause-err c =
     let d = c.args.design.now in let m = c.at-module.result.now in let n = c.loop-number.number in let again = c.in_ok-again.again in let tables = c.loop-number.tables in
     let before : Before d again n m = record { earlier = c.in_ok-again.ensures.earlier; upto = c.loop-number.invariant.fresh; sound = c.loop-number.invariant.sound; at = c.at-module.ensures } in
     let lt : n < again = omega (arith, c.loop-number.invariant.fresh, c.if-number-again.false) in
-    let part = subst (λ (t : List (List (List ℕ))). IsPart m t d) (sym c.as_slice.ensures) (part_at d n m c.in_ok-wanted.wanted.items tables c.requires c.at-module.ensures c.in_ok-wanted.ensures.marked c.loop-number.invariant.paths) in
+    let part = subst (λ (t : List (List (List ℕ))). IsPart m t d) (sym c.as_slice.ensures)
+    (part_at d n m c.in_ok-wanted.wanted.items tables c.requires c.at-module.ensures
+    c.in_ok-wanted.ensures.marked c.loop-number.invariant.paths) in
     let p = err_from_is_err_and c.from_residual-in_err-paths.result c.from_residual-in_err-paths.ensures.1 in
     rw (p.1, p.2) (loop_error d again n m c.as_slice.result.now _ before (c.in_ok-again.ensures.earlier n lt) c.in_ok-test_parts.ensures.ok part c.in_err-paths.ensures.err)
 
@@ -64,18 +66,26 @@ returns-in_err-paths-clause-accepted c = λ h.
     let d = c.args.design.now in let m = c.at-module.result.now in let n = c.loop-number.number in let again = c.in_ok-again.again in let tables = c.loop-number.tables in
     let before : Before d again n m = record { earlier = c.in_ok-again.ensures.earlier; upto = c.loop-number.invariant.fresh; sound = c.loop-number.invariant.sound; at = c.at-module.ensures } in
     let lt : n < again = omega (arith, c.loop-number.invariant.fresh, c.if-number-again.false) in
-    let part = subst (λ (t : List (List (List ℕ))). IsPart m t d) (sym c.as_slice.ensures) (part_at d n m c.in_ok-wanted.wanted.items tables c.requires c.at-module.ensures c.in_ok-wanted.ensures.marked c.loop-number.invariant.paths) in
+    let part = subst (λ (t : List (List (List ℕ))). IsPart m t d) (sym c.as_slice.ensures)
+    (part_at d n m c.in_ok-wanted.wanted.items tables c.requires c.at-module.ensures
+    c.in_ok-wanted.ensures.marked c.loop-number.invariant.paths) in
     let p = err_from_is_err_and c.from_residual-in_err-paths.result c.from_residual-in_err-paths.ensures.1 in
     rw (p.1, p.2) (accepted_error d h _ (loop_error d again n m c.as_slice.result.now _ before (c.in_ok-again.ensures.earlier n lt) c.in_ok-test_parts.ensures.ok part c.in_err-paths.ensures.err))
 
 pub loop-number-preserved : goal.loop-number-preserved
 loop-number-preserved c =
     let d = c.args.design.now in let m = c.at-module.result.now in let n = c.loop-number.number in let tables = c.loop-number.tables in
-    let part = subst (λ (t : List (List (List ℕ))). IsPart m t d) (sym c.as_slice.ensures) (part_at d n m c.in_ok-wanted.wanted.items tables c.requires c.at-module.ensures c.in_ok-wanted.ensures.marked c.loop-number.invariant.paths) in
+    let part = subst (λ (t : List (List (List ℕ))). IsPart m t d) (sym c.as_slice.ensures)
+    (part_at d n m c.in_ok-wanted.wanted.items tables c.requires c.at-module.ensures
+    c.in_ok-wanted.ensures.marked c.loop-number.invariant.paths) in
     let keeps = c.in_ok-test_parts.ensures.ok in
     let here : IsSound d m = record { names = keeps.names; driven = keeps.driven; updated = keeps.updated; widths = keeps.widths; levelled = c.in_ok-paths.ensures.levelled d part } in
     let is : c.push.new.self ≡ tables ++ c.in_ok-paths.paths ∷ [] = c.in_ok-push.ensures.ok in
-    let more = tables_more d c.in_ok-wanted.wanted.items tables n m c.in_ok-paths.paths c.at-module.ensures c.loop-number.invariant.count (λ w. c.in_ok-paths.ensures.paths (c.index.ensures ∙ get_or_from_slice_get c.in_ok-wanted.wanted.items n true c.index.result.now w) d part) c.loop-number.invariant.paths in
+    let more = tables_more d c.in_ok-wanted.wanted.items tables n m c.in_ok-paths.paths
+    c.at-module.ensures c.loop-number.invariant.count
+    (λ w. c.in_ok-paths.ensures.paths
+    (c.index.ensures ∙ get_or_from_slice_get c.in_ok-wanted.wanted.items n true
+    c.index.result.now w) d part) c.loop-number.invariant.paths in
     record {
       fresh = omega (arith, c.loop-number.invariant.fresh, c.if-number-again.false);
       count = ap length is ∙ length_push tables c.in_ok-paths.paths ∙ ap (λ k. k + 1) c.loop-number.invariant.count;

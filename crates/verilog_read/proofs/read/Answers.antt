@@ -2,7 +2,9 @@ use Rattle.std.proofs.Common.{refl, sym, subst}
 use Rattle.std.proofs.lemmas.Result.{err_from_is_err_and}
 use Rattle.verilog_read.specs.Answers.{AreTokens}
 use Rattle.verilog_read.proofs.FirstUse.{err_is}
-use Rattle.verilog_read.proofs.Whole.{scan_refused, scan_excluded, formed, tree_refused, tree_excluded, rule_refused, rule_excluded, port_refused, port_excluded, read_as, only_design, up_to_numbers, excluded}
+use Rattle.verilog_read.proofs.Whole.{scan_refused, scan_excluded, formed, tree_refused}
+use Rattle.verilog_read.proofs.Whole.{tree_excluded, rule_refused, rule_excluded, port_refused}
+use Rattle.verilog_read.proofs.Whole.{port_excluded, read_as, only_design, up_to_numbers, excluded}
 use Rattle.verilog_read.proofs.read.Goals as goal
 
 pub returns-in_err-tokens-clause-refused : goal.returns-in_err-tokens-clause-refused

@@ -11,7 +11,16 @@ returns-then-x-arc-clause-broken c =
     let f : FitsSigned w64 a.need = search rules in
     record {
       arc = search rules;
-      broken = λ m. omega (arith, ints, f, c.if-x-arc.true, c.requires.within a.to, c.requires.within a.from, meets_read c.as_slice-list.result.now c.args.arcs.now.list x c.loop-j.j a c.as_slice-list.ensures c.arc_number-arc.ensures m);
+      broken = λ m. omega (
+        arith,
+        ints,
+        f,
+        c.if-x-arc.true,
+        c.requires.within a.to,
+        c.requires.within a.from,
+        meets_read c.as_slice-list.result.now c.args.arcs.now.list x c.loop-j.j a
+            c.as_slice-list.ensures c.arc_number-arc.ensures m,
+      );
       before = search rules;
     }
 
@@ -21,4 +30,13 @@ loop-j-preserved c =
     let x = numbers_of c.args.x.now in
     let f : FitsSigned w64 a.need = search rules in
     let P : ℕ → Type 0 = λ i. Meets x c.as_slice-list.result.now i in
-    below_more P _ c.loop-j.invariant (read_meets c.as_slice-list.result.now c.as_slice-list.result.now x c.loop-j.j a refl c.arc_number-arc.ensures (omega (arith, ints, f, c.if-x-arc.false, c.requires.within a.to, c.requires.within a.from)))
+    below_more P _ c.loop-j.invariant
+    (read_meets c.as_slice-list.result.now c.as_slice-list.result.now x c.loop-j.j a refl
+    c.arc_number-arc.ensures (omega (
+      arith,
+      ints,
+      f,
+      c.if-x-arc.false,
+      c.requires.within a.to,
+      c.requires.within a.from,
+    )))

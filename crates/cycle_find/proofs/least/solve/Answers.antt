@@ -25,7 +25,13 @@ loop-node-smaller c =
     let P : Option Cycle → Type 0 = λ o. IfNone o ((s : ℕ) → NeedsWithin s c.as_slice-list.result.now → get_or x node 0 ≤ length x * s) in
     let far : get_or x node 0 ≤ length x * c.greatest-size.result = subst P c.in_default-2.is c.in_ok-cycle.ensures.root c.greatest-size.result c.greatest-size.ensures.within in
     let root : get_or x node 0 ≤ limit = rw n at far in
-    let bound : sum x ≤ c.args.arcs.now.nodes * limit = sum_within x c.args.arcs.now.nodes limit n (λ v. ⊎_elim (λ (q : v ≡ node). let e : get_or x v 0 ≡ get_or x node 0 = ap (λ k. get_or x k 0) q in omega (arith, e, root)) (λ (d : v ≢ node). c.in-Some.ensures.within.others v d) (cases_eq v node)) in
+    let bound : sum x ≤ c.args.arcs.now.nodes * limit = sum_within x c.args.arcs.now.nodes limit
+    n (λ v. ⊎_elim (λ (q : v ≡ node). let e : get_or x v 0 ≡ get_or x node 0 = ap
+    (λ k. get_or x k 0) q in omega (
+      arith,
+      e,
+      root,
+    )) (λ (d : v ≢ node). c.in-Some.ensures.within.others v d) (cases_eq v node)) in
     omega (arith, bound, c.in-Some.ensures.more)
 
 pub returns-clause-least : goal.returns-clause-least

@@ -1,4 +1,6 @@
-use Rattle.std.proofs.Common.{◌≡◌, ◌≢◌, ℕ, ◌+◌, ◌-◌, ◌<◌, ◌≤◌, ⊎_elim, Bool, true, false, Option, Some, None, IfNone, MatchOption, length, get_or, sum, List, sym, ap, ◌∙◌, subst, arith, rules, below_more}
+use Rattle.std.proofs.Common.{◌≡◌, ◌≢◌, ℕ, ◌+◌, ◌-◌, ◌<◌, ◌≤◌, ⊎_elim, Bool, true, false, Option}
+use Rattle.std.proofs.Common.{Some, None, IfNone, MatchOption, length, get_or, sum, List, sym, ap}
+use Rattle.std.proofs.Common.{◌∙◌, subst, arith, rules, below_more}
 use Rattle.std.proofs.lemmas.Bool.{cases_eq}
 use Rattle.cycle_find.specs.declared.arcs.Arc.{Arc}
 use Rattle.cycle_find.specs.Constraints.{Meets, Solves, end_of, start_of}
@@ -16,7 +18,9 @@ grown start x list back j None h = let e : sum x ≡ sum start = ap sum h.0 in o
 grown start x list back j (Some v) h = omega (arith, h.1)
 
 -- no arc asked for more
-kept : (start x new : List ℕ) (list : List Arc) (back : Bool) (j : ℕ) (last : Option ℕ) → Last start x list back j last → new ≡ x → Meets (so_far x) list (place_at (length list) back j) → Last start new list back (j + 1) last
+kept : (start x new : List ℕ) (list : List Arc) (back : Bool) (j : ℕ) (last : Option ℕ)
+    → Last start x list back j last → new ≡ x
+    → Meets (so_far x) list (place_at (length list) back j) → Last start new list back (j + 1) last
 unfolding Last
 kept start x new list back j None h same m =
     let P : List ℕ → Type 0 = λ l. Meets (so_far l) list (place_at (length list) back j) in
@@ -42,7 +46,9 @@ loop-step-preserved c =
           let node = w.arc_number-node.result.to in
           let here : node ≡ end_of list k = ap (λ (a : Arc). a.to) w.arc_number-node.ensures in
           let rises : Rises old new (start_of list k) (end_of list k) c.args.size = w.if-raise.ensures.rises (search rules) in
-          let P : Option ℕ → Type 0 = λ last. MatchOption last ((new ≡ start) × ((i : ℕ) → i < j + 1 → Meets (so_far start) list (place_at (length list) back i))) (λ v. (v < length new) × (sum start < sum new)) in
+          let P : Option ℕ → Type 0 = λ last. MatchOption last ((new ≡ start)
+          × ((i : ℕ) → i < j + 1 → Meets (so_far start) list
+          (place_at (length list) back i))) (λ v. (v < length new) × (sum start < sum new)) in
           record {
             raised = w.if-raise.ensures.raised;
             within = λ v. ⊎_elim
@@ -54,7 +60,9 @@ loop-step-preserved c =
       | else-raise w ↦ (
           let met : (new ≡ old) × Meets (so_far old) list k = w.if-raise.ensures.met (search rules) in
           let P : List ℕ → Type 0 = λ l. (v : ℕ) → get_or l v 0 ≤ c.args.limit in
-          let Q : Option ℕ → Type 0 = λ last. MatchOption last ((new ≡ start) × ((i : ℕ) → i < j + 1 → Meets (so_far start) list (place_at (length list) back i))) (λ v. (v < length new) × (sum start < sum new)) in
+          let Q : Option ℕ → Type 0 = λ last. MatchOption last ((new ≡ start)
+          × ((i : ℕ) → i < j + 1 → Meets (so_far start) list
+          (place_at (length list) back i))) (λ v. (v < length new) × (sum start < sum new)) in
           record {
             raised = w.if-raise.ensures.raised;
             within = subst P (sym met.0) c.loop-step.invariant.within;

@@ -7,5 +7,7 @@ abbrev pub invariant-loop-step : goal.invariant-loop-step
 invariant-loop-step l = record {
   raised : IsRaised l.list l.x l.via;
   within : (v : ℕ) → slice_index l.x v ≤ l.limit;
-  last : MatchOption l.last ((l.x ≡ l.initial.x) × ((i : ℕ) → i < l.step → Meets (so_far l.initial.x) l.list (place_at (length l.list) l.back i))) (λ v. (v < length l.x) × (sum l.initial.x < sum l.x));
+  last : MatchOption l.last ((l.x ≡ l.initial.x) × ((i : ℕ) → i < l.step
+      → Meets (so_far l.initial.x) l.list (place_at (length l.list) l.back i)))
+      (λ v. (v < length l.x) × (sum l.initial.x < sum l.x));
 }

@@ -60,7 +60,10 @@ returns-clause-cycle c =
     let node = c.loop-node.node in
     let place = c.loop-node.place in
     let path = c.loop-node.path.items in
-    let met : 0 < get_or place node 0 = elim c.loop-node-test.branch [ then-loop-node-test+else-place-node-eq0 w ↦ omega (arith, w.if-place-node-eq0.false) | else-loop-node-test w ↦ absurd (omega (arith, w.loop-node-test.false, c.if-x-node-eq0.false)) ] in
+    let met : 0 < get_or place node 0 = elim c.loop-node-test.branch [
+      | then-loop-node-test+else-place-node-eq0 w ↦ omega (arith, w.if-place-node-eq0.false)
+      | else-loop-node-test w ↦ absurd (omega (arith, w.loop-node-test.false, c.if-x-node-eq0.false))
+    ] in
     let P : List ℕ → Type 0 = λ l. IsPositiveCycle list l in
     let items : c.from_vec.result ≡ reverse (drop (get_or place node 0 - 1) path) = search rules in
     subst P (sym items) (cycle_back list c.args.x.now c.args.via.now path place c.args.start node c.requires.raised inv.stamped inv.chain met)

@@ -4,7 +4,9 @@ use Rattle.digraph.proofs.cone.fan_in.Goals as goal
 
 pub loop-done-init : goal.loop-done-init
 loop-done-init c = record {
-  collects = collects_begin c.args.graph.now c.args.end c.args.number c.args.seen.now c.meet.new.seen c.meet.new.nodes.items c.requires.size c.requires.end c.requires.earlier (rw c.new-nodes.ensures.items at c.in_ok-meet.ensures);
+  collects = collects_begin c.args.graph.now c.args.end c.args.number c.args.seen.now
+      c.meet.new.seen c.meet.new.nodes.items c.requires.size c.requires.end c.requires.earlier
+      (rw c.new-nodes.ensures.items at c.in_ok-meet.ensures);
   left = refl;
 }
 

@@ -16,7 +16,10 @@ returns-in_err-size-clause-none c =
     (subst (λ t. 2 ^ 128 ≤ unsigned_abs (rounded c.args.mode (signed_of n.negative n.digits *ℤ pos (2 ^ c.args.bits)) t)) d.ensures.value large)
 
 -- the floor, or the next number
-divided : (c : After-rounds_up) → next_if c.rounds_up.result (exact c.below-floor.result.0) ≡ rounded c.args.mode (signed_of c.args.number.now.negative c.args.number.now.digits *ℤ pos (2 ^ c.args.bits)) (10 ^ c.args.number.now.tens)
+divided : (c : After-rounds_up)
+    → next_if c.rounds_up.result (exact c.below-floor.result.0) ≡ rounded c.args.mode
+    (signed_of c.args.number.now.negative c.args.number.now.digits *ℤ pos (2 ^ c.args.bits))
+    (10 ^ c.args.number.now.tens)
 divided c =
     let n = c.args.number.now in
     let q = c.in_ok-size.size in

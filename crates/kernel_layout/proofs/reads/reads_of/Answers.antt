@@ -17,14 +17,24 @@ tested c =
 pub read_of-requires-clause-operand : goal.read_of-requires-clause-operand
 read_of-requires-clause-operand c =
     let nodes = c.args.kernel.now.nodes in
-    let i = item_is nodes c.new-id.result c.args.reader c.loop-operand.operand-index c.operand-item.result c.operands-operand-items.result.now c.new-id.ensures c.operands-operand-items.ensures (omega (arith, c.loop-operand-test.true)) c.operand-item.is in
+    let i = item_is nodes c.new-id.result c.args.reader c.loop-operand.operand-index
+    c.operand-item.result c.operands-operand-items.result.now c.new-id.ensures
+    c.operands-operand-items.ensures (omega (
+      arith,
+      c.loop-operand-test.true,
+    )) c.operand-item.is in
     subst (λ n. n < length nodes) (sym i.1) ((orderly nodes c.args.kernel.now.made).operands c.args.reader c.loop-operand.operand-index c.requires.reader i.0)
 
 pub read_of-requires-clause-later : goal.read_of-requires-clause-later
 read_of-requires-clause-later c =
     let nodes = c.args.kernel.now.nodes in
     let off = sym (tested (goal.at.read_of-requires-clause-later c).After-is_offset) ∙ c.if-is_offset.false in
-    let i = item_is nodes c.new-id.result c.args.reader c.loop-operand.operand-index c.operand-item.result c.operands-operand-items.result.now c.new-id.ensures c.operands-operand-items.ensures (omega (arith, c.loop-operand-test.true)) c.operand-item.is in
+    let i = item_is nodes c.new-id.result c.args.reader c.loop-operand.operand-index
+    c.operand-item.result c.operands-operand-items.result.now c.new-id.ensures
+    c.operands-operand-items.ensures (omega (
+      arith,
+      c.loop-operand-test.true,
+    )) c.operand-item.is in
     subst (λ n. IsLater nodes (numbers_of c.args.times.now) c.args.reader n) (sym i.1)
     (is_later nodes (numbers_of c.args.times.now) c.args.reader c.loop-operand.operand-index c.requires.times c.requires.reader off i.0)
 
@@ -32,7 +42,12 @@ pub loop-operand-preserved : goal.loop-operand-preserved
 loop-operand-preserved c =
     let nodes = c.args.kernel.now.nodes in
     let s = numbers_of c.args.times.now in
-    let i = item_is nodes c.new-id.result c.args.reader c.loop-operand.operand-index c.operand-item.result c.operands-operand-items.result.now c.new-id.ensures c.operands-operand-items.ensures (omega (arith, c.loop-operand-test.true)) c.operand-item.is in
+    let i = item_is nodes c.new-id.result c.args.reader c.loop-operand.operand-index
+    c.operand-item.result c.operands-operand-items.result.now c.new-id.ensures
+    c.operands-operand-items.ensures (omega (
+      arith,
+      c.loop-operand-test.true,
+    )) c.operand-item.is in
     let read = subst (λ n. IsRead nodes s c.args.reader n c.read_of.result) i.1 c.read_of.ensures in
     let more = one_read_more nodes s c.args.reader c.loop-operand.operand-index c.loop-operand.reads c.read_of.result c.loop-operand.invariant.read read in
     record { read = subst (λ rs. AreReadsBelow nodes s c.args.reader (c.loop-operand.operand-index + 1) rs) (sym (c.in_ok-push.ensures.ok)) more }

@@ -58,5 +58,7 @@ close_stages-requires c =
       reset_bit = has.reset.width;
       free = record { reg = _; mem = _; nets = _; mems = _; free = subst (λ (es : List (List Element)). ComeAfter c.add_inputs.new.netlist m (joined es)) (sym same) made.free };
       nodes = let a = chains_length c.as_slice-stages.result.now c.in_ok-elements.elements made.late in let b = ap length same in let d = ap length e in omega (arith, a, b, d);
-      words = c.followed_words.ensures m (8 ∷ 16 ∷ []) (c.in_ok-inputs.inputs.narrow ∷ c.in_ok-inputs.inputs.wide ∷ []) c.as_slice-chains.result.now wide (two_words m _ _ c.as_slice-chains.result.now wide has.narrow has.wide);
+      words = c.followed_words.ensures m (8 ∷ 16 ∷ []) (c.in_ok-inputs.inputs.narrow
+          ∷ c.in_ok-inputs.inputs.wide ∷ []) c.as_slice-chains.result.now wide
+          (two_words m _ _ c.as_slice-chains.result.now wide has.narrow has.wide);
     }

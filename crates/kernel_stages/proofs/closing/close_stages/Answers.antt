@@ -9,7 +9,10 @@ use Rattle.kernel_stages.specs.Closing.{MayFollow, LeavesOthers, AreWritten, Fol
 use Rattle.kernel_stages.proofs.Lists.{drop_front, drop_all, item_is, each_more}
 use Rattle.kernel_stages.proofs.Climbing.{rings_both}
 use Rattle.kernel_stages.proofs.Chaining.{Linked, linked_kept, delays_behind, chain_of}
-use Rattle.kernel_stages.proofs.Freeing.{reg_end, mem_end, frees_first, frees_last, frees_after, frees_some, no_register, no_memory, leaves_same, leaves_chain, none_written, written_both, written_on, may_kept}
+use Rattle.kernel_stages.proofs.Freeing.{reg_end, mem_end, frees_first, frees_last, frees_after}
+use Rattle.kernel_stages.proofs.Freeing.{frees_some, no_register, no_memory, leaves_same}
+use Rattle.kernel_stages.proofs.Freeing.{leaves_chain, none_written, written_both, written_on}
+use Rattle.kernel_stages.proofs.Freeing.{may_kept}
 use Rattle.kernel_stages.proofs.closing.close_stages.Goals as goal
 
 pub loop-node-init : goal.loop-node-init

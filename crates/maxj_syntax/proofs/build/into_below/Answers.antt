@@ -8,7 +8,10 @@ pub returns-in_ok-push-2-clause-trees : goal.returns-in_ok-push-2-clause-trees
 returns-in_ok-push-2-clause-trees c = λ tokens xs b s h.
     let old = c.args.builder.now.nodes in
     let new = c.in_ok-child.ensures in
-    entered tokens xs (cells_of tokens old) _ _ _ _ _ _ c.in-Some.top c.in-Some-pop.below _ c.in_ok-child.child b s c.in-Some.ensures.items c.in-Some-pop.ensures.items (cells_more tokens old _ c.in-Some.top.node new.nodes) c.in_ok-push-2.ensures.items (cells_number tokens old c.in_ok-child.child new.number)
+    entered tokens xs (cells_of tokens old) _ _ _ _ _ _ c.in-Some.top c.in-Some-pop.below _
+    c.in_ok-child.child b s c.in-Some.ensures.items c.in-Some-pop.ensures.items
+    (cells_more tokens old _ c.in-Some.top.node new.nodes) c.in_ok-push-2.ensures.items
+    (cells_number tokens old c.in_ok-child.child new.number)
     refl refl refl refl c.in_ok-push.ensures.ok h
 
 pub returns-in_ok-push-2-clause-numbers : goal.returns-in_ok-push-2-clause-numbers

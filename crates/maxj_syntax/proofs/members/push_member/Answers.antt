@@ -6,4 +6,7 @@ use Rattle.maxj_syntax.proofs.Expansions.{member_taken, asked}
 use Rattle.maxj_syntax.proofs.members.push_member.Goals as goal
 
 pub returns-then-admits : goal.returns-then-admits
-returns-then-admits c = member_taken (inside_view c.args.inside) (option_map placed_view c.args.next) _ _ (asked begins_member c.admits.ensures c.next_kind.ensures c.if-admits.true) c.in_ok-put_member.ensures
+returns-then-admits c = member_taken (inside_view c.args.inside)
+    (option_map placed_view c.args.next) _ _
+    (asked begins_member c.admits.ensures c.next_kind.ensures c.if-admits.true)
+    c.in_ok-put_member.ensures

@@ -34,7 +34,10 @@ pub returns-then-not-branch-clause-reached : goal.returns-then-not-branch-clause
 returns-then-not-branch-clause-reached c =
     let i = subst (λ s. IsRule (symbol_view s)) (sym c.in-Named.is) tt in
     let e = popped _ _ c.in-Some.top (symbol_view c.in-Some.top) c.in-Some.ensures.items refl in
-    stuck_on c.args.tokens.now (drop c.args.at c.args.tokens.now) (option_map placed_view c.token_at-next.result) (symbol_view c.in-Some.top) (todo c.loop-top.stack.items) (todo c.pop.new.self.items) (todo c.expand.new.stack.items) c.loop-top.builder
+    stuck_on c.args.tokens.now (drop c.args.at c.args.tokens.now)
+    (option_map placed_view c.token_at-next.result) (symbol_view c.in-Some.top)
+    (todo c.loop-top.stack.items) (todo c.pop.new.self.items)
+    (todo c.expand.new.stack.items) c.loop-top.builder
     c.in_ok-expand-in-Named.field-0 c.token_at-next.ensures i c.in_ok-expand-in-Named.ensures c.if-not-branch.true e c.loop-top.invariant.reached
 
 pub loop-top-smaller-else-not-branch : goal.loop-top-smaller-else-not-branch
@@ -48,7 +51,10 @@ pub loop-top-preserved-else-not-branch : goal.loop-top-preserved-else-not-branch
 loop-top-preserved-else-not-branch c =
     let i = subst (λ s. IsRule (symbol_view s)) (sym c.in-Named.is) tt in
     let e = popped _ _ c.in-Some.top (symbol_view c.in-Some.top) c.in-Some.ensures.items refl in record {
-      reached = expanded_on c.args.tokens.now (drop c.args.at c.args.tokens.now) (option_map placed_view c.token_at-next.result) (symbol_view c.in-Some.top) (todo c.loop-top.stack.items) (todo c.pop.new.self.items) (todo c.expand.new.stack.items) c.loop-top.builder
+      reached = expanded_on c.args.tokens.now (drop c.args.at c.args.tokens.now)
+          (option_map placed_view c.token_at-next.result) (symbol_view c.in-Some.top)
+          (todo c.loop-top.stack.items) (todo c.pop.new.self.items)
+          (todo c.expand.new.stack.items) c.loop-top.builder
           c.in_ok-expand-in-Named.field-0 c.token_at-next.ensures i c.in_ok-expand-in-Named.ensures c.if-not-branch.false e c.loop-top.invariant.reached;
       ranged = expanded_ranged c.args.tokens.now (option_map placed_view c.token_at-next.result)
           (symbol_view c.in-Some.top) (todo c.loop-top.stack.items) (todo c.pop.new.self.items)
@@ -60,7 +66,10 @@ pub returns-then-not-branch-2-clause-reached : goal.returns-then-not-branch-2-cl
 returns-then-not-branch-2-clause-reached c =
     let i = subst (λ s. IsRule (symbol_view s)) (sym c.in-Fixed.is) (is_rule c.in-Fixed.fixed c.in_default-fixed.not-Mark c.in_default-fixed.not-Act) in
     let e = popped _ _ c.in-Some.top (symbol_view c.in-Some.top) c.in-Some.ensures.items refl in
-    stuck_on c.args.tokens.now (drop c.args.at c.args.tokens.now) (option_map placed_view c.token_at-next.result) (symbol_view c.in-Some.top) (todo c.loop-top.stack.items) (todo c.pop.new.self.items) (todo c.expand-in_default-fixed.new.stack.items) c.loop-top.builder
+    stuck_on c.args.tokens.now (drop c.args.at c.args.tokens.now)
+    (option_map placed_view c.token_at-next.result) (symbol_view c.in-Some.top)
+    (todo c.loop-top.stack.items) (todo c.pop.new.self.items)
+    (todo c.expand-in_default-fixed.new.stack.items) c.loop-top.builder
     c.in_ok-expand-in_default-fixed.field-0 c.token_at-next.ensures i c.in_ok-expand-in_default-fixed.ensures c.if-not-branch-2.true e c.loop-top.invariant.reached
 
 pub loop-top-smaller : goal.loop-top-smaller
@@ -74,7 +83,10 @@ pub loop-top-preserved : goal.loop-top-preserved
 loop-top-preserved c =
     let i = subst (λ s. IsRule (symbol_view s)) (sym c.in-Fixed.is) (is_rule c.in-Fixed.fixed c.in_default-fixed.not-Mark c.in_default-fixed.not-Act) in
     let e = popped _ _ c.in-Some.top (symbol_view c.in-Some.top) c.in-Some.ensures.items refl in record {
-      reached = expanded_on c.args.tokens.now (drop c.args.at c.args.tokens.now) (option_map placed_view c.token_at-next.result) (symbol_view c.in-Some.top) (todo c.loop-top.stack.items) (todo c.pop.new.self.items) (todo c.expand-in_default-fixed.new.stack.items) c.loop-top.builder
+      reached = expanded_on c.args.tokens.now (drop c.args.at c.args.tokens.now)
+          (option_map placed_view c.token_at-next.result) (symbol_view c.in-Some.top)
+          (todo c.loop-top.stack.items) (todo c.pop.new.self.items)
+          (todo c.expand-in_default-fixed.new.stack.items) c.loop-top.builder
           c.in_ok-expand-in_default-fixed.field-0 c.token_at-next.ensures i c.in_ok-expand-in_default-fixed.ensures c.if-not-branch-2.false e c.loop-top.invariant.reached;
       ranged = expanded_ranged c.args.tokens.now (option_map placed_view c.token_at-next.result)
           (symbol_view c.in-Some.top) (todo c.loop-top.stack.items) (todo c.pop.new.self.items)

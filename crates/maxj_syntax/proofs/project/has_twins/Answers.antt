@@ -9,7 +9,11 @@ returns-then-not-branch c =
     let l = c.loop-class in
     let name = c.as_bytes.result in
     let new = c.in_ok-insert in
-    λ nodes trees a. sym (has_twins_is nodes c.args.classes.now trees a ∙ found c.args.classes.now l.class-index c.class-item.result name.now _ new.field-0 (omega arith) (c.as_bytes.ensures ∙ ap (λ (x : Class). x.name) c.class-item.is) new.ensures.added (l.invariant.seen name) c.if-not-branch.true)
+    λ nodes trees a. sym (has_twins_is nodes c.args.classes.now trees a ∙ found
+    c.args.classes.now l.class-index c.class-item.result name.now _ new.field-0
+    (omega arith) (c.as_bytes.ensures ∙ ap (λ
+    (x : Class). x.name) c.class-item.is) new.ensures.added
+    (l.invariant.seen name) c.if-not-branch.true)
 
 pub loop-class-preserved : goal.loop-class-preserved
 loop-class-preserved c =

@@ -3,7 +3,10 @@ use Rattle.std.proofs.lemmas.Result.{IfOk-weaker}
 use Rattle.maxj_syntax.specs.Tree.{ClassesAre}
 use Rattle.maxj_syntax.proofs.Projects.{managers_of, AreWrong, wrong_counts, names_decide}
 use Rattle.maxj_syntax.proofs.project.is_no_project.Goals as goal
-use Rattle.maxj_syntax.proofs.project.is_no_project.Goals.{then-kernels-eq0-via-then-kernels-eq0, then-kernels-eq0-via-else-kernels-eq0+then-managers-gt1, then-kernels-eq0-via-else-kernels-eq0+else-managers-gt1+then-managers-eq0, then-kernels-gt1, else-kernels-gt1}
+use Rattle.maxj_syntax.proofs.project.is_no_project.Goals.{then-kernels-eq0-via-then-kernels-eq0}
+use Rattle.maxj_syntax.proofs.project.is_no_project.Goals.{then-kernels-eq0-via-else-kernels-eq0+then-managers-gt1}
+use Rattle.maxj_syntax.proofs.project.is_no_project.Goals.{then-kernels-eq0-via-else-kernels-eq0+else-managers-gt1+then-managers-eq0}
+use Rattle.maxj_syntax.proofs.project.is_no_project.Goals.{then-kernels-gt1, else-kernels-gt1}
 
 pub returns-then-kernels-eq0 : goal.returns-then-kernels-eq0
 returns-then-kernels-eq0 c = λ classes a.
@@ -33,4 +36,8 @@ returns c =
         | inr h ↦ elim c.if-managers-eq0.either [ inl f ↦ f.1 h.1 | inr f ↦ omega (arith, h.0) ]
       ]
     ] in
-    IfOk-weaker c.has_twins.result _ _ (λ twins f. λ classes a. names_decide c.args.program.now.tree cs classes m a e right twins (f c.args.program.now.tree classes (subst (λ l. ClassesAre c.args.program.now.tree l classes) (sym c.as_slice-classes.ensures) a))) c.has_twins.ensures
+    IfOk-weaker c.has_twins.result _ _
+    (λ twins f. λ classes a. names_decide c.args.program.now.tree cs classes m a e right
+    twins (f c.args.program.now.tree classes (subst
+    (λ l. ClassesAre c.args.program.now.tree l classes)
+    (sym c.as_slice-classes.ensures) a))) c.has_twins.ensures

@@ -31,14 +31,22 @@ returns-in_err-program-clause-err c =
     let read = c.in_ok-tokens.ensures.tokens in
     let p = err_from_is_err_and c.from_residual-in_err-program.result c.from_residual-in_err-program.ensures.1 in
     subst (λ r. IfErr r (λ e. FailsToRead c.args.bytes.now e)) (sym p.1)
-    (subst (λ e. FailsToRead c.args.bytes.now e) (sym p.2) (parse_fails c.args.bytes.now c.in_ok-tokens.tokens read c.in_default.ensures.none c.in_default-first_excess.ensures.none _ _ refl c.in_err-program.ensures.err))
+    (subst (λ e. FailsToRead c.args.bytes.now e) (sym p.2)
+    (parse_fails c.args.bytes.now c.in_ok-tokens.tokens read c.in_default.ensures.none
+    c.in_default-first_excess.ensures.none _ _ refl c.in_err-program.ensures.err))
 
 pub returns-then-branch-clause-err : goal.returns-then-branch-clause-err
 returns-then-branch-clause-err c =
     let read = c.in_ok-tokens.ensures.tokens in
-    project_fails c.args.bytes.now c.in_ok-tokens.tokens read c.in_default.ensures.none c.in_default-first_excess.ensures.none c.in_ok-program.program c.in_ok-program.ensures.ok c.in_ok-is_no_project.field-0 c.in_ok-is_no_project.ensures c.if-branch.true
+    project_fails c.args.bytes.now c.in_ok-tokens.tokens read c.in_default.ensures.none
+    c.in_default-first_excess.ensures.none c.in_ok-program.program
+    c.in_ok-program.ensures.ok c.in_ok-is_no_project.field-0 c.in_ok-is_no_project.ensures
+    c.if-branch.true
 
 pub returns-clause-ok : goal.returns-clause-ok
 returns-clause-ok c =
     let read = c.in_ok-tokens.ensures.tokens in
-    read_all c.args.bytes.now c.in_ok-tokens.tokens read c.in_default.ensures.none c.in_default-first_excess.ensures.none c.in_ok-program.program c.in_ok-program.ensures.ok c.in_ok-is_no_project.field-0 c.in_ok-is_no_project.ensures c.if-branch.false
+    read_all c.args.bytes.now c.in_ok-tokens.tokens read c.in_default.ensures.none
+    c.in_default-first_excess.ensures.none c.in_ok-program.program
+    c.in_ok-program.ensures.ok c.in_ok-is_no_project.field-0 c.in_ok-is_no_project.ensures
+    c.if-branch.false

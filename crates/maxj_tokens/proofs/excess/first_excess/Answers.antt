@@ -26,7 +26,9 @@ overflow_add-closed c =
 pub returns-then-saturating_sub-gt-MOST_OPEN-clause-some : goal.returns-then-saturating_sub-gt-MOST_OPEN-clause-some
 returns-then-saturating_sub-gt-MOST_OPEN-clause-some c =
     let l = c.loop-number in
-    deep_at c.args.tokens.now l.number _ l.opened l.closed _ _ l.behind_break c.at-token.ensures l.invariant (c.from-opened.ensures ∙ ap from_bool c.is_opening.ensures) (c.from-closed.ensures ∙ ap from_bool c.is_closing.ensures) (omega arith)
+    deep_at c.args.tokens.now l.number _ l.opened l.closed _ _ l.behind_break c.at-token.ensures
+    l.invariant (c.from-opened.ensures ∙ ap from_bool c.is_opening.ensures)
+    (c.from-closed.ensures ∙ ap from_bool c.is_closing.ensures) (omega arith)
 
 pub returns-in-true-Some-clause-some : goal.returns-in-true-Some-clause-some
 returns-in-true-Some-clause-some c =

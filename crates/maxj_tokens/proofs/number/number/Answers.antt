@@ -17,4 +17,6 @@ returns-in-Some c =
 pub returns : goal.returns
 returns c =
     let rest = c.after_suffix-rest.result.now in
-    subst (λ l. Takes c.args.text.now (Token.Whole l) rest) (sym c.before-2.ensures) (passed c.args.text.now c.after_plain.result.now rest c.requires.gap c.in_default.ensures.none c.after_plain.ensures c.after_suffix-rest.ensures)
+    subst (λ l. Takes c.args.text.now (Token.Whole l) rest) (sym c.before-2.ensures)
+    (passed c.args.text.now c.after_plain.result.now rest c.requires.gap
+    c.in_default.ensures.none c.after_plain.ensures c.after_suffix-rest.ensures)

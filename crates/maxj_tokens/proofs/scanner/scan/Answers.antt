@@ -28,7 +28,9 @@ loop-rest-preserved-in-Some c = record {
 pub fault-requires-clause-fault : goal.fault-requires-clause-fault
 fault-requires-clause-fault c =
     let some : (length c.loop-rest.rest.now == 0) ≡ false = cc in
-    no_token c.loop-rest.invariant.read (λ e. let f : (length c.loop-rest.rest.now == 0) ≡ (0 == 0) = ap (λ l. length l == 0) e in absurd (cc)) c.in_default.ensures.none c.in_default-next_token.ensures.none
+    no_token c.loop-rest.invariant.read (λ e. let f : (length c.loop-rest.rest.now == 0) ≡
+    (0 == 0) = ap (λ l. length l == 0) e in absurd
+    (cc)) c.in_default.ensures.none c.in_default-next_token.ensures.none
 
 pub fault-requires-then-is_followed-clause-fault : goal.fault-requires-then-is_followed-clause-fault
 fault-requires-then-is_followed-clause-fault c =
@@ -37,7 +39,11 @@ fault-requires-then-is_followed-clause-fault c =
 
 pub loop-rest-preserved : goal.loop-rest-preserved
 loop-rest-preserved c =
-    let item : Lexeme = record { kind = c.kind_of.result; at = length c.args.text.now - length c.loop-rest.rest.now; length = length c.loop-rest.rest.now - length c.in-Some-next_token.found.rest.now } in record {
+    let item : Lexeme = record {
+      kind = c.kind_of.result;
+      at = length c.args.text.now - length c.loop-rest.rest.now;
+      length = length c.loop-rest.rest.now - length c.in-Some-next_token.found.rest.now;
+    } in record {
       read = (
           let view = placed_in c.args.text.now in
           let new = c.in_ok-push.ensures.ok in
@@ -47,5 +53,10 @@ loop-rest-preserved c =
           (sym (ap (map view) new ∙ map-append view c.loop-rest.lexemes (item ∷ []) ∙ ap (λ p. map view c.loop-rest.lexemes ++ p ∷ []) is))
           (took c.loop-rest.invariant.read c.loop-rest.invariant.within c.in-Some-next_token.ensures.some f));
       within = (let a = c.loop-rest.invariant.within in let b = c.in-Some-next_token.ensures.shorter in omega arith);
-      few = (let a = c.loop-rest.invariant.few in let b = c.in-Some-next_token.ensures.shorter in let n = ap length c.in_ok-push.ensures.ok in omega (arith, n, length-append c.loop-rest.lexemes (item ∷ [])));
+      few = (let a = c.loop-rest.invariant.few in let b = c.in-Some-next_token.ensures.shorter
+          in let n = ap length c.in_ok-push.ensures.ok in omega (
+            arith,
+            n,
+            length-append c.loop-rest.lexemes (item ∷ []),
+          ));
     }

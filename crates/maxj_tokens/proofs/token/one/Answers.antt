@@ -19,7 +19,9 @@ returns-then-is_some-clause-none c =
     stripped c.args.text.now c.after.result c.after.ensures.some e
 
 pub returns-in_err-sign-clause-none : goal.returns-in_err-sign-clause-none
-returns-in_err-sign-clause-none c = if_none c.from_residual-in_err-sign.result (BeginsNoToken c.args.text.now) (none_taken c.args.text.now c.requires.name c.requires.number c.requires.quote (λ b rest e.
+returns-in_err-sign-clause-none c = if_none c.from_residual-in_err-sign.result
+    (BeginsNoToken c.args.text.now)
+    (none_taken c.args.text.now c.requires.name c.requires.number c.requires.quote (λ b rest e.
     let f = c.in_ok-first.ensures.cases.0 in
     let same : c.in_ok-first.first.now ≡ b = cc in
     subst (λ x. is_sign (x ∷ []) ≡ false) same c.in_err-sign.ensures))
@@ -27,4 +29,7 @@ returns-in_err-sign-clause-none c = if_none c.from_residual-in_err-sign.result (
 pub returns-clause-some : goal.returns-clause-some
 returns-clause-some c =
     let e : is_some c.after.result ≡ false = cc in
-    one_taken c.args.text.now c.in_ok-first.rest.now c.in_ok-first.first.now c.in_ok-sign.sign c.requires.gap c.requires.three c.requires.two (not_stripped c.args.text.now c.after.result c.after.ensures.none e) c.in_ok-first.ensures.cases.0 c.in_ok-sign.ensures
+    one_taken c.args.text.now c.in_ok-first.rest.now c.in_ok-first.first.now c.in_ok-sign.sign
+    c.requires.gap c.requires.three c.requires.two
+    (not_stripped c.args.text.now c.after.result c.after.ensures.none e)
+    c.in_ok-first.ensures.cases.0 c.in_ok-sign.ensures

@@ -10,11 +10,15 @@ pub returns-in_err-rest-clause-none : goal.returns-in_err-rest-clause-none
 returns-in_err-rest-clause-none c =
     let s = c.split_front in
     if_none c.from_residual-in_err-rest.result (BeginsNoToken c.args.text.now)
-    (no_string_closed c.args.text.now c.in_ok-inner.inner.now s.result.front.now s.result.rest.now c.requires.quote c.in_ok-inner.ensures.some s.ensures.joined s.ensures.front s.ensures.rest c.in_err-rest.ensures.none)
+    (no_string_closed c.args.text.now c.in_ok-inner.inner.now s.result.front.now
+    s.result.rest.now c.requires.quote c.in_ok-inner.ensures.some s.ensures.joined
+    s.ensures.front s.ensures.rest c.in_err-rest.ensures.none)
 
 pub returns-clause-some : goal.returns-clause-some
 returns-clause-some c =
     let s = c.split_front in
     let rest = c.in_ok-rest.rest.now in
     subst (λ l. Takes c.args.text.now (Token.Str l) rest) (sym c.before-2.ensures)
-    (string_taken c.args.text.now c.in_ok-inner.inner.now s.result.front.now s.result.rest.now rest c.requires.gap c.in_ok-inner.ensures.some s.ensures.joined s.ensures.front c.in_ok-rest.ensures.some)
+    (string_taken c.args.text.now c.in_ok-inner.inner.now s.result.front.now s.result.rest.now
+    rest c.requires.gap c.in_ok-inner.ensures.some s.ensures.joined s.ensures.front
+    c.in_ok-rest.ensures.some)

@@ -51,7 +51,9 @@ returns-in-Err-Refused-clause-refused g c = λ refused.
     let names = expect_told c.args.names in
     let cause = cause_told c.in-Err-Refused.refusal in
     let stands : IfCause cause (λ cause. IsSome before → ExpectStands names before cause) = rw c.in-Err-Refused.field-0-is at c.in-Err-Refused.ensures.refused in
-    let both = both_of cause (λ cause. IsSome before → ExpectStands names before cause) (λ cause. g.S.Say.said c.refuse.new.say ≡ said_more (g.S.Say.said c.args.say.now) (line_of cause)) stands (c.refuse.ensures.said refused) in
+    let both = both_of cause (λ cause. IsSome before
+    → ExpectStands names before cause) (λ cause. g.S.Say.said c.refuse.new.say ≡ said_more
+    (g.S.Say.said c.args.say.now) (line_of cause)) stands (c.refuse.ensures.said refused) in
     record { cause = both.0; stands = both.1; said = both.2 }
 
 pub returns-in-Err-Refused-clause-expected : goal.returns-in-Err-Refused-clause-expected

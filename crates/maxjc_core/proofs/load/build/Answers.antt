@@ -17,12 +17,20 @@ pub returns-in-Err-clause-refused : goal.returns-in-Err-clause-refused
 returns-in-Err-clause-refused c = refused_so c.in-Err.stop _ (BreaksForm c.args.text.now c.args.run.now) (text_breaks c.args.text.now c.args.run.now) c.in-Err.ensures.refused
 
 pub returns-in-Err-run_of-clause-refused : goal.returns-in-Err-run_of-clause-refused
-returns-in-Err-run_of-clause-refused c = refused_so c.in-Err-run_of.stop (IsRunFault c.args.run.now) (BreaksForm c.args.text.now c.args.run.now) (run_breaks c.args.text.now c.args.run.now c.in-Ok.design c.in-Ok.ensures.read) c.in-Err-run_of.ensures.refused
+returns-in-Err-run_of-clause-refused c = refused_so c.in-Err-run_of.stop
+    (IsRunFault c.args.run.now) (BreaksForm c.args.text.now c.args.run.now)
+    (run_breaks c.args.text.now c.args.run.now c.in-Ok.design c.in-Ok.ensures.read)
+    c.in-Err-run_of.ensures.refused
 
 pub returns-in-Ok-plan_for-clause-fit : goal.returns-in-Ok-plan_for-clause-fit
 returns-in-Ok-plan_for-clause-fit c =
     let is = c.in-Ok.ensures.read in
-    fit_as c.args.text.now c.args.run.now c.in-Ok.design is c.in-Ok-run_of.run' c.in-Ok-run_of.ensures.read c.in-Ok-plan_for.plan (subst (λ (t : Shape). IsPlanned c.in-Ok-run_of.run' t c.in-Ok-plan_for.plan) (c.in_ok-ports.ensures.shape is.shape (top_is c.args.text.now c.in-Ok.design is c.top.result.now c.top.ensures)) c.in-Ok-plan_for.ensures.planned) c.in-Ok.ensures.only
+    fit_as c.args.text.now c.args.run.now c.in-Ok.design is c.in-Ok-run_of.run'
+    c.in-Ok-run_of.ensures.read c.in-Ok-plan_for.plan
+    (subst (λ (t : Shape). IsPlanned c.in-Ok-run_of.run' t c.in-Ok-plan_for.plan)
+    (c.in_ok-ports.ensures.shape is.shape
+    (top_is c.args.text.now c.in-Ok.design is c.top.result.now c.top.ensures))
+    c.in-Ok-plan_for.ensures.planned) c.in-Ok.ensures.only
 
 pub returns-in-Ok-plan_for-clause-can_run : goal.returns-in-Ok-plan_for-clause-can_run
 returns-in-Ok-plan_for-clause-can_run c =
@@ -34,14 +42,22 @@ returns-in-Ok-plan_for-clause-can_run c =
       bytes = c.args.text.now;
       is = is;
       fits = subst (FitsShape c.in-Ok-plan_for.plan) same (c.in-Ok-plan_for.ensures.fits says.0 says.2);
-      apart = c.in-Ok-plan_for.ensures.apart says.0 says.2 (subst (λ (t : Shape). AllDiffer (map (λ (y : Name × ℕ). y.0) t.outputs)) (sym same) (names_differ c.in-Ok.design is.top is.shape is.accepted is.is_top is.is_run.has));
+      apart = c.in-Ok-plan_for.ensures.apart says.0 says.2
+          (subst (λ (t : Shape). AllDiffer (map (λ (y : Name
+          × ℕ). y.0) t.outputs)) (sym same)
+          (names_differ c.in-Ok.design is.top is.shape is.accepted is.is_top is.is_run.has));
     }
 
 pub returns-clause-refused : goal.returns-clause-refused
 returns-clause-refused c =
     let is = c.in-Ok.ensures.read in
     let top = top_is c.args.text.now c.in-Ok.design is c.top.result.now c.top.ensures in
-    refused_so c.in-Err-plan_for.stop (IsUnfit c.in-Ok-run_of.run' is.shape) (BreaksForm c.args.text.now c.args.run.now) (plan_breaks c.args.text.now c.args.run.now c.in-Ok.design is c.in-Ok-run_of.run' c.in-Ok-run_of.ensures.read) (subst (λ (t : Shape). IfRefused c.in-Err-plan_for.stop (IsUnfit c.in-Ok-run_of.run' t)) (c.in_ok-ports.ensures.shape is.shape top) c.in-Err-plan_for.ensures.unfit)
+    refused_so c.in-Err-plan_for.stop (IsUnfit c.in-Ok-run_of.run' is.shape)
+    (BreaksForm c.args.text.now c.args.run.now)
+    (plan_breaks c.args.text.now c.args.run.now c.in-Ok.design is c.in-Ok-run_of.run'
+    c.in-Ok-run_of.ensures.read) (subst (λ (t : Shape). IfRefused c.in-Err-plan_for.stop
+    (IsUnfit c.in-Ok-run_of.run' t))
+    (c.in_ok-ports.ensures.shape is.shape top) c.in-Err-plan_for.ensures.unfit)
 
 pub returns-in-Err-clause-loads : goal.returns-in-Err-clause-loads
 returns-in-Err-clause-loads c = λ f. c.in-Err.ensures.every f.design f.is
@@ -52,14 +68,22 @@ returns-in-Err-run_of-clause-loads c = λ f. run_not_refused c.args.text.now c.a
 pub returns-in-Ok-plan_for-clause-faulty : goal.returns-in-Ok-plan_for-clause-faulty
 returns-in-Ok-plan_for-clause-faulty c = λ cause breaks.
     let is = c.in-Ok.ensures.read in
-    let made = fit_as c.args.text.now c.args.run.now c.in-Ok.design is c.in-Ok-run_of.run' c.in-Ok-run_of.ensures.read c.in-Ok-plan_for.plan (subst (λ (t : Shape). IsPlanned c.in-Ok-run_of.run' t c.in-Ok-plan_for.plan) (c.in_ok-ports.ensures.shape is.shape (top_is c.args.text.now c.in-Ok.design is c.top.result.now c.top.ensures)) c.in-Ok-plan_for.ensures.planned) c.in-Ok.ensures.only in
+    let made = fit_as c.args.text.now c.args.run.now c.in-Ok.design is c.in-Ok-run_of.run'
+    c.in-Ok-run_of.ensures.read c.in-Ok-plan_for.plan
+    (subst (λ (t : Shape). IsPlanned c.in-Ok-run_of.run' t c.in-Ok-plan_for.plan)
+    (c.in_ok-ports.ensures.shape is.shape
+    (top_is c.args.text.now c.in-Ok.design is c.top.result.now c.top.ensures))
+    c.in-Ok-plan_for.ensures.planned) c.in-Ok.ensures.only in
     fit_apart c.args.text.now c.args.run.now cause c.in-Ok.design c.in-Ok.ensures.only c.in-Ok.ensures.exact made.fit breaks
 
 pub returns-clause-loads : goal.returns-clause-loads
 returns-clause-loads c = λ f.
     let is = c.in-Ok.ensures.read in
     let top = top_is c.args.text.now c.in-Ok.design is c.top.result.now c.top.ensures in
-    plan_not_refused c.args.text.now c.args.run.now f c.in-Ok.design c.in-Ok.ensures.only is c.in-Ok-run_of.run' c.in-Ok-run_of.ensures.read c.in-Err-plan_for.stop (subst (λ (t : Shape). IfRefused c.in-Err-plan_for.stop (IsUnfit c.in-Ok-run_of.run' t)) (c.in_ok-ports.ensures.shape is.shape top) c.in-Err-plan_for.ensures.unfit)
+    plan_not_refused c.args.text.now c.args.run.now f c.in-Ok.design c.in-Ok.ensures.only is
+    c.in-Ok-run_of.run' c.in-Ok-run_of.ensures.read c.in-Err-plan_for.stop
+    (subst (λ (t : Shape). IfRefused c.in-Err-plan_for.stop (IsUnfit c.in-Ok-run_of.run' t))
+    (c.in_ok-ports.ensures.shape is.shape top) c.in-Err-plan_for.ensures.unfit)
 
 pub returns-in-Ok-plan_for-clause-ports : goal.returns-in-Ok-plan_for-clause-ports
 returns-in-Ok-plan_for-clause-ports c = λ m e.

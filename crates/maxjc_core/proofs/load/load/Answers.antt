@@ -33,7 +33,9 @@ returns-in-Ok-read_file-clause-answers g c =
     load_answers names held c.in-Ok.text.items c.in-Ok-read_file.run'.items c.build.result
     (λ told. record {
       text_is = within held names.text _ told (λ l. let e = c.in-Ok.ensures.lacking l in cc) c.in-Ok.ensures.whole c.in-Ok.ensures.fits;
-      run_is = within held names.run _ told (λ l. let e = c.in-Ok-read_file.ensures.lacking (rw same l) in cc) (λ file h. c.in-Ok-read_file.ensures.whole file (rw same h)) c.in-Ok-read_file.ensures.fits;
+      run_is = within held names.run _ told (λ l. let e = c.in-Ok-read_file.ensures.lacking
+          (rw same l) in cc) (λ file h. c.in-Ok-read_file.ensures.whole file
+          (rw same h)) c.in-Ok-read_file.ensures.fits;
     })
     (rw (c.as_slice.ensures.value, c.as_slice-in-Ok-read_file.ensures.value) at c.build.ensures.fit)
     (rw (c.as_slice.ensures.value, c.as_slice-in-Ok-read_file.ensures.value) at c.build.ensures.refused)
@@ -46,7 +48,9 @@ returns-in-Ok-read_file-clause-faulty g c =
     faulty_loads_not names held c.in-Ok.text.items c.in-Ok-read_file.run'.items c.build.result
     (λ told. record {
       text_is = within held names.text _ told (λ l. let e = c.in-Ok.ensures.lacking l in cc) c.in-Ok.ensures.whole c.in-Ok.ensures.fits;
-      run_is = within held names.run _ told (λ l. let e = c.in-Ok-read_file.ensures.lacking (rw same l) in cc) (λ file h. c.in-Ok-read_file.ensures.whole file (rw same h)) c.in-Ok-read_file.ensures.fits;
+      run_is = within held names.run _ told (λ l. let e = c.in-Ok-read_file.ensures.lacking
+          (rw same l) in cc) (λ file h. c.in-Ok-read_file.ensures.whole file
+          (rw same h)) c.in-Ok-read_file.ensures.fits;
     })
     (rw (c.as_slice.ensures.value, c.as_slice-in-Ok-read_file.ensures.value) at c.build.ensures.faulty)
 
@@ -58,7 +62,9 @@ returns-in-Ok-read_file-clause-loads g c =
     loaded_refused_not names held c.in-Ok.text.items c.in-Ok-read_file.run'.items c.build.result
     (λ told. record {
       text_is = within held names.text _ told (λ l. let e = c.in-Ok.ensures.lacking l in cc) c.in-Ok.ensures.whole c.in-Ok.ensures.fits;
-      run_is = within held names.run _ told (λ l. let e = c.in-Ok-read_file.ensures.lacking (rw same l) in cc) (λ file h. c.in-Ok-read_file.ensures.whole file (rw same h)) c.in-Ok-read_file.ensures.fits;
+      run_is = within held names.run _ told (λ l. let e = c.in-Ok-read_file.ensures.lacking
+          (rw same l) in cc) (λ file h. c.in-Ok-read_file.ensures.whole file
+          (rw same h)) c.in-Ok-read_file.ensures.fits;
     })
     (rw (c.as_slice.ensures.value, c.as_slice-in-Ok-read_file.ensures.value) at c.build.ensures.loads)
 

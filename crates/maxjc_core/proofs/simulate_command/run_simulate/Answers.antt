@@ -10,7 +10,12 @@ use Rattle.maxjc_core.specs.RunCauses.{IsFaulty}
 use Rattle.maxjc_core.specs.RunEnds.{RefusesRun, ReadFails}
 use Rattle.maxjc_core.proofs.Refusing.{both_of, of_cause}
 use Rattle.maxjc_core.proofs.RunEnding.{IsMade, IsSimulated, simulated, ends_so}
-use Rattle.maxjc_core.proofs.RunClauses.{stopped_not_done, stopped_not_limited, run_done, run_limited, answers_done, answers_limited, fails_done, fails_limited, stands_not, lacks_not, lacks_cut_off, others_so, leaves_ended, leaves_stopped, refused_stands, read_fault_so, cut_off_so, fault_told, failed_so, reads_no_other, writes_no_other, quiet_reads, quiet_writes}
+use Rattle.maxjc_core.proofs.RunClauses.{stopped_not_done, stopped_not_limited, run_done}
+use Rattle.maxjc_core.proofs.RunClauses.{run_limited, answers_done, answers_limited, fails_done}
+use Rattle.maxjc_core.proofs.RunClauses.{fails_limited, stands_not, lacks_not, lacks_cut_off}
+use Rattle.maxjc_core.proofs.RunClauses.{others_so, leaves_ended, leaves_stopped, refused_stands}
+use Rattle.maxjc_core.proofs.RunClauses.{read_fault_so, cut_off_so, fault_told, failed_so}
+use Rattle.maxjc_core.proofs.RunClauses.{reads_no_other, writes_no_other, quiet_reads, quiet_writes}
 use Rattle.maxjc_core.proofs.Writing.{words_so}
 use Rattle.maxjc_core.proofs.Finishing.{finishes-ended, finishes-stopped, finishes-unloaded}
 use Rattle.maxjc_core.proofs.simulate_command.run_simulate.Goals as goal
@@ -19,7 +24,11 @@ pub returns-in-Ok-simulate-clause-done : goal.returns-in-Ok-simulate-clause-done
 returns-in-Ok-simulate-clause-done g c =
     let held : Held = g.F.Files.held c.args.files.now in
     let made : IsMade (run_told c.args.names) held c.in-Ok.field-0.design c.in-Ok.field-0.plan = record { can = c.in-Ok.ensures.can_run; loaded = c.in-Ok.ensures.answers } in
-    let sim : IsSimulated (λ pick edge port. g.G.Fn.post c.args.stalls.now.test (pick, (edge, (port, tt)))) c.in-Ok.field-0.design c.in-Ok.field-0.plan held (g.F.Files.held c.simulate.new.files) (Ok c.in-Ok-simulate.outcome) =
+    let sim : IsSimulated (λ pick edge port. g.G.Fn.post c.args.stalls.now.test (
+      pick,
+      (edge, (port, tt)),
+    )) c.in-Ok.field-0.design c.in-Ok.field-0.plan held
+    (g.F.Files.held c.simulate.new.files) (Ok c.in-Ok-simulate.outcome) =
     simulated c.in-Ok.ensures.same c.in-Ok-simulate.ensures.tells c.in-Ok-simulate.ensures.exact c.in-Ok-simulate.ensures.cells c.in-Ok-simulate.ensures.too_many in
     run_done c.in-Ok-simulate.outcome c.report.result _ _ made sim c.report.ensures.ends c.report.ensures.said
 
@@ -27,7 +36,11 @@ pub returns-in-Ok-simulate-clause-limited : goal.returns-in-Ok-simulate-clause-l
 returns-in-Ok-simulate-clause-limited g c =
     let held : Held = g.F.Files.held c.args.files.now in
     let made : IsMade (run_told c.args.names) held c.in-Ok.field-0.design c.in-Ok.field-0.plan = record { can = c.in-Ok.ensures.can_run; loaded = c.in-Ok.ensures.answers } in
-    let sim : IsSimulated (λ pick edge port. g.G.Fn.post c.args.stalls.now.test (pick, (edge, (port, tt)))) c.in-Ok.field-0.design c.in-Ok.field-0.plan held (g.F.Files.held c.simulate.new.files) (Ok c.in-Ok-simulate.outcome) =
+    let sim : IsSimulated (λ pick edge port. g.G.Fn.post c.args.stalls.now.test (
+      pick,
+      (edge, (port, tt)),
+    )) c.in-Ok.field-0.design c.in-Ok.field-0.plan held
+    (g.F.Files.held c.simulate.new.files) (Ok c.in-Ok-simulate.outcome) =
     simulated c.in-Ok.ensures.same c.in-Ok-simulate.ensures.tells c.in-Ok-simulate.ensures.exact c.in-Ok-simulate.ensures.cells c.in-Ok-simulate.ensures.too_many in
     run_limited c.in-Ok-simulate.outcome c.report.result _ _ made sim c.report.ensures.ends c.report.ensures.said
 
@@ -35,7 +48,11 @@ pub returns-in-Ok-simulate-clause-ends_done : goal.returns-in-Ok-simulate-clause
 returns-in-Ok-simulate-clause-ends_done g c =
     let held : Held = g.F.Files.held c.args.files.now in
     let made : IsMade (run_told c.args.names) held c.in-Ok.field-0.design c.in-Ok.field-0.plan = record { can = c.in-Ok.ensures.can_run; loaded = c.in-Ok.ensures.answers } in
-    let sim : IsSimulated (λ pick edge port. g.G.Fn.post c.args.stalls.now.test (pick, (edge, (port, tt)))) c.in-Ok.field-0.design c.in-Ok.field-0.plan held (g.F.Files.held c.simulate.new.files) (Ok c.in-Ok-simulate.outcome) =
+    let sim : IsSimulated (λ pick edge port. g.G.Fn.post c.args.stalls.now.test (
+      pick,
+      (edge, (port, tt)),
+    )) c.in-Ok.field-0.design c.in-Ok.field-0.plan held
+    (g.F.Files.held c.simulate.new.files) (Ok c.in-Ok-simulate.outcome) =
     simulated c.in-Ok.ensures.same c.in-Ok-simulate.ensures.tells c.in-Ok-simulate.ensures.exact c.in-Ok-simulate.ensures.cells c.in-Ok-simulate.ensures.too_many in
     λ l small restart vs edges ends. answers_done c.in-Ok-simulate.outcome edges c.report.result (ends_so l made sim small restart vs _ ends) c.report.ensures.ends
 
@@ -43,7 +60,11 @@ pub returns-in-Ok-simulate-clause-ends_limited : goal.returns-in-Ok-simulate-cla
 returns-in-Ok-simulate-clause-ends_limited g c =
     let held : Held = g.F.Files.held c.args.files.now in
     let made : IsMade (run_told c.args.names) held c.in-Ok.field-0.design c.in-Ok.field-0.plan = record { can = c.in-Ok.ensures.can_run; loaded = c.in-Ok.ensures.answers } in
-    let sim : IsSimulated (λ pick edge port. g.G.Fn.post c.args.stalls.now.test (pick, (edge, (port, tt)))) c.in-Ok.field-0.design c.in-Ok.field-0.plan held (g.F.Files.held c.simulate.new.files) (Ok c.in-Ok-simulate.outcome) =
+    let sim : IsSimulated (λ pick edge port. g.G.Fn.post c.args.stalls.now.test (
+      pick,
+      (edge, (port, tt)),
+    )) c.in-Ok.field-0.design c.in-Ok.field-0.plan held
+    (g.F.Files.held c.simulate.new.files) (Ok c.in-Ok-simulate.outcome) =
     simulated c.in-Ok.ensures.same c.in-Ok-simulate.ensures.tells c.in-Ok-simulate.ensures.exact c.in-Ok-simulate.ensures.cells c.in-Ok-simulate.ensures.too_many in
     λ l small restart vs edges ends. answers_limited c.in-Ok-simulate.outcome edges c.report.result (ends_so l made sim small restart vs _ ends) c.report.ensures.ends
 
@@ -51,7 +72,11 @@ pub returns-in-Ok-simulate-clause-stands : goal.returns-in-Ok-simulate-clause-st
 returns-in-Ok-simulate-clause-stands g c =
     let held : Held = g.F.Files.held c.args.files.now in
     let made : IsMade (run_told c.args.names) held c.in-Ok.field-0.design c.in-Ok.field-0.plan = record { can = c.in-Ok.ensures.can_run; loaded = c.in-Ok.ensures.answers } in
-    let sim : IsSimulated (λ pick edge port. g.G.Fn.post c.args.stalls.now.test (pick, (edge, (port, tt)))) c.in-Ok.field-0.design c.in-Ok.field-0.plan held (g.F.Files.held c.simulate.new.files) (Ok c.in-Ok-simulate.outcome) =
+    let sim : IsSimulated (λ pick edge port. g.G.Fn.post c.args.stalls.now.test (
+      pick,
+      (edge, (port, tt)),
+    )) c.in-Ok.field-0.design c.in-Ok.field-0.plan held
+    (g.F.Files.held c.simulate.new.files) (Ok c.in-Ok-simulate.outcome) =
     simulated c.in-Ok.ensures.same c.in-Ok-simulate.ensures.tells c.in-Ok-simulate.ensures.exact c.in-Ok-simulate.ensures.cells c.in-Ok-simulate.ensures.too_many in
     λ cause stands. absurd (stands_not made sim c.in-Ok.ensures.faulty cause stands)
 
@@ -59,7 +84,11 @@ pub returns-in-Ok-clause-ends_done : goal.returns-in-Ok-clause-ends_done
 returns-in-Ok-clause-ends_done g c =
     let held : Held = g.F.Files.held c.args.files.now in
     let made : IsMade (run_told c.args.names) held c.in-Ok.field-0.design c.in-Ok.field-0.plan = record { can = c.in-Ok.ensures.can_run; loaded = c.in-Ok.ensures.answers } in
-    let sim : IsSimulated (λ pick edge port. g.G.Fn.post c.args.stalls.now.test (pick, (edge, (port, tt)))) c.in-Ok.field-0.design c.in-Ok.field-0.plan held (g.F.Files.held c.simulate.new.files) (Err c.in-Err.stop) =
+    let sim : IsSimulated (λ pick edge port. g.G.Fn.post c.args.stalls.now.test (
+      pick,
+      (edge, (port, tt)),
+    )) c.in-Ok.field-0.design c.in-Ok.field-0.plan held
+    (g.F.Files.held c.simulate.new.files) (Err c.in-Err.stop) =
     simulated c.in-Ok.ensures.same c.in-Err.ensures.tells c.in-Err.ensures.exact c.in-Err.ensures.cells c.in-Err.ensures.too_many in
     λ l small restart vs edges ends. inr (fails_done edges c.in-Err.stop c.stopped.result (ends_so l made sim small restart vs _ ends) c.stopped.ensures.ends)
 
@@ -67,7 +96,11 @@ pub returns-in-Ok-clause-ends_limited : goal.returns-in-Ok-clause-ends_limited
 returns-in-Ok-clause-ends_limited g c =
     let held : Held = g.F.Files.held c.args.files.now in
     let made : IsMade (run_told c.args.names) held c.in-Ok.field-0.design c.in-Ok.field-0.plan = record { can = c.in-Ok.ensures.can_run; loaded = c.in-Ok.ensures.answers } in
-    let sim : IsSimulated (λ pick edge port. g.G.Fn.post c.args.stalls.now.test (pick, (edge, (port, tt)))) c.in-Ok.field-0.design c.in-Ok.field-0.plan held (g.F.Files.held c.simulate.new.files) (Err c.in-Err.stop) =
+    let sim : IsSimulated (λ pick edge port. g.G.Fn.post c.args.stalls.now.test (
+      pick,
+      (edge, (port, tt)),
+    )) c.in-Ok.field-0.design c.in-Ok.field-0.plan held
+    (g.F.Files.held c.simulate.new.files) (Err c.in-Err.stop) =
     simulated c.in-Ok.ensures.same c.in-Err.ensures.tells c.in-Err.ensures.exact c.in-Err.ensures.cells c.in-Err.ensures.too_many in
     λ l small restart vs edges ends. inr (fails_limited edges c.in-Err.stop c.stopped.result (ends_so l made sim small restart vs _ ends) c.stopped.ensures.ends)
 
@@ -75,7 +108,11 @@ pub returns-in-Ok-clause-read_fault : goal.returns-in-Ok-clause-read_fault
 returns-in-Ok-clause-read_fault g c =
     let held : Held = g.F.Files.held c.args.files.now in
     let made : IsMade (run_told c.args.names) held c.in-Ok.field-0.design c.in-Ok.field-0.plan = record { can = c.in-Ok.ensures.can_run; loaded = c.in-Ok.ensures.answers } in
-    let sim : IsSimulated (λ pick edge port. g.G.Fn.post c.args.stalls.now.test (pick, (edge, (port, tt)))) c.in-Ok.field-0.design c.in-Ok.field-0.plan held (g.F.Files.held c.simulate.new.files) (Err c.in-Err.stop) =
+    let sim : IsSimulated (λ pick edge port. g.G.Fn.post c.args.stalls.now.test (
+      pick,
+      (edge, (port, tt)),
+    )) c.in-Ok.field-0.design c.in-Ok.field-0.plan held
+    (g.F.Files.held c.simulate.new.files) (Err c.in-Err.stop) =
     simulated c.in-Ok.ensures.same c.in-Err.ensures.tells c.in-Err.ensures.exact c.in-Err.ensures.cells c.in-Err.ensures.too_many in
     let count = c.in-Ok.ensures.quiet (λ e. cc) in
     read_fault_so c.in-Err.stop c.stopped.result made sim c.stopped.ensures.ends
@@ -99,7 +136,11 @@ pub returns-in-Ok-simulate-clause-words_done : goal.returns-in-Ok-simulate-claus
 returns-in-Ok-simulate-clause-words_done g c =
     let held : Held = g.F.Files.held c.args.files.now in
     let made : IsMade (run_told c.args.names) held c.in-Ok.field-0.design c.in-Ok.field-0.plan = record { can = c.in-Ok.ensures.can_run; loaded = c.in-Ok.ensures.answers } in
-    let sim : IsSimulated (λ pick edge port. g.G.Fn.post c.args.stalls.now.test (pick, (edge, (port, tt)))) c.in-Ok.field-0.design c.in-Ok.field-0.plan held (g.F.Files.held c.simulate.new.files) (Ok c.in-Ok-simulate.outcome) =
+    let sim : IsSimulated (λ pick edge port. g.G.Fn.post c.args.stalls.now.test (
+      pick,
+      (edge, (port, tt)),
+    )) c.in-Ok.field-0.design c.in-Ok.field-0.plan held
+    (g.F.Files.held c.simulate.new.files) (Ok c.in-Ok-simulate.outcome) =
     simulated c.in-Ok.ensures.same c.in-Ok-simulate.ensures.tells c.in-Ok-simulate.ensures.exact c.in-Ok-simulate.ensures.cells c.in-Ok-simulate.ensures.too_many in
     λ ended is. words_so c.in-Ok-simulate.outcome made sim
 
@@ -107,7 +148,11 @@ pub returns-in-Ok-simulate-clause-words_limited : goal.returns-in-Ok-simulate-cl
 returns-in-Ok-simulate-clause-words_limited g c =
     let held : Held = g.F.Files.held c.args.files.now in
     let made : IsMade (run_told c.args.names) held c.in-Ok.field-0.design c.in-Ok.field-0.plan = record { can = c.in-Ok.ensures.can_run; loaded = c.in-Ok.ensures.answers } in
-    let sim : IsSimulated (λ pick edge port. g.G.Fn.post c.args.stalls.now.test (pick, (edge, (port, tt)))) c.in-Ok.field-0.design c.in-Ok.field-0.plan held (g.F.Files.held c.simulate.new.files) (Ok c.in-Ok-simulate.outcome) =
+    let sim : IsSimulated (λ pick edge port. g.G.Fn.post c.args.stalls.now.test (
+      pick,
+      (edge, (port, tt)),
+    )) c.in-Ok.field-0.design c.in-Ok.field-0.plan held
+    (g.F.Files.held c.simulate.new.files) (Ok c.in-Ok-simulate.outcome) =
     simulated c.in-Ok.ensures.same c.in-Ok-simulate.ensures.tells c.in-Ok-simulate.ensures.exact c.in-Ok-simulate.ensures.cells c.in-Ok-simulate.ensures.too_many in
     λ ended is. words_so c.in-Ok-simulate.outcome made sim
 
@@ -133,7 +178,11 @@ pub returns-in-Ok-simulate-clause-missing_input : goal.returns-in-Ok-simulate-cl
 returns-in-Ok-simulate-clause-missing_input g c =
     let held : Held = g.F.Files.held c.args.files.now in
     let made : IsMade (run_told c.args.names) held c.in-Ok.field-0.design c.in-Ok.field-0.plan = record { can = c.in-Ok.ensures.can_run; loaded = c.in-Ok.ensures.answers } in
-    let sim : IsSimulated (λ pick edge port. g.G.Fn.post c.args.stalls.now.test (pick, (edge, (port, tt)))) c.in-Ok.field-0.design c.in-Ok.field-0.plan held (g.F.Files.held c.simulate.new.files) (Ok c.in-Ok-simulate.outcome) =
+    let sim : IsSimulated (λ pick edge port. g.G.Fn.post c.args.stalls.now.test (
+      pick,
+      (edge, (port, tt)),
+    )) c.in-Ok.field-0.design c.in-Ok.field-0.plan held
+    (g.F.Files.held c.simulate.new.files) (Ok c.in-Ok-simulate.outcome) =
     simulated c.in-Ok.ensures.same c.in-Ok-simulate.ensures.tells c.in-Ok-simulate.ensures.exact c.in-Ok-simulate.ensures.cells c.in-Ok-simulate.ensures.too_many in
     λ lacks. absurd (lacks_not made sim (λ file. ⊎_elim (λ e. cc) (λ e. cc) (c.in-Ok.ensures.missing file)) lacks)
 
@@ -141,7 +190,11 @@ pub returns-in-Ok-clause-missing_input : goal.returns-in-Ok-clause-missing_input
 returns-in-Ok-clause-missing_input g c =
     let held : Held = g.F.Files.held c.args.files.now in
     let made : IsMade (run_told c.args.names) held c.in-Ok.field-0.design c.in-Ok.field-0.plan = record { can = c.in-Ok.ensures.can_run; loaded = c.in-Ok.ensures.answers } in
-    let sim : IsSimulated (λ pick edge port. g.G.Fn.post c.args.stalls.now.test (pick, (edge, (port, tt)))) c.in-Ok.field-0.design c.in-Ok.field-0.plan held (g.F.Files.held c.simulate.new.files) (Err c.in-Err.stop) =
+    let sim : IsSimulated (λ pick edge port. g.G.Fn.post c.args.stalls.now.test (
+      pick,
+      (edge, (port, tt)),
+    )) c.in-Ok.field-0.design c.in-Ok.field-0.plan held
+    (g.F.Files.held c.simulate.new.files) (Err c.in-Err.stop) =
     simulated c.in-Ok.ensures.same c.in-Err.ensures.tells c.in-Err.ensures.exact c.in-Err.ensures.cells c.in-Err.ensures.too_many in
     lacks_cut_off c.stopped.result made sim c.stopped.ensures.ends (λ file. ⊎_elim (λ e. cc) (λ e. cc) (c.in-Ok.ensures.missing file))
 
@@ -149,7 +202,11 @@ pub returns-in-Ok-simulate-clause-others : goal.returns-in-Ok-simulate-clause-ot
 returns-in-Ok-simulate-clause-others g c =
     let held : Held = g.F.Files.held c.args.files.now in
     let made : IsMade (run_told c.args.names) held c.in-Ok.field-0.design c.in-Ok.field-0.plan = record { can = c.in-Ok.ensures.can_run; loaded = c.in-Ok.ensures.answers } in
-    let sim : IsSimulated (λ pick edge port. g.G.Fn.post c.args.stalls.now.test (pick, (edge, (port, tt)))) c.in-Ok.field-0.design c.in-Ok.field-0.plan held (g.F.Files.held c.simulate.new.files) (Ok c.in-Ok-simulate.outcome) =
+    let sim : IsSimulated (λ pick edge port. g.G.Fn.post c.args.stalls.now.test (
+      pick,
+      (edge, (port, tt)),
+    )) c.in-Ok.field-0.design c.in-Ok.field-0.plan held
+    (g.F.Files.held c.simulate.new.files) (Ok c.in-Ok-simulate.outcome) =
     simulated c.in-Ok.ensures.same c.in-Ok-simulate.ensures.tells c.in-Ok-simulate.ensures.exact c.in-Ok-simulate.ensures.cells c.in-Ok-simulate.ensures.too_many in
     others_so made sim (rw c.in-Ok.ensures.same at c.in-Ok-simulate.ensures.others)
 
@@ -157,7 +214,11 @@ pub returns-in-Ok-clause-others : goal.returns-in-Ok-clause-others
 returns-in-Ok-clause-others g c =
     let held : Held = g.F.Files.held c.args.files.now in
     let made : IsMade (run_told c.args.names) held c.in-Ok.field-0.design c.in-Ok.field-0.plan = record { can = c.in-Ok.ensures.can_run; loaded = c.in-Ok.ensures.answers } in
-    let sim : IsSimulated (λ pick edge port. g.G.Fn.post c.args.stalls.now.test (pick, (edge, (port, tt)))) c.in-Ok.field-0.design c.in-Ok.field-0.plan held (g.F.Files.held c.simulate.new.files) (Err c.in-Err.stop) =
+    let sim : IsSimulated (λ pick edge port. g.G.Fn.post c.args.stalls.now.test (
+      pick,
+      (edge, (port, tt)),
+    )) c.in-Ok.field-0.design c.in-Ok.field-0.plan held
+    (g.F.Files.held c.simulate.new.files) (Err c.in-Err.stop) =
     simulated c.in-Ok.ensures.same c.in-Err.ensures.tells c.in-Err.ensures.exact c.in-Err.ensures.cells c.in-Err.ensures.too_many in
     others_so made sim (rw c.in-Ok.ensures.same at c.in-Err.ensures.others)
 
@@ -165,7 +226,11 @@ pub returns-in-Ok-clause-cut_off : goal.returns-in-Ok-clause-cut_off
 returns-in-Ok-clause-cut_off g c =
     let held : Held = g.F.Files.held c.args.files.now in
     let made : IsMade (run_told c.args.names) held c.in-Ok.field-0.design c.in-Ok.field-0.plan = record { can = c.in-Ok.ensures.can_run; loaded = c.in-Ok.ensures.answers } in
-    let sim : IsSimulated (λ pick edge port. g.G.Fn.post c.args.stalls.now.test (pick, (edge, (port, tt)))) c.in-Ok.field-0.design c.in-Ok.field-0.plan held (g.F.Files.held c.simulate.new.files) (Err c.in-Err.stop) =
+    let sim : IsSimulated (λ pick edge port. g.G.Fn.post c.args.stalls.now.test (
+      pick,
+      (edge, (port, tt)),
+    )) c.in-Ok.field-0.design c.in-Ok.field-0.plan held
+    (g.F.Files.held c.simulate.new.files) (Err c.in-Err.stop) =
     simulated c.in-Ok.ensures.same c.in-Err.ensures.tells c.in-Err.ensures.exact c.in-Err.ensures.cells c.in-Err.ensures.too_many in
     let count = c.in-Ok.ensures.quiet (λ e. cc) in
     cut_off_so c.in-Err.stop c.stopped.result made sim c.stopped.ensures.ends
@@ -180,11 +245,20 @@ pub returns-in-Ok-clause-refused : goal.returns-in-Ok-clause-refused
 returns-in-Ok-clause-refused g c =
     let held : Held = g.F.Files.held c.args.files.now in
     let made : IsMade (run_told c.args.names) held c.in-Ok.field-0.design c.in-Ok.field-0.plan = record { can = c.in-Ok.ensures.can_run; loaded = c.in-Ok.ensures.answers } in
-    let sim : IsSimulated (λ pick edge port. g.G.Fn.post c.args.stalls.now.test (pick, (edge, (port, tt)))) c.in-Ok.field-0.design c.in-Ok.field-0.plan held (g.F.Files.held c.simulate.new.files) (Err c.in-Err.stop) =
+    let sim : IsSimulated (λ pick edge port. g.G.Fn.post c.args.stalls.now.test (
+      pick,
+      (edge, (port, tt)),
+    )) c.in-Ok.field-0.design c.in-Ok.field-0.plan held
+    (g.F.Files.held c.simulate.new.files) (Err c.in-Err.stop) =
     simulated c.in-Ok.ensures.same c.in-Err.ensures.tells c.in-Err.ensures.exact c.in-Err.ensures.cells c.in-Err.ensures.too_many in
     λ refused.
     let stalls : Answers = λ pick edge port. g.G.Fn.post c.args.stalls.now.test (pick, (edge, (port, tt))) in
-    let both = both_of (stop_cause c.in-Err.stop) (λ cause. IsSome held → RefusesRun stalls (run_told c.args.names) held (g.F.Files.held c.simulate.new.files) cause) (λ cause. g.S.Say.said c.stopped.new.say ≡ said_more (g.S.Say.said c.args.say.now) (line_of cause)) (refused_stands c.in-Err.stop c.stopped.result made sim c.stopped.ensures.ends refused) (c.stopped.ensures.said refused) in
+    let both = both_of (stop_cause c.in-Err.stop) (λ cause. IsSome held
+    → RefusesRun stalls (run_told c.args.names) held
+    (g.F.Files.held c.simulate.new.files) cause) (λ cause. g.S.Say.said c.stopped.new.say
+    ≡ said_more (g.S.Say.said c.args.say.now) (line_of cause))
+    (refused_stands c.in-Err.stop c.stopped.result made sim c.stopped.ensures.ends refused)
+    (c.stopped.ensures.said refused) in
     record { cause = both.0; stands = both.1; said = both.2 }
 
 pub returns-in-Err-Refused-clause-refused : goal.returns-in-Err-Refused-clause-refused
@@ -193,7 +267,9 @@ returns-in-Err-Refused-clause-refused g c = λ refused.
     let names = run_told c.args.names in
     let cause = cause_told c.in-Err-Refused.refusal in
     let faulty : IfCause cause (λ cause. IsSome held → IsFaulty names held cause) = rw c.in-Err-Refused.field-0-is at c.in-Err-Refused.ensures.answers in
-    let both = both_of cause (λ cause. IsSome held → IsFaulty names held cause) (λ cause. g.S.Say.said c.refuse.new.say ≡ said_more (g.S.Say.said c.args.say.now) (line_of cause)) faulty (c.refuse.ensures.said refused) in
+    let both = both_of cause (λ cause. IsSome held
+    → IsFaulty names held cause) (λ cause. g.S.Say.said c.refuse.new.say ≡ said_more
+    (g.S.Say.said c.args.say.now) (line_of cause)) faulty (c.refuse.ensures.said refused) in
     record { cause = both.0; stands = λ told. RefusesRun.unbegun both.0 (both.1 told) c.in-Err-Refused.ensures.same; said = both.2 }
 
 pub returns-in-Err-Refused-clause-missing_input : goal.returns-in-Err-Refused-clause-missing_input
@@ -208,7 +284,11 @@ pub returns-in-Ok-simulate-clause-leaves : goal.returns-in-Ok-simulate-clause-le
 returns-in-Ok-simulate-clause-leaves g c =
     let held : Held = g.F.Files.held c.args.files.now in
     let made : IsMade (run_told c.args.names) held c.in-Ok.field-0.design c.in-Ok.field-0.plan = record { can = c.in-Ok.ensures.can_run; loaded = c.in-Ok.ensures.answers } in
-    let sim : IsSimulated (λ pick edge port. g.G.Fn.post c.args.stalls.now.test (pick, (edge, (port, tt)))) c.in-Ok.field-0.design c.in-Ok.field-0.plan held (g.F.Files.held c.simulate.new.files) (Ok c.in-Ok-simulate.outcome) =
+    let sim : IsSimulated (λ pick edge port. g.G.Fn.post c.args.stalls.now.test (
+      pick,
+      (edge, (port, tt)),
+    )) c.in-Ok.field-0.design c.in-Ok.field-0.plan held
+    (g.F.Files.held c.simulate.new.files) (Ok c.in-Ok-simulate.outcome) =
     simulated c.in-Ok.ensures.same c.in-Ok-simulate.ensures.tells c.in-Ok-simulate.ensures.exact c.in-Ok-simulate.ensures.cells c.in-Ok-simulate.ensures.too_many in
     leaves_ended c.in-Ok-simulate.outcome made sim
 
@@ -216,7 +296,11 @@ pub returns-in-Ok-clause-leaves : goal.returns-in-Ok-clause-leaves
 returns-in-Ok-clause-leaves g c =
     let held : Held = g.F.Files.held c.args.files.now in
     let made : IsMade (run_told c.args.names) held c.in-Ok.field-0.design c.in-Ok.field-0.plan = record { can = c.in-Ok.ensures.can_run; loaded = c.in-Ok.ensures.answers } in
-    let sim : IsSimulated (λ pick edge port. g.G.Fn.post c.args.stalls.now.test (pick, (edge, (port, tt)))) c.in-Ok.field-0.design c.in-Ok.field-0.plan held (g.F.Files.held c.simulate.new.files) (Err c.in-Err.stop) =
+    let sim : IsSimulated (λ pick edge port. g.G.Fn.post c.args.stalls.now.test (
+      pick,
+      (edge, (port, tt)),
+    )) c.in-Ok.field-0.design c.in-Ok.field-0.plan held
+    (g.F.Files.held c.simulate.new.files) (Err c.in-Err.stop) =
     simulated c.in-Ok.ensures.same c.in-Err.ensures.tells c.in-Err.ensures.exact c.in-Err.ensures.cells c.in-Err.ensures.too_many in
     leaves_stopped made sim (rw c.in-Ok.ensures.same at c.in-Err.ensures.leaves)
 
@@ -232,7 +316,11 @@ pub returns-in-Ok-simulate-clause-finishes : goal.returns-in-Ok-simulate-clause-
 returns-in-Ok-simulate-clause-finishes g c =
     let held : Held = g.F.Files.held c.args.files.now in
     let made : IsMade (run_told c.args.names) held c.in-Ok.field-0.design c.in-Ok.field-0.plan = record { can = c.in-Ok.ensures.can_run; loaded = c.in-Ok.ensures.answers } in
-    let sim : IsSimulated (λ pick edge port. g.G.Fn.post c.args.stalls.now.test (pick, (edge, (port, tt)))) c.in-Ok.field-0.design c.in-Ok.field-0.plan held (g.F.Files.held c.simulate.new.files) (Ok c.in-Ok-simulate.outcome) =
+    let sim : IsSimulated (λ pick edge port. g.G.Fn.post c.args.stalls.now.test (
+      pick,
+      (edge, (port, tt)),
+    )) c.in-Ok.field-0.design c.in-Ok.field-0.plan held
+    (g.F.Files.held c.simulate.new.files) (Ok c.in-Ok-simulate.outcome) =
     simulated c.in-Ok.ensures.same c.in-Ok-simulate.ensures.tells c.in-Ok-simulate.ensures.exact c.in-Ok-simulate.ensures.cells c.in-Ok-simulate.ensures.too_many in
     λ told. finishes-ended c.in-Ok-simulate.outcome c.report.result _ _ c.requires.free made sim c.report.ensures.ends c.report.ensures.said
 
@@ -240,7 +328,11 @@ pub returns-in-Ok-clause-finishes : goal.returns-in-Ok-clause-finishes
 returns-in-Ok-clause-finishes g c =
     let held : Held = g.F.Files.held c.args.files.now in
     let made : IsMade (run_told c.args.names) held c.in-Ok.field-0.design c.in-Ok.field-0.plan = record { can = c.in-Ok.ensures.can_run; loaded = c.in-Ok.ensures.answers } in
-    let sim : IsSimulated (λ pick edge port. g.G.Fn.post c.args.stalls.now.test (pick, (edge, (port, tt)))) c.in-Ok.field-0.design c.in-Ok.field-0.plan held (g.F.Files.held c.simulate.new.files) (Err c.in-Err.stop) =
+    let sim : IsSimulated (λ pick edge port. g.G.Fn.post c.args.stalls.now.test (
+      pick,
+      (edge, (port, tt)),
+    )) c.in-Ok.field-0.design c.in-Ok.field-0.plan held
+    (g.F.Files.held c.simulate.new.files) (Err c.in-Err.stop) =
     simulated c.in-Ok.ensures.same c.in-Err.ensures.tells c.in-Err.ensures.exact c.in-Err.ensures.cells c.in-Err.ensures.too_many in
     λ told. finishes-stopped c.in-Err.stop c.stopped.result _ _ c.requires.free made sim c.stopped.ensures.ends
 

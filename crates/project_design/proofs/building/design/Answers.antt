@@ -10,5 +10,7 @@ returns c = record {
   are_fifos = c.in_ok-modules.ensures;
   modules =
       c.from_vec.ensures
-      ∙ in_order c.in_ok-modules.modules.items c.args.inners.items c.append.new.self.items c.push.new.self.items c.in_ok-top.field-0 _ c.in_ok-append.ensures.items c.in_ok-push.ensures.items c.in_ok-top.ensures;
+      ∙ in_order c.in_ok-modules.modules.items c.args.inners.items c.append.new.self.items
+      c.push.new.self.items c.in_ok-top.field-0 _ c.in_ok-append.ensures.items
+      c.in_ok-push.ensures.items c.in_ok-top.ensures;
 }

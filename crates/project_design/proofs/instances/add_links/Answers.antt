@@ -40,7 +40,10 @@ loop-number-preserved c =
     ap (λ (a : List Instance). length a) c.in_ok-add_instance.ensures ∙ length-append l.instances (instance (length l.instances) c.in_ok-name.name c.in_ok-fifo_nets.field-0 ∷ []) in
     let q = l.invariant.count in
     record {
-      told = link_step c.args.blocks.now.project.now l.number c.stream_net-taken.result c.stream_net-given.result links (get_or links l.number no_ends) c.in_ok-name.name c.in_ok-fifo_nets.field-0 l.instances new _
+      told = link_step c.args.blocks.now.project.now l.number c.stream_net-taken.result
+          c.stream_net-given.result links
+          (get_or links l.number no_ends) c.in_ok-name.name c.in_ok-fifo_nets.field-0
+          l.instances new _
           (omega (arith, c.loop-number-test.true)) (same_item links l.number no_ends (omega (arith, c.loop-number-test.true))) c.in_ok-name.ensures
           c.stream_net-taken.ensures.is c.stream_net-given.ensures.is c.in_ok-fifo_nets.ensures c.in_ok-add_instance.ensures l.invariant.told;
       count = omega arith;

@@ -55,7 +55,9 @@ loop-host-preserved c =
     let p = l.invariant.port in
     let q = l.invariant.count in
     record {
-      told = output_step c.args.blocks.now.project.now l.port l.host-index c.stream_net.result c.args.hosts.now c.host-item.result c.in_ok-name.name c.in_ok-nets.nets l.instances new _ c.loop-host-test.true c.host-item.is
+      told = output_step c.args.blocks.now.project.now l.port l.host-index c.stream_net.result
+          c.args.hosts.now c.host-item.result c.in_ok-name.name c.in_ok-nets.nets l.instances
+          new _ c.loop-host-test.true c.host-item.is
           (c.in_ok-name.ensures ∙ ap (λ b. codes "fifo$out$" ++ b) c.as_bytes.ensures) c.stream_net.ensures.is c.in_ok-nets.ensures c.in_ok-add_instance.ensures l.invariant.told;
       port = omega arith;
       count = omega arith;

@@ -16,4 +16,6 @@ loop-place-preserved c =
     let old = c.loop-place.nets in
     let rest = range (from + (k + 1)) (count - (k + 1)) in
     let lt = c.loop-place-test.true in
-    ap (λ l. l ++ rest) c.in_ok-push.ensures.ok ∙ append_assoc old (c.new.result ∷ []) rest ∙ ap (λ z. old ++ z ∷ rest) c.new.ensures ∙ ap (λ l. old ++ l) (sym (next from count k (omega arith))) ∙ c.loop-place.invariant
+    ap (λ l. l ++ rest) c.in_ok-push.ensures.ok ∙ append_assoc old (c.new.result
+    ∷ []) rest ∙ ap (λ z. old ++ z ∷ rest) c.new.ensures ∙ ap (λ l. old
+    ++ l) (sym (next from count k (omega arith))) ∙ c.loop-place.invariant

@@ -11,7 +11,10 @@ feed_ports-requires-clause-nets c = λ j n at.
     omega (arith, c.requires.size)
 
 pub feed_ports-requires-clause-ports : goal.feed_ports-requires-clause-ports
-feed_ports-requires-clause-ports c = (c.requires.formed.instances c.loop-place.place c.at-instance.result.now c.at-instance.ensures).ports c.at-inner.result.now (rw (sym c.index.ensures.number) c.at-inner.ensures)
+feed_ports-requires-clause-ports c =
+    (c.requires.formed.instances c.loop-place.place c.at-instance.result.now
+    c.at-instance.ensures).ports c.at-inner.result.now (rw
+    (sym c.index.ensures.number) c.at-inner.ensures)
 
 pub loop-place-preserved : goal.loop-place-preserved
 loop-place-preserved c = λ a fed.

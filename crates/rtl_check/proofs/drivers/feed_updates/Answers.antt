@@ -34,7 +34,12 @@ loop-place-preserved c =
           let net = w.in-Reg.net in
           let lt : net < length c.loop-place.nets = omega (arith, c.requires.nets j u c.at.ensures, sym (ap target_net w.in-Reg.is)) in
           record {
-            nets = λ d a k fed. rw w.nets-is (rw w.index-number.ensures.number (update_fed d m c.loop-place.nets a k j u net w.is_register-may.result _ _ c.at.ensures w.in-Reg.is c.requires.wires w.is_register-may.ensures (slice_get-get_or c.loop-place.nets net _ lt) (rw w.index-number.ensures.number at w.after.ensures) (c.loop-place.invariant.nets d a k fed)));
+            nets = λ d a k fed. rw w.nets-is (rw w.index-number.ensures.number
+                (update_fed d m c.loop-place.nets a k j u net w.is_register-may.result _ _
+                c.at.ensures w.in-Reg.is c.requires.wires w.is_register-may.ensures
+                (slice_get-get_or c.loop-place.nets net _ lt)
+                (rw w.index-number.ensures.number at w.after.ensures)
+                (c.loop-place.invariant.nets d a k fed)));
             mems = λ h. rw w.mems-is (write_skipped m c.loop-place.mems j u net c.at.ensures w.in-Reg.is (c.loop-place.invariant.mems h));
           }
       | in-Cell w ↦
@@ -42,7 +47,11 @@ loop-place-preserved c =
           let lt : mem < length c.loop-place.mems = omega (arith, c.requires.mems j mem u c.at.ensures (ap target_mem w.in-Cell.is)) in
           record {
             nets = λ d a k fed. rw w.nets-is (update_skipped d m c.loop-place.nets a k j u mem w.in-Cell.field-1 c.at.ensures w.in-Cell.is (c.loop-place.invariant.nets d a k fed));
-            mems = λ h. rw w.mems-is (rw w.index-number-in-Cell.ensures.number (write_seen m c.loop-place.mems j u mem w.in-Cell.field-1 _ _ c.at.ensures w.in-Cell.is (slice_get-get_or c.loop-place.mems mem _ lt) (rw w.index-number-in-Cell.ensures.number at w.after-in-Cell.ensures) (c.loop-place.invariant.mems h)));
+            mems = λ h. rw w.mems-is (rw w.index-number-in-Cell.ensures.number
+                (write_seen m c.loop-place.mems j u mem w.in-Cell.field-1 _ _ c.at.ensures
+                w.in-Cell.is (slice_get-get_or c.loop-place.mems mem _ lt)
+                (rw w.index-number-in-Cell.ensures.number at w.after-in-Cell.ensures)
+                (c.loop-place.invariant.mems h)));
           }
     ]
 

@@ -17,5 +17,9 @@ loop-place-preserved c =
     let lt = c.requires i p c.at-port.ensures in
     rw c.index.ensures.number (record {
       size = c.loop-place.invariant.size;
-      marks = λ n mark at. rw (take_more_at ports i p c.at-port.ensures) (input_marked c.loop-place.marks.items (take i ports) p c.if-port.false (omega (arith, c.loop-place.invariant.size)) c.loop-place.invariant.marks n mark at);
+      marks = λ n mark at. rw (take_more_at ports i p c.at-port.ensures)
+          (input_marked c.loop-place.marks.items (take i ports) p c.if-port.false (omega (
+            arith,
+            c.loop-place.invariant.size,
+          )) c.loop-place.invariant.marks n mark at);
     })

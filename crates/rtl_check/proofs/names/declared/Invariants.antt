@@ -11,4 +11,6 @@ abbrev pub invariant-loop-mem : goal.invariant-loop-mem
 invariant-loop-mem l = map (λ name. name.now) l.names.items ≡ map (λ (n : Net). n.name) l.module.nets ++ map (λ (k : Mem). k.name) (take l.mem-index l.module.mems)
 
 abbrev pub invariant-loop-instance : goal.invariant-loop-instance
-invariant-loop-instance l = map (λ name. name.now) l.names.items ≡ map (λ (n : Net). n.name) l.module.nets ++ map (λ (k : Mem). k.name) l.module.mems ++ map (λ (i : Instance). i.name) (take l.instance-index l.module.instances)
+invariant-loop-instance l = map (λ name. name.now) l.names.items ≡ map
+    (λ (n : Net). n.name) l.module.nets ++ map (λ (k : Mem). k.name) l.module.mems
+    ++ map (λ (i : Instance). i.name) (take l.instance-index l.module.instances)

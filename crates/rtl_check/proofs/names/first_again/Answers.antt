@@ -18,7 +18,10 @@ loop-place-preserved c =
     let names = c.args.names.now in let i = c.loop-place.place in
     record {
       seen = λ q. c.in_ok-insert.ensures.updates.0 q ∙ ap (λ b. cond (is (get_or names i nothing) q) true b) (c.loop-place.invariant.seen q) ∙ seen_more names nothing q i (omega arith);
-      none = more_not_again (texts names) i c.loop-place.invariant.none (not_again names nothing i _ c.in_ok-insert.field-0 (omega arith) c.in_ok-insert.ensures.added (c.loop-place.invariant.seen (get_or names i nothing)) c.if-not-branch.false);
+      none = more_not_again (texts names) i c.loop-place.invariant.none
+          (not_again names nothing i _ c.in_ok-insert.field-0
+          (omega arith) c.in_ok-insert.ensures.added (c.loop-place.invariant.seen
+          (get_or names i nothing)) c.if-not-branch.false);
     }
 
 pub returns-clause-none : goal.returns-clause-none

@@ -8,7 +8,9 @@ use Rattle.rtl_check.proofs.paths.add_assigns.Goals as goal
 pub loop-place-preserved : goal.loop-place-preserved
 loop-place-preserved c =
     let m = c.args.module.now in let j = c.loop-place.place in let a = c.at-assign.result.now in
-    let g = c.loop-place.graph in let e = c.index-number.ensures.number in let d = c.index-graph-number.result in let old = get_or g a.target d in let there = get_or g c.index-number.result d in let now = c.join.new.self in
+    let g = c.loop-place.graph in let e = c.index-number.ensures.number in let d =
+    c.index-graph-number.result in let old = get_or g a.target d in let there = get_or g
+    c.index-number.result d in let now = c.join.new.self in
     let small : a.target < 2 ^ 32 = omega arith in
     let lt : a.target < length g = let w = c.requires j a c.at-assign.ensures small in omega arith in
     let was = slice_get-get_or g a.target d lt in

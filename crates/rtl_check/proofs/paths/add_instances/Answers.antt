@@ -11,7 +11,9 @@ loop-place-preserved c =
     let table = item_at tables tables i.module paths refl (c.requires.earlier k i c.at-instance.ensures) (rw (sym c.index-number.ensures.number) c.index-tables-number.is) in
     let same = c.as_slice-table.ensures in
     record {
-      added = parted_more m tables k i paths c.args.graph.now c.loop-place.graph c.add_paths.new.graph c.at-instance.ensures table c.loop-place.invariant.added (rw (sym same) c.in_ok-add_paths.ensures.added);
+      added = parted_more m tables k i paths c.args.graph.now c.loop-place.graph
+          c.add_paths.new.graph c.at-instance.ensures table c.loop-place.invariant.added
+          (rw (sym same) c.in_ok-add_paths.ensures.added);
       small = λ s. c.in_ok-add_paths.ensures.small (c.loop-place.invariant.small s);
     }
 

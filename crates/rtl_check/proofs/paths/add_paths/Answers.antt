@@ -40,6 +40,8 @@ loop-output-preserved c =
     let joined : AreJoined i inputs (length inputs) nets = c.in_ok-joined.ensures in
     let is : now ≡ old ++ nets = subst (λ (k : ℕ). now ≡ get_or g k d ++ nets) e c.in_ok-join.ensures in
     rw e (record {
-      added = adds_now (IsPassed i table n) (IsPassed i table (n + 1)) c.args.graph.now g to old nets now was is (steps_row i table n to inputs nets at c.at.ensures joined) c.loop-output.invariant.added;
+      added = adds_now (IsPassed i table n) (IsPassed i table
+          (n + 1)) c.args.graph.now g to old nets now was is
+          (steps_row i table n to inputs nets at c.at.ensures joined) c.loop-output.invariant.added;
       small = λ s. small_now g to old nets now was is joined.small (c.loop-output.invariant.small s);
     })

@@ -16,7 +16,12 @@ loop-input-preserved c =
     let lt = c.requires.nets c.loop-input.input p c.at-port.ensures small in
     rw c.index-net.ensures.number (record {
       size = c.loop-input.invariant.size;
-      places = place_more c.args.module.now c.loop-input.input c.loop-input.places.items p c.requires.apart c.at-port.ensures c.if-port.false (omega (arith, lt, c.loop-input.invariant.size)) c.loop-input.invariant.places;
+      places = place_more c.args.module.now c.loop-input.input c.loop-input.places.items p
+          c.requires.apart c.at-port.ensures c.if-port.false (omega (
+            arith,
+            lt,
+            c.loop-input.invariant.size,
+          )) c.loop-input.invariant.places;
     })
 
 pub returns-clause-places : goal.returns-clause-places

@@ -11,7 +11,9 @@ loop-output-preserved-then-not-port c =
     let m = c.args.module.now in let g = c.args.graph.now in let output = c.loop-output.output in let table = c.loop-output.table in
     let is : c.push.new.self ≡ table ++ [] ∷ [] = c.in_ok-push.ensures.ok ∙ ap (λ (l : List ℕ). table ++ l ∷ []) c.none.ensures in
     record {
-      paths = subst (ArePaths (Reaches g) m (λ i o. o < output + 1)) (sym is) (row_skipped (Reaches g) m table output c.at-port.result.now c.at-port.ensures c.if-not-port.true c.loop-output.invariant.paths);
+      paths = subst (ArePaths (Reaches g) m (λ i o. o < output + 1)) (sym is)
+          (row_skipped (Reaches g) m table output c.at-port.result.now c.at-port.ensures
+          c.if-not-port.true c.loop-output.invariant.paths);
       rows = ap length is ∙ length_push table [] ∙ ap (λ (k : ℕ). k + 1) c.loop-output.invariant.rows;
       size = c.loop-output.invariant.size;
       seen = λ x. omega (arith, c.loop-output.invariant.seen x);
@@ -26,10 +28,14 @@ loop-output-preserved c =
     let listed = subst (λ (l : List ℕ). AreAmong places l (length l) found) c.as_slice-in-loop-output.ensures.value (rw c.as_slice.ensures.value at c.in_ok-inputs.ensures) in
     let among = among_same places nodes found row (length nodes) c.in_ok-of.ensures listed in
     let items = c.loop-output.seen.items in let new = c.fan_in.new.seen in
-    let same : take c.loop-output.seen.len (new ++ drop (length new) items) ≡ new = written_back c.loop-output.seen.len new items (omega (arith, c.in_ok-nodes.ensures.size, c.loop-output.invariant.size)) (omega arith) in
+    let same : take c.loop-output.seen.len (new
+    ++ drop (length new) items) ≡ new = written_back c.loop-output.seen.len new items
+    (omega (arith, c.in_ok-nodes.ensures.size, c.loop-output.invariant.size)) (omega arith) in
     let is : c.push-in-loop-output.new.self ≡ table ++ row ∷ [] = c.in_ok-push-2.ensures.ok in
     record {
-      paths = subst (ArePaths (Reaches g) m (λ i o. o < output + 1)) (sym is) (row_more g m table output p row nodes places c.at-port.ensures c.if-not-port.false are fan among c.loop-output.invariant.rows c.loop-output.invariant.paths);
+      paths = subst (ArePaths (Reaches g) m (λ i o. o < output + 1)) (sym is)
+          (row_more g m table output p row nodes places c.at-port.ensures c.if-not-port.false
+          are fan among c.loop-output.invariant.rows c.loop-output.invariant.paths);
       rows = ap length is ∙ length_push table row ∙ ap (λ (k : ℕ). k + 1) c.loop-output.invariant.rows;
       size = ap length same ∙ c.in_ok-nodes.ensures.size;
       seen = λ x. subst (λ (l : List ℕ). slice_index l x ≤ c.loop-output.output + 1) (sym same) (c.in_ok-nodes.ensures.earlier x);

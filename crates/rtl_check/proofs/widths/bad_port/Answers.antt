@@ -16,7 +16,9 @@ net_name-requires c = (c.requires.instances c.loop-number.number c.at-instance.r
 pub returns-in-Some-clause-some : goal.returns-in-Some-clause-some
 returns-in-Some-clause-some c =
     let d = c.args.design.now in let m = c.args.module.now in let k = c.loop-number.number in
-    let bad = bad_part d m k c.in-Some.place c.at-instance.result.now c.at.result.now c.at-instance.ensures c.at.ensures (c.in-Some.ensures.some d k c.at-instance.ensures (rw (sym c.index.ensures.number) c.at-inner.ensures)) c.loop-number.invariant in
+    let bad = bad_part d m k c.in-Some.place c.at-instance.result.now c.at.result.now
+    c.at-instance.ensures c.at.ensures (c.in-Some.ensures.some d k c.at-instance.ensures
+    (rw (sym c.index.ensures.number) c.at-inner.ensures)) c.loop-number.invariant in
     (k, c.in-Some.place, bad.connected, bad.instance, bad.port, c.net_name.ensures ∙ ap (name_of m) (sym bad.joins))
 
 pub loop-number-preserved : goal.loop-number-preserved

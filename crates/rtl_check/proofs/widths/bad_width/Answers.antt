@@ -20,7 +20,10 @@ target_name-requires-clause-mem c = (c.requires.updates c.in-Some-bad_update.pla
 pub returns-in-Some-bad_update-clause-some : goal.returns-in-Some-bad_update-clause-some
 returns-in-Some-bad_update-clause-some c =
     let d = c.args.design.now in let m = c.args.module.now in
-    subst (IsWidth d m) (sym c.target_name.ensures) (of_update c.in-Some-bad_update.place c.at-in-Some-bad_update.result.now (no_bad_assign m c.in_default.ensures.none) c.in-Some-bad_update.ensures.some c.at-in-Some-bad_update.ensures)
+    subst (IsWidth d m) (sym c.target_name.ensures)
+    (of_update c.in-Some-bad_update.place c.at-in-Some-bad_update.result.now
+    (no_bad_assign m c.in_default.ensures.none) c.in-Some-bad_update.ensures.some
+    c.at-in-Some-bad_update.ensures)
 
 pub returns-in-Some-bad_port-clause-some : goal.returns-in-Some-bad_port-clause-some
 returns-in-Some-bad_port-clause-some c =

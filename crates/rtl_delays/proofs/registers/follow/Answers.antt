@@ -20,5 +20,8 @@ returns c =
       others = on_ok_weaker c.update.result (λ a. register_leaves m n c.args.register.net c.args.run.net c.args.from.net (ap (λ (k : Module). k.updates) a.is)) c.update.ensures;
       stored = on_ok_weaker c.update.result (λ a. update_stored a) c.update.ensures;
       written = on_ok_weaker c.update.result (λ a. written_by n _ c.args.register.net refl (has_added a)) c.update.ensures;
-      delay = on_ok_weaker c.update.result (λ a reset. register_delays n c.args.run.net reset c.args.from.net c.args.register.net ((update_extends q.sound may a).regs c.args.register.net q.register.register) (has_added a)) c.update.ensures;
+      delay = on_ok_weaker c.update.result
+          (λ a reset. register_delays n c.args.run.net reset c.args.from.net c.args.register.net
+          ((update_extends q.sound may a).regs c.args.register.net q.register.register)
+          (has_added a)) c.update.ensures;
     }

@@ -31,13 +31,24 @@ returns c =
     let first = makes_extends q.sound next in
     let second = extends_on first (makes_extends first.sound step) in
     let same : wired.updates ≡ m.updates = step.adds.updates ∙ next.adds.updates in
-    let more : stepped.updates ≡ wired.updates ++ (record { enable = c.in_ok-step.step.net; target = Reg ring.pointer.net; value = c.in_ok-next.next.net }) ∷ [] = ap (λ (x : Module). x.updates) a.is in
-    let may = may_update wired c.in_ok-step.step ring.pointer c.in_ok-next.next step.signal (second.registers ring.pointer q.ring.register) (step.keeps c.in_ok-next.next next.signal) (step.width ∙ q.run_bit) next.width
+    let more : stepped.updates ≡ wired.updates ++ (record {
+      enable = c.in_ok-step.step.net;
+      target = Reg ring.pointer.net;
+      value = c.in_ok-next.next.net;
+    }) ∷ [] = ap (λ (x : Module). x.updates) a.is in
+    let may = may_update wired c.in_ok-step.step ring.pointer c.in_ok-next.next step.signal
+    (second.registers ring.pointer q.ring.register)
+    (step.keeps c.in_ok-next.next next.signal) (step.width ∙ q.run_bit) next.width
     (ap (writes_reg ring.pointer.net) same ∙ q.free.pointer) in
     let moved = update_extends second.sound may a in
     let third = extends_on second moved in
     let mems : length stepped.mems ≡ length m.mems = ap (λ (x : Module). length x.mems) a.is ∙ ap length (step.adds.mems ∙ next.adds.mems) in
-    let may_too = may_write stepped run' ring.memory ring.pointer from (third.keeps run' q.run) (let w = q.ring.memory in omega (arith, mems, w)) (third.keeps ring.pointer q.ring.pointer) (third.keeps from q.from) q.run_bit
+    let may_too = may_write stepped run' ring.memory ring.pointer from (third.keeps run' q.run)
+    (let w = q.ring.memory in omega (
+      arith,
+      mems,
+      w,
+    )) (third.keeps ring.pointer q.ring.pointer) (third.keeps from q.from) q.run_bit
     (q.same ∙ sym (third.widths ring.memory q.ring.memory ∙ q.ring.width))
     (ap (writes_mem ring.memory) more ∙ last_mem ring.memory wired.updates _ (ap (writes_mem ring.memory) same ∙ q.free.memory) refl) in
     record {
@@ -48,8 +59,14 @@ returns c =
           let two = still_update stepped last _ run'.net reset.net (ap (λ (x : Module). x.updates) b.is) (λ k v h r s. r) in
           still_on m stepped last run'.net reset.net (still_on m wired stepped run'.net reset.net none one moved) two (update_extends third.sound may_too b)) c.write.ensures;
       others = on_ok_weaker c.write.result (λ b. ring_leaves m stepped last ring.pointer.net c.in_ok-step.step.net c.in_ok-next.next.net ring.memory ring.pointer.net run'.net from.net
-          (more ∙ ap (λ (us : List Update). us ++ (record { enable = c.in_ok-step.step.net; target = Reg ring.pointer.net; value = c.in_ok-next.next.net }) ∷ []) same) (ap (λ (x : Module). x.updates) b.is)) c.write.ensures;
-      written = on_ok_weaker c.write.result (λ b. written_kept stepped last ring.pointer.net (update_extends third.sound may_too b).grows (written_by stepped _ ring.pointer.net refl (has_added a))) c.write.ensures;
+          (more ∙ ap (λ (us : List Update). us ++ (record {
+            enable = c.in_ok-step.step.net;
+            target = Reg ring.pointer.net;
+            value = c.in_ok-next.next.net;
+          }) ∷ []) same) (ap (λ (x : Module). x.updates) b.is)) c.write.ensures;
+      written = on_ok_weaker c.write.result (λ b. written_kept stepped last ring.pointer.net
+          (update_extends third.sound may_too b).grows
+          (written_by stepped _ ring.pointer.net refl (has_added a))) c.write.ensures;
       registers = on_ok_weaker c.write.result (λ b.
           no_register_on m c.next_place.new.netlist last (wires_no_register next.adds)
           (no_register_on c.next_place.new.netlist wired last (wires_no_register step.adds)
@@ -83,7 +100,9 @@ returns c =
             steps = λ k v d s r lt.
                 let h0 = all.before k v s.holds in
                 let h2 = moved.before k v (written.before k v s.holds) in
-                pointer_steps (d.regs ring.pointer.net) (v c.in_ok-step.step.net) (v c.in_ok-next.next.net) (v run'.net) (v reset.net) (v ring.pointer.net) ring.pointer.width ring.words (k.regs ring.pointer.net)
+                pointer_steps (d.regs ring.pointer.net) (v c.in_ok-step.step.net)
+                (v c.in_ok-next.next.net) (v run'.net) (v reset.net)
+                (v ring.pointer.net) ring.pointer.width ring.words (k.regs ring.pointer.net)
                 (update_moves last k v d _ (written.updated _ (has_added a)) s)
                 (subst (λ w. v run'.net < 2 ^ w) q.run_bit (word_fits run' q.run h0)) (subst (λ w. v reset.net < 2 ^ w) q.reset_bit (word_fits reset q.reset h0))
                 (step.value k v h2) (next.value k v (step.before k v h2)) r lt q.ring.fits.holds;

@@ -19,5 +19,7 @@ returns c =
     let h3 = t.before d v h4 in
     let h2 = l.before d v h3 in
     let h1 = o.before d v h2 in
-    next_is (v c.in_ok-zero.zero.net) (v c.in_ok-one.one.net) (v c.in_ok-last.last.net) (v c.in_ok-is_last.is_last.net) (v c.in_ok-more.more.net) (v c.in_ok-round.round.net) (v c.args.reset.net) (v c.args.at.net) c.args.at.width c.args.words
+    next_is (v c.in_ok-zero.zero.net) (v c.in_ok-one.one.net) (v c.in_ok-last.last.net)
+    (v c.in_ok-is_last.is_last.net) (v c.in_ok-more.more.net) (v c.in_ok-round.round.net)
+    (v c.args.reset.net) (v c.args.at.net) c.args.at.width c.args.words
     (r.value d v h6) (m.value d v h5) (t.value d v h4) (l.value d v h3 ∙ c.new-3.ensures.bits) (o.value d v h2 ∙ c.new-2.ensures.bits) (z.value d v h1 ∙ c.new.ensures.bits))) c.choose-2.ensures

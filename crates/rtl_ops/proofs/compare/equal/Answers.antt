@@ -11,4 +11,7 @@ returns c =
     let a = c.args.a in
     let b = c.args.b in
     let q = c.requires in
-    IfOk-weaker _ _ _ (λ s made. same_value 1 1 _ made (omega arith) refl (λ d v h. equal_test t (v a.net) (v b.net) (type_some t a q.a q.a_type) (type_fits t a (made.keeps a q.a) q.a_type h) (type_fits t b (made.keeps b q.b) q.b_type h))) c.binary.ensures
+    IfOk-weaker _ _ _ (λ s made. same_value 1 1 _ made (omega arith) refl
+    (λ d v h. equal_test t (v a.net) (v b.net) (type_some t a q.a q.a_type)
+    (type_fits t a (made.keeps a q.a) q.a_type h) (type_fits t b
+    (made.keeps b q.b) q.b_type h))) c.binary.ensures

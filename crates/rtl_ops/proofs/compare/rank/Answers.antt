@@ -14,4 +14,6 @@ returns c =
     let a = c.args.a in
     let first = c.in_ok-half.ensures in
     IfOk-weaker _ _ _ (λ s made. goes_on 2 a.width _ first made (omega arith) refl (λ d v h e.
-    ap (λ k. (v a.net + k) % 2 ^ a.width) e ∙ rank_by_half c.args.t (v a.net) a.width (cc) c.requires.a_type c.requires.a.some (word_fits a (made.keeps a (first.keeps a c.requires.a)) h))) c.binary.ensures
+    ap (λ k. (v a.net + k) % 2 ^ a.width) e ∙ rank_by_half c.args.t (v a.net) a.width
+    (cc) c.requires.a_type c.requires.a.some (word_fits a
+    (made.keeps a (first.keeps a c.requires.a)) h))) c.binary.ensures

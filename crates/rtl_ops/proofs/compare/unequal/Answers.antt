@@ -14,4 +14,6 @@ returns c =
     let first = c.in_ok-same.ensures in
     IfOk-weaker _ _ _ (λ s made. goes_on 2 1 _ first made (omega arith) first.width (λ d v h e.
     turned_bit c.in_ok-same.same.width _ _ first.width e
-    ∙ unequal_test t (v a.net) (v b.net) (type_some t a q.a q.a_type) (type_fits t a (made.keeps a (first.keeps a q.a)) q.a_type h) (type_fits t b (made.keeps b (first.keeps b q.b)) q.b_type h))) c.not.ensures
+    ∙ unequal_test t (v a.net) (v b.net) (type_some t a q.a q.a_type)
+    (type_fits t a (made.keeps a (first.keeps a q.a)) q.a_type h)
+    (type_fits t b (made.keeps b (first.keeps b q.b)) q.b_type h))) c.not.ensures

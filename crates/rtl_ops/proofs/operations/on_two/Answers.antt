@@ -21,7 +21,10 @@ returns-in-Sub c =
     let a = c.args.a in
     let b = c.args.b in
     let q = c.requires in
-    rw c.in-Sub.is (IfOk-weaker _ _ _ (λ r made. made_where 30 _ _ made (omega arith) q.a_type (λ d v h. difference_bits t (v a.net) (v b.net) a.width _ q.a_type (subst (λ w. v b.net < 2 ^ w) (q.b_type ∙ sym q.a_type) (word_fits b (made.keeps b q.b) h)) refl)) c.binary-in-Sub.ensures)
+    rw c.in-Sub.is (IfOk-weaker _ _ _ (λ r made. made_where 30 _ _ made (omega arith) q.a_type
+    (λ d v h. difference_bits t (v a.net) (v b.net) a.width _ q.a_type
+    (subst (λ w. v b.net < 2 ^ w) (q.b_type ∙ sym q.a_type)
+    (word_fits b (made.keeps b q.b) h)) refl)) c.binary-in-Sub.ensures)
 
 pub returns-in-Mul : goal.returns-in-Mul
 returns-in-Mul c = rw c.in-Mul.is c.multiplied.ensures
@@ -91,7 +94,10 @@ returns-in-Gt c =
     let a = c.args.a in
     let b = c.args.b in
     let q = c.requires in
-    rw c.in-Gt.is (IfOk-weaker _ _ _ (λ r made. made_where 30 _ _ made (omega arith) refl (λ d v h. ap bit_of (greater_test t (v a.net) (v b.net) (type_some t a q.a q.a_type) (type_fits t a (made.keeps a q.a) q.a_type h) (type_fits t b (made.keeps b q.b) q.b_type h)))) c.less-in-Gt.ensures)
+    rw c.in-Gt.is (IfOk-weaker _ _ _ (λ r made. made_where 30 _ _ made (omega arith) refl
+    (λ d v h. ap bit_of (greater_test t (v a.net) (v b.net) (type_some t a q.a q.a_type)
+    (type_fits t a (made.keeps a q.a) q.a_type h) (type_fits t b
+    (made.keeps b q.b) q.b_type h)))) c.less-in-Gt.ensures)
 
 pub returns-in-Ge : goal.returns-in-Ge
 returns-in-Ge c =
@@ -99,4 +105,7 @@ returns-in-Ge c =
     let a = c.args.a in
     let b = c.args.b in
     let q = c.requires in
-    rw c.in-Ge.is (IfOk-weaker _ _ _ (λ r made. made_where 30 _ _ made (omega arith) refl (λ d v h. ap bit_of (at_least_test t (v a.net) (v b.net) (type_some t a q.a q.a_type) (type_fits t a (made.keeps a q.a) q.a_type h) (type_fits t b (made.keeps b q.b) q.b_type h)))) c.at_most-in-Ge.ensures)
+    rw c.in-Ge.is (IfOk-weaker _ _ _ (λ r made. made_where 30 _ _ made (omega arith) refl
+    (λ d v h. ap bit_of (at_least_test t (v a.net) (v b.net) (type_some t a q.a q.a_type)
+    (type_fits t a (made.keeps a q.a) q.a_type h) (type_fits t b
+    (made.keeps b q.b) q.b_type h)))) c.at_most-in-Ge.ensures)

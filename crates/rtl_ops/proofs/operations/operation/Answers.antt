@@ -94,7 +94,11 @@ returns-in-Mux c =
     let some : 1 ≤ length args = omega (arith, gives.0, length-args c.args.netlist.now types args q.nets) in
     let a_is = signal_is args 0 c.index-args-0.result c.width-width.result c.new-a.result some c.index-args-0.is c.new-a.ensures in
     let net = ap (λ (s : Signal). s.net) a_is in
-    rw c.in-Mux.is (IfOk-weaker _ _ _ (λ r made. same_where _ _ _ made (omega (arith, length-rest args)) c.width.ensures (λ v. ap (λ n. slice_get (map v (rest_of args)) (v n)) net ∙ mux_row v args some)) c.choice.ensures)
+    rw c.in-Mux.is (IfOk-weaker _ _ _ (λ r made. same_where _ _ _ made (omega (
+      arith,
+      length-rest args,
+    )) c.width.ensures (λ v. ap (λ n. slice_get (map v (rest_of args))
+    (v n)) net ∙ mux_row v args some)) c.choice.ensures)
 
 pub returns-in-Cast : goal.returns-in-Cast
 returns-in-Cast c =
@@ -191,7 +195,11 @@ returns-in_default c =
     let b_is = signal_is args 1 c.index-args-1.result c.width-width.result c.new-b.result (omega (arith, gives.0)) c.index-args-1.is c.new-b.ensures in
     let second = ap (λ (s : Signal). s.net) b_is in
     let is : get_or types 0 (UInt 0) ≡ first types = first_type types (UInt 0) (omega (arith, gives.0)) in
-    IfOk-weaker _ _ _ (λ r made. same_where _ _ _ made (omega (arith, gives.0)) (ap width_of ((on_two op mode types args c.args.amount out two).result (get_or types 0 (UInt 0)) is ∙ sym gives.2.result)) (λ v.
+    IfOk-weaker _ _ _ (λ r made. same_where _ _ _ made (omega (
+      arith,
+      gives.0,
+    )) (ap width_of ((on_two op mode types args c.args.amount out two).result
+    (get_or types 0 (UInt 0)) is ∙ sym gives.2.result)) (λ v.
     ap (λ t. row_of op mode t 0 (v c.new-a.result.net) (v c.new-b.result.net)) is
     ∙ ap (λ n. row_of op mode (first types) 0 n (v c.new-b.result.net)) (ap v net ∙ sym (operand_at v args 0 (omega (arith, gives.0))))
     ∙ ap (λ n. row_of op mode (first types) 0 (operand (map v args) 0) n) (ap v second ∙ sym (operand_at v args 1 (omega (arith, gives.0))))

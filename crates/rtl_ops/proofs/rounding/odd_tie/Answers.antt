@@ -12,5 +12,7 @@ returns c =
     let tie = c.in_ok-tie.ensures in
     let odd = c.in_ok-odd.ensures in
     IfOk-weaker _ _ _ (λ r made.
-    goes_on 3 1 _ tie (goes_on 2 1 (λ v. bit_and (v c.in_ok-tie.tie.net) ((v floor.net / 2 ^ 0) % 2 ^ (0 + 1 - 0))) odd made (omega arith) tie.width (λ d v h e. ap (bit_and (v c.in_ok-tie.tie.net)) e)) (omega arith) refl
+    goes_on 3 1 _ tie (goes_on 2 1 (λ v. bit_and (v c.in_ok-tie.tie.net)
+    ((v floor.net / 2 ^ 0) % 2 ^ (0 + 1 - 0))) odd made (omega arith) tie.width
+    (λ d v h e. ap (bit_and (v c.in_ok-tie.tie.net)) e)) (omega arith) refl
     (λ d v h e. tie_test (v left.net == v half.net) (v floor.net) (v c.in_ok-tie.tie.net) _ e refl)) c.binary-2.ensures

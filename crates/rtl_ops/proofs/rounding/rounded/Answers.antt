@@ -11,7 +11,9 @@ use Rattle.rtl_ops.proofs.rounding.rounded.Goals as goal
 use Rattle.rtl_ops.proofs.rounding.rounded.Goals.{in-Truncate, in_default}
 
 pub returns-then-bits-eq0 : goal.returns-then-bits-eq0
-returns-then-bits-eq0 c = IfOk-weaker _ _ _ (λ r made. same_value 15 c.args.width _ made (omega arith) refl (λ d v h. no_rounding c.args.mode c.args.width c.args.bits _ c.if-bits-eq0.true)) c.resized.ensures
+returns-then-bits-eq0 c = IfOk-weaker _ _ _ (λ r made. same_value 15 c.args.width _ made
+    (omega arith) refl (λ d v h. no_rounding c.args.mode c.args.width c.args.bits _
+    c.if-bits-eq0.true)) c.resized.ensures
 
 pub returns-then-matches : goal.returns-then-matches
 returns-then-matches c =

@@ -9,7 +9,10 @@ pub returns-then-bits-eq0 : goal.returns-then-bits-eq0
 returns-then-bits-eq0 c = IfOk-weaker _ _ _ (λ r made. same_value 6 c.args.width _ made (omega arith) refl (λ d v h. no_shift c.args.width c.args.bits _ c.if-bits-eq0.true)) c.resized.ensures
 
 pub returns-then-width-bits : goal.returns-then-width-bits
-returns-then-width-bits c = IfOk-weaker _ _ _ (λ r made. same_value 6 c.args.width _ made (omega arith) c.new.ensures.width (λ d v h. c.new.ensures.bits ∙ far_shift c.args.width c.args.bits _ c.if-width-bits.true)) c.literal.ensures
+returns-then-width-bits c = IfOk-weaker _ _ _ (λ r made. same_value 6 c.args.width _ made
+    (omega arith) c.new.ensures.width
+    (λ d v h. c.new.ensures.bits ∙ far_shift c.args.width c.args.bits _ c.if-width-bits.true))
+    c.literal.ensures
 
 pub returns : goal.returns
 returns c =

@@ -30,7 +30,10 @@ returns-clause-on_way c =
     let W : Problem → Type 0 = λ q. pos new.sends ≤ℤ weights q in
     let items : c.as_slice.result.now ≡ path = c.as_slice.ensures.value in
     way_on p (numbers_of c.args.x.now) (numbers_of c.find.new.x) old new path a c.requires.on_way e.legal (subst T fl e.tight) e.low e.high (λ v g. e.wants v (omega (arith, ints, rest v, g)))
-    (subst P fl2 w.path) (subst F fl2 w.free) (c.augment.ensures.problem ∙ same) c.augment.ensures.sends (subst R items (subst S same c.augment.ensures.sent)) (subst W (c.augment.ensures.problem ∙ same) c.augment.ensures.counted)
+    (subst P fl2 w.path) (subst F fl2 w.free)
+    (c.augment.ensures.problem ∙ same) c.augment.ensures.sends
+    (subst R items (subst S same c.augment.ensures.sent))
+    (subst W (c.augment.ensures.problem ∙ same) c.augment.ensures.counted)
 
 pub returns-clause-keeps : goal.returns-clause-keeps
 returns-clause-keeps c =
@@ -43,4 +46,6 @@ returns-clause-keeps c =
     let R : List ℕ → Type 0 = λ l. IsSent p (flow_of old.flow) (flow_of new.flow) l a in
     let fl2 : c.flow-2.result.now ≡ old.flow = c.flow-2.ensures.flow in
     let P : List ℕ → Type 0 = λ l. IsPath p (flow_of l) path c.in_ok-way.way.amount in
-    stays_down p (flow_of old.flow) (flow_of c.augment.new.net.flow) path c.in_ok-way.way.amount (subst P fl2 c.in_ok-way.ensures.path) (subst R c.as_slice.ensures.value (subst S c.requires.on_way.problem c.augment.ensures.sent))
+    stays_down p (flow_of old.flow) (flow_of c.augment.new.net.flow) path c.in_ok-way.way.amount
+    (subst P fl2 c.in_ok-way.ensures.path) (subst R c.as_slice.ensures.value
+    (subst S c.requires.on_way.problem c.augment.ensures.sent))

@@ -11,7 +11,10 @@ send-requires-clause-small c =
     let p = c.net.inside.problem in
     let P : Network → Type 0 = λ w. IsPath w.problem (flow_of w.flow) c.args.path.now c.args.amount in
     let h = subst P (sym c.net.view_is) c.requires in
-    let small : c.net.inside.moved + c.args.amount ≤ 2 ^ 52 = amount_small p c.net.inside.flow.items c.args.path.now c.net.inside.rest.items c.net.inside.sends c.net.inside.moved c.args.amount c.net.invariant h in
+    let small : c.net.inside.moved + c.args.amount
+    ≤ 2 ^ 52 = amount_small p c.net.inside.flow.items c.args.path.now
+    c.net.inside.rest.items c.net.inside.sends c.net.inside.moved c.args.amount
+    c.net.invariant h in
     λ j.
     let e : get_or c.as_mut_slice.result.now j 0 ≡ get_or c.net.inside.flow.items j 0 = ap (λ l. get_or l j 0) c.as_mut_slice.ensures.value in
     omega (arith, e, c.net.invariant.carried j, small)
@@ -20,14 +23,20 @@ pub overflow_add-net : goal.overflow_add-net
 overflow_add-net c =
     let P : Network → Type 0 = λ w. IsPath w.problem (flow_of w.flow) c.args.path.now c.args.amount in
     let h = subst P (sym c.net.view_is) c.requires in
-    let small : c.net.inside.moved + c.args.amount ≤ 2 ^ 52 = amount_small c.net.inside.problem c.net.inside.flow.items c.args.path.now c.net.inside.rest.items c.net.inside.sends c.net.inside.moved c.args.amount c.net.invariant h in
+    let small : c.net.inside.moved + c.args.amount
+    ≤ 2 ^ 52 = amount_small c.net.inside.problem c.net.inside.flow.items c.args.path.now
+    c.net.inside.rest.items c.net.inside.sends c.net.inside.moved c.args.amount
+    c.net.invariant h in
     omega (arith, small)
 
 pub overflow_add-net-2 : goal.overflow_add-net-2
 overflow_add-net-2 c =
     let P : Network → Type 0 = λ w. IsPath w.problem (flow_of w.flow) c.args.path.now c.args.amount in
     let h = subst P (sym c.net.view_is) c.requires in
-    let small : c.net.inside.moved + c.args.amount ≤ 2 ^ 52 = amount_small c.net.inside.problem c.net.inside.flow.items c.args.path.now c.net.inside.rest.items c.net.inside.sends c.net.inside.moved c.args.amount c.net.invariant h in
+    let small : c.net.inside.moved + c.args.amount
+    ≤ 2 ^ 52 = amount_small c.net.inside.problem c.net.inside.flow.items c.args.path.now
+    c.net.inside.rest.items c.net.inside.sends c.net.inside.moved c.args.amount
+    c.net.invariant h in
     omega (arith, small, c.net.invariant.counted)
 
 pub invariant_of-net : goal.invariant_of-net

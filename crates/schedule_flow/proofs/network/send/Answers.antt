@@ -21,7 +21,10 @@ push-requires-clause-small c =
 pub loop-k-preserved : goal.loop-k-preserved
 loop-k-preserved c =
     let P : List ℕ → Type 0 = λ l. Sending c.args.problem.now c.args.flow.now l c.args.path.now c.args.amount (c.loop-k.k + 1) in
-    subst P (sym c.push.ensures) (sent_on c.args.problem.now c.args.flow.now c.loop-k.flow c.args.path.now c.args.amount c.loop-k.k c.requires.path c.loop-k.invariant c.loop-k-test.true (c.loop-k.auto.flow ∙ c.requires.len))
+    subst P (sym c.push.ensures)
+    (sent_on c.args.problem.now c.args.flow.now c.loop-k.flow c.args.path.now c.args.amount
+    c.loop-k.k c.requires.path c.loop-k.invariant c.loop-k-test.true
+    (c.loop-k.auto.flow ∙ c.requires.len))
 
 pub returns : goal.returns
 returns c = record {

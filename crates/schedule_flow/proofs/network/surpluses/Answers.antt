@@ -22,7 +22,9 @@ loop-t-preserved c =
     let w : a.weight < 2 ^ 32 = search rules in
     let F : ℕ → Term → ℤ = λ v b. at_node b.from b.weight v in
     let T : ℕ → Term → ℤ = λ v b. at_node b.to b.weight v in
-    let is : (v : ℕ) → numbers_of c.subtract.new.rest v ≡ ((numbers_of c.loop-t.rest v +ℤ at_node a.from a.weight v) -ℤ at_node a.to a.weight v) = λ (v : ℕ). omega (arith, ints, c.subtract.ensures v, c.add.ensures v) in
+    let is : (v : ℕ) → numbers_of c.subtract.new.rest v ≡
+    ((numbers_of c.loop-t.rest v +ℤ at_node a.from a.weight v) -ℤ at_node a.to a.weight v) =
+    λ (v : ℕ). omega (arith, ints, c.subtract.ensures v, c.add.ensures v) in
     record {
       so_far = λ v.
           let m1 = total-more t (λ k. cond (eqb (from_of terms k) v) (pos (weight_of terms k)) (pos 0)) in

@@ -19,7 +19,10 @@ loop-reach-init c =
     let len : length c.begin.new.self.distance.items ≡ c.args.problem.now.arcs.nodes = tree.distances ∙ places in
     let P : List Entry → Type 0 = λ l. IsQueued l c.push.new.self 0 c.args.source in
     record {
-      search = begin_search c.args.problem.now (numbers_of c.args.x.now) (flow_of c.args.flow.now) (numbers_of c.args.rest.now) c.begin.new.self.place.items c.begin.new.self.via.items c.begin.new.self.distance.items c.push.new.self c.args.source
+      search = begin_search c.args.problem.now (numbers_of c.args.x.now)
+          (flow_of c.args.flow.now)
+          (numbers_of c.args.rest.now) c.begin.new.self.place.items c.begin.new.self.via.items
+          c.begin.new.self.distance.items c.push.new.self c.args.source
           (tree.places ∙ places) (tree.vias ∙ places) len none b.source
           (λ v l n. b.others v (omega (arith, l, len)) n)
           b.within (subst P c.new-queue.ensures c.in_ok-push.ensures) c.requires.source c.requires.surplus c.requires.low;
@@ -42,14 +45,21 @@ unreachable-requires c =
     let L : List ℤ → Type 0 = λ l. Solves (numbers_of l) p.arcs.list in
     let H : List ℤ → Type 0 = λ l. (v : ℕ) → unsigned_abs (numbers_of l v) ≤ 2 ^ 116 in
     let high : (v : ℕ) → unsigned_abs (numbers_of c.args.x.now v) ≤ 2 ^ 116 = λ v. omega (arith, ints, c.requires.low v, c.requires.high v) in
-    never_ends p (numbers_of x) (flow_of c.args.flow.now) (numbers_of c.args.rest.now) c.loop-reach.tree.place.items c.loop-reach.tree.via.items c.loop-reach.tree.distance.items c.loop-reach.queue c.loop-reach.count inv.search c.requires.problem
+    never_ends p (numbers_of x) (flow_of c.args.flow.now)
+    (numbers_of c.args.rest.now) c.loop-reach.tree.place.items c.loop-reach.tree.via.items
+    c.loop-reach.tree.distance.items c.loop-reach.queue c.loop-reach.count inv.search
+    c.requires.problem
     (subst L (sym inv.still) c.requires.legal) (subst H (sym inv.still) high) inv.relaxed
     (λ d v z w. c.in-None.ensures.none d v z w)
     c.args.source c.requires.source inv.begun c.requires.surplus c.requires.excesses inv.calm
 
 pub raise-requires-clause-reach : goal.raise-requires-clause-reach
 raise-requires-clause-reach c =
-    reach_low c.args.problem.now (numbers_of c.loop-reach.x) (flow_of c.args.flow.now) (numbers_of c.args.rest.now) c.loop-reach.tree.place.items c.loop-reach.tree.via.items c.loop-reach.tree.distance.items c.loop-reach.queue c.nearest.new.queue c.loop-reach.count c.in-Some.reach c.in-Some.node c.loop-reach.invariant.search c.in-Some.ensures.taken
+    reach_low c.args.problem.now (numbers_of c.loop-reach.x) (flow_of c.args.flow.now)
+    (numbers_of c.args.rest.now) c.loop-reach.tree.place.items c.loop-reach.tree.via.items
+    c.loop-reach.tree.distance.items c.loop-reach.queue c.nearest.new.queue
+    c.loop-reach.count c.in-Some.reach c.in-Some.node c.loop-reach.invariant.search
+    c.in-Some.ensures.taken
 
 pub raise-requires-clause-small : goal.raise-requires-clause-small
 raise-requires-clause-small c =
@@ -72,7 +82,11 @@ returns-then-rest-node-lt0 c =
     let low : rest node <ℤ pos 0 = search (rules, ints, c.if-rest-node-lt0.true) in
     let len : length x ≡ p.arcs.nodes = c.loop-reach.auto.x ∙ c.requires.numbers in
     let len' : length y ≡ length x = c.raise.auto.x in
-    let g = found p (numbers_of x) (flow_of c.args.flow.now) rest c.loop-reach.tree.place.items c.loop-reach.tree.via.items c.loop-reach.tree.distance.items c.loop-reach.queue c.nearest.new.queue c.loop-reach.count c.in-Some.reach node inv.search c.in-Some.ensures.taken (numbers_of y) c.requires.problem
+    let g = found p (numbers_of x)
+    (flow_of c.args.flow.now) rest c.loop-reach.tree.place.items c.loop-reach.tree.via.items
+    c.loop-reach.tree.distance.items c.loop-reach.queue c.nearest.new.queue
+    c.loop-reach.count c.in-Some.reach node inv.search c.in-Some.ensures.taken
+    (numbers_of y) c.requires.problem
     (subst L (sym inv.still) c.requires.legal) (subst T (sym inv.still) c.requires.tight) inv.relaxed inv.calm
     (λ v l. c.raise.ensures v (omega (arith, l, len)))
     (λ v l. get_or_past y v (pos 0) (omega (arith, l, len, len')) ∙ sym (get_or_past x v (pos 0) (omega (arith, l, len))))
@@ -94,7 +108,11 @@ returns-then-rest-node-lt0 c =
       reached = g.reached;
       wanting = record {
         node = search rules;
-        reached = (last_settled p (numbers_of x) (flow_of c.args.flow.now) rest c.loop-reach.tree.place.items c.loop-reach.tree.via.items c.loop-reach.tree.distance.items c.loop-reach.queue c.nearest.new.queue c.loop-reach.count c.in-Some.reach node inv.search c.in-Some.ensures.taken).here;
+        reached = (last_settled p (numbers_of x)
+            (flow_of c.args.flow.now) rest c.loop-reach.tree.place.items
+            c.loop-reach.tree.via.items c.loop-reach.tree.distance.items c.loop-reach.queue
+            c.nearest.new.queue c.loop-reach.count c.in-Some.reach node inv.search
+            c.in-Some.ensures.taken).here;
         want = low;
       };
     }
@@ -117,7 +135,11 @@ relax_all-requires-clause-small c =
 
 pub relax_all-requires-clause-farthest : goal.relax_all-requires-clause-farthest
 relax_all-requires-clause-farthest c =
-    last_settled c.args.problem.now (numbers_of c.loop-reach.x) (flow_of c.args.flow.now) (numbers_of c.args.rest.now) c.loop-reach.tree.place.items c.loop-reach.tree.via.items c.loop-reach.tree.distance.items c.loop-reach.queue c.nearest.new.queue c.loop-reach.count c.in-Some.reach c.in-Some.node c.loop-reach.invariant.search c.in-Some.ensures.taken
+    last_settled c.args.problem.now (numbers_of c.loop-reach.x) (flow_of c.args.flow.now)
+    (numbers_of c.args.rest.now) c.loop-reach.tree.place.items c.loop-reach.tree.via.items
+    c.loop-reach.tree.distance.items c.loop-reach.queue c.nearest.new.queue
+    c.loop-reach.count c.in-Some.reach c.in-Some.node c.loop-reach.invariant.search
+    c.in-Some.ensures.taken
 
 pub loop-reach-preserved : goal.loop-reach-preserved
 loop-reach-preserved c =
@@ -136,9 +158,19 @@ loop-reach-preserved c =
     let R : List ℕ → Type 0 = λ l. AllRelaxed p x f l d in
     let C : List ℕ → Type 0 = λ l. (v : ℕ) → 0 < get_or l v 0 → pos 0 ≤ℤ rest v in
     record {
-      search = subst K same (e.kept rest (c.loop-reach.count + 1) (after p x f rest c.loop-reach.tree.place.items c.loop-reach.tree.via.items c.loop-reach.tree.distance.items c.loop-reach.queue c.nearest.new.queue c.loop-reach.count c.in-Some.reach c.in-Some.node inv.search c.in-Some.ensures.taken));
-      relaxed = subst R same (e.relaxed (others p x f rest c.loop-reach.tree.place.items c.loop-reach.tree.via.items c.loop-reach.tree.distance.items c.loop-reach.queue c.nearest.new.queue c.loop-reach.count c.in-Some.reach c.in-Some.node inv.search c.in-Some.ensures.taken inv.relaxed));
-      calm = subst C same (calm_all p x f rest c.loop-reach.tree.place.items c.loop-reach.tree.via.items c.loop-reach.tree.distance.items c.loop-reach.queue c.nearest.new.queue c.loop-reach.count c.in-Some.reach c.in-Some.node inv.search c.in-Some.ensures.taken inv.calm up);
+      search = subst K same (e.kept rest (c.loop-reach.count + 1)
+          (after p x f rest c.loop-reach.tree.place.items c.loop-reach.tree.via.items
+          c.loop-reach.tree.distance.items c.loop-reach.queue c.nearest.new.queue
+          c.loop-reach.count c.in-Some.reach c.in-Some.node inv.search c.in-Some.ensures.taken));
+      relaxed = subst R same (e.relaxed
+          (others p x f rest c.loop-reach.tree.place.items c.loop-reach.tree.via.items
+          c.loop-reach.tree.distance.items c.loop-reach.queue c.nearest.new.queue
+          c.loop-reach.count c.in-Some.reach c.in-Some.node inv.search c.in-Some.ensures.taken
+          inv.relaxed));
+      calm = subst C same (calm_all p x f rest c.loop-reach.tree.place.items
+          c.loop-reach.tree.via.items c.loop-reach.tree.distance.items c.loop-reach.queue
+          c.nearest.new.queue c.loop-reach.count c.in-Some.reach c.in-Some.node inv.search
+          c.in-Some.ensures.taken inv.calm up);
       still = inv.still;
       begun = omega (arith, e.falls c.args.source, inv.begun);
     }

@@ -25,12 +25,22 @@ loop-next-preserved c =
     let P : ℕ → Type 0 = λ k. IsLastBelow p.arcs.list (tail_of p.arcs.list (next - 1)) (next - 1) k in
     let E : ℕ → Type 0 = λ k. EndsInRange k p.arcs.list in
     let chain = subst P (sym same) (c.requires.links.linked.befores (next - 1) (omega (arith, arc))) in
-    let S : List ℕ → Type 0 = λ l. Stays p x f l c.loop-next.tree.via.items c.relax.new.tree.via.items c.loop-next.tree.distance.items c.relax.new.tree.distance.items c.loop-next.queue c.relax.new.queue (next - 1)
+    let S : List ℕ → Type 0 = λ l. Stays p x f l c.loop-next.tree.via.items
+    c.relax.new.tree.via.items c.loop-next.tree.distance.items
+    c.relax.new.tree.distance.items c.loop-next.queue c.relax.new.queue (next - 1)
     ⊎ Nears p x f l c.loop-next.tree.via.items c.relax.new.tree.via.items c.loop-next.tree.distance.items c.relax.new.tree.distance.items c.loop-next.queue c.relax.new.queue (next - 1) in
     let step : Stays p x f place c.loop-next.tree.via.items c.relax.new.tree.via.items c.loop-next.tree.distance.items c.relax.new.tree.distance.items c.loop-next.queue c.relax.new.queue (next - 1)
-    ⊎ Nears p x f place c.loop-next.tree.via.items c.relax.new.tree.via.items c.loop-next.tree.distance.items c.relax.new.tree.distance.items c.loop-next.queue c.relax.new.queue (next - 1) = subst S (ap (λ v. v.items) inv.place) c.in_ok-relax.ensures.relaxed in
+    ⊎ Nears p x f place c.loop-next.tree.via.items c.relax.new.tree.via.items
+    c.loop-next.tree.distance.items c.relax.new.tree.distance.items c.loop-next.queue
+    c.relax.new.queue (next - 1) = subst S (ap
+    (λ v. v.items) inv.place) c.in_ok-relax.ensures.relaxed in
     let len : length c.loop-next.tree.distance.items ≡ p.arcs.nodes = inv.tree.distances ∙ c.requires.numbers in
-    let going = going_more p x f place via c.loop-next.tree.via.items d c.loop-next.tree.distance.items queue c.loop-next.queue c.args.node next inv.going up c.relax.new.tree.via.items c.relax.new.tree.distance.items c.relax.new.queue (get_or before (next - 1) 0) (subst E c.requires.numbers c.requires.ends) c.requires.legal c.requires.tight len chain step in
+    let going = going_more p x f place via c.loop-next.tree.via.items d
+    c.loop-next.tree.distance.items queue c.loop-next.queue c.args.node next inv.going up
+    c.relax.new.tree.via.items c.relax.new.tree.distance.items c.relax.new.queue
+    (get_or before (next - 1) 0)
+    (subst E c.requires.numbers c.requires.ends) c.requires.legal c.requires.tight len chain
+    step in
     record {
       going = going;
       place = c.in_ok-relax.ensures.place ∙ inv.place;
@@ -40,4 +50,8 @@ loop-next-preserved c =
 
 pub returns-clause-relaxed : goal.returns-clause-relaxed
 returns-clause-relaxed c =
-    going_all c.args.problem.now (numbers_of c.args.x.now) (flow_of c.args.flow.now) c.args.tree.now.place.items c.args.tree.now.via.items c.loop-next.tree.via.items c.args.tree.now.distance.items c.loop-next.tree.distance.items c.args.queue.now c.loop-next.queue c.args.node c.loop-next.next c.loop-next.invariant.going (omega (arith, c.loop-next-test.false))
+    going_all c.args.problem.now (numbers_of c.args.x.now)
+    (flow_of c.args.flow.now) c.args.tree.now.place.items c.args.tree.now.via.items
+    c.loop-next.tree.via.items c.args.tree.now.distance.items
+    c.loop-next.tree.distance.items c.args.queue.now c.loop-next.queue c.args.node
+    c.loop-next.next c.loop-next.invariant.going (omega (arith, c.loop-next-test.false))

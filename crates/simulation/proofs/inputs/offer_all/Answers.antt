@@ -31,14 +31,20 @@ loop-k-preserved g c =
       write_quiet = e.write_quiet ∙ l.invariant.write_quiet;
       named = map_set_same input_of l.inputs l.k x c.look.new.self at e.named ∙ l.invariant.named;
       unrefused = each_set (λ j (i : Input). i.reader.refusal ≡ None) l.inputs l.k c.look.new.self l.invariant.unrefused e.unrefused;
-      words = words_more (map input_of c.args.inputs.now) l.offers l.k c.in_ok-offers.field-0 x.reader.width lt (λ i q. ap (λ (n : Name × ℕ). n.1) (same_some (slice_get (map input_of c.args.inputs.now) l.k) i (input_of x) q here)) e.word l.invariant.words;
+      words = words_more (map input_of c.args.inputs.now) l.offers l.k c.in_ok-offers.field-0
+          x.reader.width lt (λ i q. ap (λ (n : Name
+          × ℕ). n.1) (same_some (slice_get (map input_of c.args.inputs.now) l.k) i
+          (input_of x) q here)) e.word l.invariant.words;
       stand = λ fs lefts are.
           at_more held fs lefts l.inputs l.k x c.look.new.self at
           (λ f left h. subst (λ (o : Held). IsAt o f left c.look.new.self) l.invariant.same (e.stands f left (subst (λ (o : Held). IsAt o f left x) (sym l.invariant.same) h)))
           (l.invariant.stand fs lefts are);
       ready = λ fs lefts are.
           ready_more held c.args.stalled.now fs lefts l.inputs l.offers l.k x c.look.new.self c.in_ok-offers.field-0 lt at
-          (λ f left h. subst (λ (o : Held). IsReady o (get_or c.args.stalled.now l.k false) f left c.look.new.self c.in_ok-offers.field-0) l.invariant.same (e.ready f left (subst (λ (o : Held). IsAt o f left x) (sym l.invariant.same) h)))
+          (λ f left h. subst (λ (o : Held). IsReady o
+          (get_or c.args.stalled.now l.k false) f left c.look.new.self
+          c.in_ok-offers.field-0) l.invariant.same (e.ready f left
+          (subst (λ (o : Held). IsAt o f left x) (sym l.invariant.same) h)))
           (l.invariant.stand fs lefts are) (l.invariant.ready fs lefts are);
     }
 

@@ -14,7 +14,10 @@ loop-k-preserved c =
     let at = slice_get-get_or l.inputs l.k c.index-inputs-k.result (omega (arith, l.auto.inputs)) in
     record {
       named = map_set_same input_of l.inputs l.k x c.take.new.self at (ap (λ r. (r.name, r.width)) c.take.ensures.reader) ∙ l.invariant.named;
-      unrefused = λ u. each_set (λ j (i : Input). i.reader.refusal ≡ None) l.inputs l.k c.take.new.self (l.invariant.unrefused u) (ap (λ (r : WordReader). r.refusal) c.take.ensures.reader ∙ l.invariant.unrefused u l.k x at);
+      unrefused = λ u. each_set (λ j (i : Input). i.reader.refusal
+          ≡ None) l.inputs l.k c.take.new.self (l.invariant.unrefused u)
+          (ap (λ (r : WordReader). r.refusal) c.take.ensures.reader ∙ l.invariant.unrefused u
+          l.k x at);
       taken = taken_more c.args.events.now c.args.inputs.now l.inputs l.k x c.take.new.self at (l.invariant.others l.k (omega arith)) c.take.ensures l.invariant.taken;
       others = λ j le. (let n : j ≢ l.k = omega arith in get_set_other l.inputs l.k j c.take.new.self n ∙ l.invariant.others j (omega arith));
     }

@@ -67,5 +67,10 @@ returns-in_err-flush-clause-stopped g c =
     let here : slice_get named l.k ≡ Some (output_of x) = ap (λ (os : List (Name × ℕ)). slice_get os l.k) (sym l.invariant.named) ∙ map_at output_of l.outputs l.k x at in
     let p = err_from_is_err_and c.from_residual.result c.from_residual.ensures.1 in
     rw (p.1) (λ told.
-    let b = c.requires.begun told in
-    (l.k, hold_but (g.F.Files.held l.files) (g.F.Files.held c.flush.new.files) named l.k (output_of x) c.requires.apart here c.in_err-flush.ensures.only (whole_hold (g.F.Files.held l.files) b.0 l.outputs named l.k l.invariant.named (l.invariant.whole b.0 b.1) (l.invariant.rest b.0 b.1))))
+    let b = c.requires.begun told in (
+      l.k,
+      hold_but (g.F.Files.held l.files) (g.F.Files.held c.flush.new.files) named l.k
+          (output_of x) c.requires.apart here c.in_err-flush.ensures.only
+          (whole_hold (g.F.Files.held l.files) b.0 l.outputs named l.k l.invariant.named
+          (l.invariant.whole b.0 b.1) (l.invariant.rest b.0 b.1)),
+    ))

@@ -45,7 +45,10 @@ loop-k-preserved g c =
     record {
       named = map_set_same output_of l.outputs l.k x c.put.new.self at e.named ∙ l.invariant.named;
       put = λ words put.
-          put_more (g.F.Files.held l.files) (g.F.Files.held c.put.new.files) words c.args.events.now named l.outputs l.k x c.put.new.self l.invariant.named c.requires.apart at e.only e.put (l.invariant.put words put);
+          put_more (g.F.Files.held l.files)
+          (g.F.Files.held c.put.new.files) words c.args.events.now named l.outputs l.k x
+          c.put.new.self l.invariant.named c.requires.apart at e.only e.put
+          (l.invariant.put words put);
       others = only_more named (g.F.Files.held c.args.files.now) (g.F.Files.held l.files) (g.F.Files.held c.put.new.files) l.k (output_of x) here l.invariant.others e.only;
       read_quiet = e.read_quiet ∙ l.invariant.read_quiet;
       quiet = e.quiet (λ q. cc) ∙ l.invariant.quiet;
@@ -80,5 +83,10 @@ returns-in_err-put-clause-stopped g c =
     let here : slice_get named l.k ≡ Some (output_of x) = ap (λ (os : List (Name × ℕ)). slice_get os l.k) (sym l.invariant.named) ∙ map_at output_of l.outputs l.k x at in
     let p = err_from_is_err_and c.from_residual.result c.from_residual.ensures.1 in
     rw (p.1) (λ told.
-    let b = c.requires.begun told in
-    (l.k, hold_but (g.F.Files.held l.files) (g.F.Files.held c.put.new.files) named l.k (output_of x) c.requires.apart here c.in_err-put.ensures.only (put_hold (g.F.Files.held l.files) _ l.outputs named l.k l.invariant.named (l.invariant.put b.0 b.1))))
+    let b = c.requires.begun told in (
+      l.k,
+      hold_but (g.F.Files.held l.files) (g.F.Files.held c.put.new.files) named l.k
+          (output_of x) c.requires.apart here c.in_err-put.ensures.only
+          (put_hold (g.F.Files.held l.files) _ l.outputs named l.k l.invariant.named
+          (l.invariant.put b.0 b.1)),
+    ))

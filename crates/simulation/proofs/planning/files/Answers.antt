@@ -8,7 +8,10 @@ use Rattle.simulation.proofs.planning.files.Goals as goal
 pub index-requires : goal.index-requires
 index-requires c =
     has_name c.in_ok-named.named c.args.list.now c.as_bytes.result.now c.stream-item.result.name c.as_bytes.ensures c.in_ok-named.ensures
-    (port_there c.args.list.now (λ (s : StreamPorts). s.name) c.args.streams.now c.as_slice-stream-items.result.now c.loop-stream.stream-index c.stream-item.result c.requires c.as_slice-stream-items.ensures c.loop-stream-test.true c.stream-item.is)
+    (port_there c.args.list.now (λ
+    (s : StreamPorts). s.name) c.args.streams.now c.as_slice-stream-items.result.now
+    c.loop-stream.stream-index c.stream-item.result c.requires
+    c.as_slice-stream-items.ensures c.loop-stream-test.true c.stream-item.is)
 
 pub loop-stream-preserved : goal.loop-stream-preserved
 loop-stream-preserved c =
@@ -17,8 +20,15 @@ loop-stream-preserved c =
     record {
       names =
           ap (map (λ (f : Name × ℕ). Some f.0)) c.in_ok-push.ensures.ok
-          ∙ one_mapped (λ (f : Name × ℕ). Some f.0) (λ (s : StreamPorts). look_up c.args.list.now s.name) c.loop-stream.files file c.as_slice-stream-items.result.now c.loop-stream.stream-index c.stream-item.result c.loop-stream-test.true c.stream-item.is (ap Some c.in_ok-copy.ensures ∙ sym found) c.loop-stream.invariant.names;
+          ∙ one_mapped (λ (f : Name × ℕ). Some f.0) (λ
+          (s : StreamPorts). look_up c.args.list.now s.name) c.loop-stream.files file
+          c.as_slice-stream-items.result.now c.loop-stream.stream-index c.stream-item.result
+          c.loop-stream-test.true c.stream-item.is
+          (ap Some c.in_ok-copy.ensures ∙ sym found) c.loop-stream.invariant.names;
       widths =
           ap (map (λ (f : Name × ℕ). f.1)) c.in_ok-push.ensures.ok
-          ∙ one_mapped (λ (f : Name × ℕ). f.1) (λ (s : StreamPorts). s.width) c.loop-stream.files file c.as_slice-stream-items.result.now c.loop-stream.stream-index c.stream-item.result c.loop-stream-test.true c.stream-item.is refl c.loop-stream.invariant.widths;
+          ∙ one_mapped (λ (f : Name × ℕ). f.1) (λ
+          (s : StreamPorts). s.width) c.loop-stream.files file
+          c.as_slice-stream-items.result.now c.loop-stream.stream-index c.stream-item.result
+          c.loop-stream-test.true c.stream-item.is refl c.loop-stream.invariant.widths;
     }

@@ -55,7 +55,9 @@ returns-clause-exact g c = λ m s top has told cells restart vs end ends.
     let tells : Tells stalls setup p.outputs later c.run.result = subst (λ (l : List (Name × ℕ)). Tells stalls setup l later c.run.result) e.named
     (c.run.ensures.tells setup (record { top = top; picked = refl; counted = refl }) (λ _. begun) (e.others.told ∙ told)) in
     exact stalls setup p.outputs later c.run.result (not_cells c.run.result c.run.ensures.errors) tells restart vs end ends
-    (λ r ws a x. one_way stalls c.requires.decided d m s q.1 p held c.requires.accepted top has' q.4 cells (omega arith) (omega arith) (sym begun.is.outer ∙ begun'.is.outer) restart r vs ws end a ends x)
+    (λ r ws a x. one_way stalls c.requires.decided d m s q.1 p held c.requires.accepted top has'
+    q.4 cells (omega arith) (omega arith)
+    (sym begun.is.outer ∙ begun'.is.outer) restart r vs ws end a ends x)
 
 pub returns-in_err-bench-clause-leaves : goal.returns-in_err-bench-clause-leaves
 returns-in_err-bench-clause-leaves g c =

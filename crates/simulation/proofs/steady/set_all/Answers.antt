@@ -25,8 +25,16 @@ loop-port-preserved c =
     let less : l.port < length l.sim.steady = omega (arith, l.invariant.size, c.requires.ports) in
     record {
       size = ap length steady ∙ length-set l.sim.steady l.port c.value_at.result ∙ l.invariant.size;
-      kept = c.set.ensures ∙ ap (λ (s : State). record s { steady = set l.sim.steady l.port c.value_at.result }) l.invariant.kept ∙ ap (λ (x : List ℕ). record c.args.sim.now { steady = x }) (sym steady);
-      set = ap (take (l.port + 1)) steady ∙ take_more_same (set l.sim.steady l.port c.value_at.result) all l.port 0 (omega (arith, length-set l.sim.steady l.port c.value_at.result)) lt (take-set l.sim.steady l.port c.value_at.result ∙ l.invariant.set) (get_or-set_same l.sim.steady l.port c.value_at.result 0 less ∙ c.value_at.ensures);
+      kept = c.set.ensures ∙ ap (λ (s : State). record s
+          { steady = set l.sim.steady l.port c.value_at.result }) l.invariant.kept ∙ ap
+          (λ (x : List ℕ). record c.args.sim.now { steady = x }) (sym steady);
+      set = ap (take (l.port + 1)) steady ∙ take_more_same
+          (set l.sim.steady l.port c.value_at.result) all l.port 0 (omega (
+            arith,
+            length-set l.sim.steady l.port c.value_at.result,
+          )) lt
+          (take-set l.sim.steady l.port c.value_at.result ∙ l.invariant.set)
+          (get_or-set_same l.sim.steady l.port c.value_at.result 0 less ∙ c.value_at.ensures);
     }
 
 pub returns : goal.returns

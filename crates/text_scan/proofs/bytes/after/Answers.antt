@@ -7,7 +7,9 @@ use Rattle.text_scan.proofs.ByteTests.{bytes_same, clash}
 use Rattle.text_scan.proofs.bytes.after.Goals as goal
 
 IsStripped : List ℕ → List ℕ → Option (Bor (List ℕ)) → Type 0
-IsStripped text front r = MatchOption r (pointwise nat_eq (take (length front) text) front ≡ false) (λ x. (pointwise nat_eq (take (length front) text) front ≡ true) × (x.now ≡ drop (length front) text) × (length x.now + length front ≡ length text))
+IsStripped text front r = MatchOption r (pointwise nat_eq (take (length front) text) front
+    ≡ false) (λ x. (pointwise nat_eq (take (length front) text) front ≡ true)
+    × (x.now ≡ drop (length front) text) × (length x.now + length front ≡ length text))
 
 some : (text front : List ℕ) (r : Option (Bor (List ℕ))) → IsStripped text front r → IfSome r (λ rest. text ≡ front ++ rest.now)
 unfolding IsStripped

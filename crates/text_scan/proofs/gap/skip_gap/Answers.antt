@@ -4,7 +4,9 @@ use Rattle.grammar.specs.Tokens.{is_blank}
 use Rattle.text_scan.proofs.gap.skip_gap.Goals as goal
 
 pub returns-in-Some-clause-some : goal.returns-in-Some-clause-some
-returns-in-Some-clause-some c = line_skipped c.args.text.now c.in-Some.line.now c.split_front.result.front.now _ c.in-Some.ensures.some c.split_front.ensures.joined c.split_front.ensures.front c.split_front.ensures.rest
+returns-in-Some-clause-some c = line_skipped c.args.text.now c.in-Some.line.now
+    c.split_front.result.front.now _ c.in-Some.ensures.some c.split_front.ensures.joined
+    c.split_front.ensures.front c.split_front.ensures.rest
 
 pub returns-in-Some-split_close-clause-some : goal.returns-in-Some-split_close-clause-some
 returns-in-Some-split_close-clause-some c =

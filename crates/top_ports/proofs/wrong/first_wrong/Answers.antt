@@ -28,6 +28,10 @@ returns-in_default c =
     let q = c.loop-place.invariant.0 in
     let at = c.loop-place.invariant.1 in
     record {
-      wrong = wrong_end m q (all_run m c.loop-place.place q (omega (arith, c.len-place-end.ensures)) at.reached) (λ e. c.in_default.not-Done (done_seen m c.loop-place.stage (subst (Sees m c.loop-place.stage) e at.sees)));
+      wrong = wrong_end m q (all_run m c.loop-place.place q (omega (
+        arith,
+        c.len-place-end.ensures,
+      )) at.reached) (λ e. c.in_default.not-Done
+          (done_seen m c.loop-place.stage (subst (Sees m c.loop-place.stage) e at.sees)));
       right = tt;
     }

@@ -10,9 +10,15 @@ returns-in_err-role-clause-none c =
 pub returns-clause-some : goal.returns-clause-some
 returns-clause-some c =
     let q = c.requires.stands.0 in
-    some_more c.args.top.now c.args.place c.at.result.now q (role_view c.in_ok-role.role) c.next_stage.result c.at.ensures c.requires.stands.1.reached (sym c.in_ok-role.ensures) (c.next_stage.ensures.some q c.requires.stands.1)
+    some_more c.args.top.now c.args.place c.at.result.now q
+    (role_view c.in_ok-role.role) c.next_stage.result c.at.ensures
+    c.requires.stands.1.reached (sym c.in_ok-role.ensures)
+    (c.next_stage.ensures.some q c.requires.stands.1)
 
 pub returns-clause-none : goal.returns-clause-none
 returns-clause-none c =
     let q = c.requires.stands.0 in
-    stop_more c.args.top.now c.args.place c.at.result.now q (role_view c.in_ok-role.role) c.next_stage.result c.at.ensures c.requires.stands.1.reached (sym c.in_ok-role.ensures) (c.next_stage.ensures.none q c.requires.stands.1)
+    stop_more c.args.top.now c.args.place c.at.result.now q
+    (role_view c.in_ok-role.role) c.next_stage.result c.at.ensures
+    c.requires.stands.1.reached (sym c.in_ok-role.ensures)
+    (c.next_stage.ensures.none q c.requires.stands.1)

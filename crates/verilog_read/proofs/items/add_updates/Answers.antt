@@ -16,7 +16,10 @@ returns-in_err-update c = λ sc m h t.
 
 pub loop-tree-preserved : goal.loop-tree-preserved
 loop-tree-preserved c = λ sc m h t.
-    updated_more sc m (get_split c.args.trees.now c.loop-tree.tree-index _ (omega arith)) c.args.updates.now c.loop-tree.updates c.push.new.self c.in_ok-update.update (c.loop-tree.invariant sc m h t) (c.in_ok-update.ensures sc m h t) c.in_ok-push.ensures.ok
+    updated_more sc m (get_split c.args.trees.now c.loop-tree.tree-index _
+    (omega arith)) c.args.updates.now c.loop-tree.updates c.push.new.self
+    c.in_ok-update.update (c.loop-tree.invariant sc m h t)
+    (c.in_ok-update.ensures sc m h t) c.in_ok-push.ensures.ok
 
 pub returns : goal.returns
 returns c = λ sc m h t.

@@ -11,7 +11,10 @@ found : (name : List ℕ) {ports : List PortTree} {i : ℕ} {x : PortTree} → S
 found name {ports = ports} {i = i} {x = x} s e =
     let test = is_bit_input name in
     let back = map port_view s.rest in
-    sym (ap (list_any test) (map_whole port_view s) ∙ list_any-append test (map port_view (take i ports)) (port_view x ∷ back) ∙ ap (λ b. list_any test (map port_view (take i ports)) || (b || list_any test back)) e ∙ last (list_any test (map port_view (take i ports))))
+    sym (ap (list_any test) (map_whole port_view s) ∙ list_any-append test
+    (map port_view (take i ports)) (port_view x
+    ∷ back) ∙ ap (λ b. list_any test (map port_view (take i ports)) ||
+    (b || list_any test back)) e ∙ last (list_any test (map port_view (take i ports))))
   where
     last : (b : Bool) → (b || true) ≡ true
     last true = refl

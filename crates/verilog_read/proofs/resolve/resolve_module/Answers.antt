@@ -14,7 +14,9 @@ use Rattle.verilog_read.proofs.resolve.resolve_module.Goals as goal
 ports_fault : {xs ys : List Port} (f : Fault) → xs ≡ ys → IsFault (port_uses (map port_view xs)) f → IsFault (port_uses (map port_view ys)) f
 ports_fault f e h = subst (λ l. IsFault (port_uses (map port_view l)) f) e h
 
-items_fault : {xs ys : List Item} (modules : List ModuleTree) (ports : List PortTree) (f : Fault) → xs ≡ ys → IsFault (items_uses modules ports [] (map item_view xs)) f → IsFault (items_uses modules ports [] (map item_view ys)) f
+items_fault : {xs ys : List Item} (modules : List ModuleTree) (ports : List PortTree)
+    (f : Fault) → xs ≡ ys → IsFault (items_uses modules ports [] (map item_view xs)) f
+    → IsFault (items_uses modules ports [] (map item_view ys)) f
 items_fault modules ports f e h = subst (λ l. IsFault (items_uses modules ports [] (map item_view l)) f) e h
 
 pub returns-in_err-has_clock : goal.returns-in_err-has_clock
@@ -29,17 +31,23 @@ returns-in_err-items c = λ modules e.
     let ports = map port_view c.args.tree.now.ports in
     let items = map item_view c.args.tree.now.items in
     let named = c.args.tree.now.name.now in
-    let built = subst (λ (l : List Port). IsBuilt named (port_scope modules (map port_view l)) c.ports.new.self) c.as_slice.ensures (c.in_ok-ports.ensures named modules (c.in_ok-builder.ensures modules)) in
+    let built = subst (λ (l : List Port). IsBuilt named
+    (port_scope modules (map port_view l)) c.ports.new.self) c.as_slice.ensures
+    (c.in_ok-ports.ensures named modules (c.in_ok-builder.ensures modules)) in
     let clock = subst (λ (l : List Port). first_undeclared (port_uses (map port_view l)) ≡ None) c.as_slice-2.ensures c.in_ok-has_clock.ensures.known in
     rw (err_is (err_from_is_err_and c.from_residual-in_err-items.result c.from_residual-in_err-items.ensures.1))
-    (fault_later (port_uses ports) (items_uses modules ports [] items) _ clock (items_fault modules ports _ c.as_slice-3.ensures (c.in_err-items.ensures named (port_scope modules ports) refl e built)))
+    (fault_later (port_uses ports) (items_uses modules ports [] items) _ clock
+    (items_fault modules ports _ c.as_slice-3.ensures
+    (c.in_err-items.ensures named (port_scope modules ports) refl e built)))
 
 pub returns : goal.returns
 returns c = λ modules e.
     let ports = map port_view c.args.tree.now.ports in
     let items = map item_view c.args.tree.now.items in
     let named = c.args.tree.now.name.now in
-    let built = subst (λ (l : List Port). IsBuilt named (port_scope modules (map port_view l)) c.ports.new.self) c.as_slice.ensures (c.in_ok-ports.ensures named modules (c.in_ok-builder.ensures modules)) in
+    let built = subst (λ (l : List Port). IsBuilt named
+    (port_scope modules (map port_view l)) c.ports.new.self) c.as_slice.ensures
+    (c.in_ok-ports.ensures named modules (c.in_ok-builder.ensures modules)) in
     let clock = subst (λ (l : List Port). first_undeclared (port_uses (map port_view l)) ≡ None) c.as_slice-2.ensures c.in_ok-has_clock.ensures.known in
     let all = c.in_ok-items.ensures named (port_scope modules ports) refl e built in
     let known = subst (λ (l : List Item). first_undeclared (items_uses modules ports [] (map item_view l)) ≡ None) c.as_slice-3.ensures all.known in

@@ -12,7 +12,9 @@ use Rattle.verilog_read.specs.declared.fault.Fault.{Fault}
 use Rattle.verilog_read.specs.declared.fault.Fault.TheVariants.{Unknown, NoMemory}
 use Rattle.verilog_read.proofs.steps.design.Goals as goal
 
-tree_fault : (tokens : List Placed) (size : ℕ) (trees : List ModuleTree) (f : Fault) (e : VerilogError) → AreTrees tokens trees → IsFault (text_uses [] trees) f → IsRefusal f e → IsTreeFault tokens size e
+tree_fault : (tokens : List Placed) (size : ℕ) (trees : List ModuleTree) (f : Fault)
+    (e : VerilogError) → AreTrees tokens trees → IsFault (text_uses [] trees) f → IsRefusal f e
+    → IsTreeFault tokens size e
 tree_fault tokens size trees (Unknown name) e are h (inl m) = subst (IsTreeFault tokens size) (sym m) IsTreeFault.memory
 tree_fault tokens size trees (Unknown name) e are h (inr u) = subst (IsTreeFault tokens size) (sym u) (IsTreeFault.unknown name.now trees are h)
 tree_fault tokens size trees NoMemory e are h m = subst (IsTreeFault tokens size) (sym m) IsTreeFault.memory
@@ -24,7 +26,11 @@ returns-in-Ok-clause-err c =
     (subst (AreTrees c.args.tokens.now) same (record { derived = c.in-Ok.ensures.derived; only = c.in-Ok.ensures.only })) c.in-Err.ensures c.refusal.ensures
 
 pub returns-in-Err-Syntax-clause-err : goal.returns-in-Err-Syntax-clause-err
-returns-in-Err-Syntax-clause-err c = subst (λ n. IsTreeFault c.args.tokens.now c.args.size (errors.Syntax n)) (sym c.in-Err-Syntax.place-is) (IsTreeFault.syntax_at c.in-Err-Syntax.place (subst (IsRefused c.args.tokens.now c.args.size) c.in-Err-Syntax.field-0-is c.in-Err-Syntax.ensures.refused))
+returns-in-Err-Syntax-clause-err c = subst (λ n. IsTreeFault c.args.tokens.now c.args.size
+    (errors.Syntax n)) (sym c.in-Err-Syntax.place-is)
+    (IsTreeFault.syntax_at c.in-Err-Syntax.place (subst
+    (IsRefused c.args.tokens.now c.args.size) c.in-Err-Syntax.field-0-is
+    c.in-Err-Syntax.ensures.refused))
 
 pub returns-clause-err : goal.returns-clause-err
 returns-clause-err c = IsTreeFault.memory

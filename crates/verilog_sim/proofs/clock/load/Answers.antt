@@ -41,7 +41,9 @@ write-requires-clause-word c = λ on.
     let i = c.loop-update.update-index in
     let u = c.update-item.result in
     let small = subst (IsLoadSmall c.args.narrow c.args.held.now c.args.values.now) (sym c.update-item.is) (c.requires.small i u c.loop-update-test.true) in
-    rw c.index.ensures.number ((small_at c.args.narrow c.args.held.now c.args.values.now c.loop-update.values u.target c.in-Reg.net c.in-Reg.is small (c.loop-update.invariant.either c.in-Reg.net) on).0)
+    rw c.index.ensures.number
+    ((small_at c.args.narrow c.args.held.now c.args.values.now c.loop-update.values u.target
+    c.in-Reg.net c.in-Reg.is small (c.loop-update.invariant.either c.in-Reg.net) on).0)
 
 pub loop-update-preserved : goal.loop-update-preserved
 loop-update-preserved c =
@@ -52,7 +54,12 @@ loop-update-preserved c =
     elim c.match-update.branch [
       | in-Reg w ↦ (
           let lt = subst (IsRegSafe (length c.args.values.now)) w.in-Reg.is safe in
-          let more = one_loaded c.args.updates.now c.args.held.now c.args.values.now c.loop-update.values i w.in-Reg.net u at w.in-Reg.is (omega (arith, lt, c.loop-update.invariant.size)) c.loop-update.invariant in
+          let more = one_loaded c.args.updates.now c.args.held.now c.args.values.now
+          c.loop-update.values i w.in-Reg.net u at w.in-Reg.is (omega (
+            arith,
+            lt,
+            c.loop-update.invariant.size,
+          )) c.loop-update.invariant in
           subst (λ (l : List ℕ). Loaded c.args.updates.now c.args.held.now c.args.values.now l (i + 1)) (sym (w.values-is ∙ w.write.ensures)) (rw w.index.ensures.number more))
       | in_default w ↦ (
           let more = passed c.args.updates.now c.args.held.now c.args.values.now c.loop-update.values i u at w.in_default.not-Reg c.loop-update.invariant in

@@ -15,10 +15,14 @@ use Rattle.verilog_sim.specs.Settled.{Progress}
 use Rattle.verilog_sim.proofs.narrow.settle_entries.Goals as goal
 
 -- the line of an entry
-line_at : {R : Type 0} (step : R → Step) (entries : List (Entry R)) (i : ℕ) (e : Entry R) → i < length entries → e ≡ get_or entries i e → slice_get (map (line_of step) entries) i ≡ Some (line_of step e)
+line_at : {R : Type 0} (step : R → Step) (entries : List (Entry R)) (i : ℕ) (e : Entry R)
+    → i < length entries → e ≡ get_or entries i e
+    → slice_get (map (line_of step) entries) i ≡ Some (line_of step e)
 line_at step entries i e lt is = mapped_at (line_of step) entries i e (slice_get_read entries (length entries) i e refl lt is)
 
-entry_safe : {R : Type 0} (step : R → Step) (entries : List (Entry R)) (n k i : ℕ) (e : Entry R) → All (IsSafe n k) (map (line_of step) entries) → i < length entries → e ≡ get_or entries i e → IsSafe n k (line_of step e)
+entry_safe : {R : Type 0} (step : R → Step) (entries : List (Entry R)) (n k i : ℕ) (e : Entry R)
+    → All (IsSafe n k) (map (line_of step) entries) → i < length entries
+    → e ≡ get_or entries i e → IsSafe n k (line_of step e)
 entry_safe step entries n k i e all lt is = one_of_all (IsSafe n k) (map (line_of step) entries) i (line_of step e) all (line_at step entries i e lt is)
 
 pub value-requires-clause-some : goal.value-requires-clause-some
@@ -58,8 +62,22 @@ loop-entry-preserved g c =
     let is = subst (λ (f : ℕ → ℕ). step_value memories f e.width (step e.reads) < 2 ^ 64 → x ≡ step_value memories f e.width (step e.reads)) (read_low low high same) c.value.ensures in
     rw c.index.ensures.number
     (subst (λ (v : List ℕ). Progress m order memories old v (length before + (i + 1))) (sym (set_low low high e.target x same none))
-    (line_between m order memories before lines rest old (words low high) i l x true (λ _. refl) are o h at (omega (arith, safe.target, c.loop-entry.auto.low, length_words low high same)) safe.some safe.at_most (λ f. is (f refl)) now))
+    (line_between m order memories before lines rest old (words low high) i l x true
+    (λ _. refl) are o h at (omega (
+      arith,
+      safe.target,
+      c.loop-entry.auto.low,
+      length_words low high same,
+    )) safe.some safe.at_most (λ f. is (f refl)) now))
 
 pub returns : goal.returns
 returns g c = λ high size m order old before rest are o h p.
-    lines_between m order c.args.memories.now before (map (line_of g.R.Operation.step) c.args.entries.now) old (words c.loop-entry.low high) c.loop-entry.entry-index (omega (arith, c.loop-entry-test.false, c.loop-entry.auto.entry-index-end, length-map c.args.entries.now (line_of g.R.Operation.step))) (c.loop-entry.invariant high size m order old before rest are o h p)
+    lines_between m order c.args.memories.now before (map
+    (line_of g.R.Operation.step) c.args.entries.now) old
+    (words c.loop-entry.low high) c.loop-entry.entry-index (omega (
+      arith,
+      c.loop-entry-test.false,
+      c.loop-entry.auto.entry-index-end,
+      length-map c.args.entries.now (line_of g.R.Operation.step),
+    ))
+    (c.loop-entry.invariant high size m order old before rest are o h p)

@@ -9,7 +9,10 @@ returns c =
     record {
       order = c.in_ok-all.all.items;
       ordered = c.in_ok-all.ensures;
-      sees = feeding_fewer _ _ _ _ c.in_ok-seen.ensures.seen (subst (λ (l : List Assign). IsFeeding l c.in_ok-feeding.field-0.items (λ n. is_marked c.in_ok-seen.seen.items n ≡ true)) c.as_slice-2.ensures.value c.in_ok-feeding.ensures);
+      sees = feeding_fewer _ _ _ _ c.in_ok-seen.ensures.seen
+          (subst (λ (l : List Assign). IsFeeding l c.in_ok-feeding.field-0.items
+          (λ n. is_marked c.in_ok-seen.seen.items n
+          ≡ true)) c.as_slice-2.ensures.value c.in_ok-feeding.ensures);
       feeds = feeding_fewer _ _ _ _
           (λ n e. subst (λ (k : ℕ). is_marked c.in_ok-one.one.items k ≡ true) (sym e) c.in_ok-one.ensures.net)
           (subst (λ (l : List Assign). IsFeeding l c.in_ok-feeding-2.field-0.items (λ n. is_marked c.in_ok-one.one.items n ≡ true)) c.as_slice-3.ensures.value c.in_ok-feeding-2.ensures);

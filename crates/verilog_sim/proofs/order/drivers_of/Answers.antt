@@ -28,4 +28,11 @@ loop-k-init c =
 pub loop-k-preserved : goal.loop-k-preserved
 loop-k-preserved c =
     let at = assign_at c.as_slice-assign-items.result.now c.args.module.now.assigns c.loop-k.k c.assign-item.result c.as_slice-assign-items.ensures c.loop-k-test.true c.assign-item.is in
-    rw (c.index.ensures.number, c.index-in-loop-k.ensures.number, c.own.ensures, c.in_ok-reads.ensures) (one_driver c.args.module.now c.loop-k.graph.items c.loop-k.by_net.items c.loop-k.k c.assign-item.result c.requires at c.loop-k.invariant)
+    rw (
+      c.index.ensures.number,
+      c.index-in-loop-k.ensures.number,
+      c.own.ensures,
+      c.in_ok-reads.ensures,
+    )
+    (one_driver c.args.module.now c.loop-k.graph.items c.loop-k.by_net.items c.loop-k.k
+    c.assign-item.result c.requires at c.loop-k.invariant)

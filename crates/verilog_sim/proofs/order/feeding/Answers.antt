@@ -9,7 +9,9 @@ pub marked-requires : goal.marked-requires
 marked-requires c = λ i a at.
     let from = c.requires.order.from i a at in
     let lt = (c.requires.runnable.assigns from.0 a from.1).target in
-    let items : (with_items c.args.marks c.mark_fed.new.marks).items ≡ c.mark_fed.new.marks = back c.args.marks c.mark_fed.new.marks c.as_mut_slice.result.now c.mark_fed.auto.marks c.as_mut_slice.ensures.value in
+    let items : (with_items c.args.marks c.mark_fed.new.marks).items
+    ≡ c.mark_fed.new.marks = back c.args.marks c.mark_fed.new.marks
+    c.as_mut_slice.result.now c.mark_fed.auto.marks c.as_mut_slice.ensures.value in
     omega (arith, lt, ap length c.as_slice.ensures.value, ap length items, c.mark_fed.auto.marks, ap length c.as_mut_slice.ensures.value, c.requires.size)
 
 pub returns : goal.returns

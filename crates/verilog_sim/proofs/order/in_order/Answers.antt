@@ -14,7 +14,15 @@ pub gather-requires-clause-nodes : goal.gather-requires-clause-nodes
 gather-requires-clause-nodes c =
     let found = subst (RanksOrWalk c.as_slice.result.now) c.in-Ranks.is c.in_ok-order.ensures in
     rw (c.as_slice-in-Ranks-3.ensures.value, c.as_slice-in-Ranks-2.ensures.value)
-    (λ i lt. let n = nodes_in c.as_slice.result.now c.in-Ranks.order.nodes.items c.in-Ranks.order.rank.items found.0 found.1 i lt in omega (arith, n, c.as_slice.ensures.len, c.in_ok-drivers.ensures.nodes, c.in_ok-drivers.ensures.nets, ap length c.as_slice.ensures.value))
+    (λ i lt. let n = nodes_in c.as_slice.result.now c.in-Ranks.order.nodes.items
+    c.in-Ranks.order.rank.items found.0 found.1 i lt in omega (
+      arith,
+      n,
+      c.as_slice.ensures.len,
+      c.in_ok-drivers.ensures.nodes,
+      c.in_ok-drivers.ensures.nets,
+      ap length c.as_slice.ensures.value,
+    ))
 
 pub gather-requires-clause-drivers : goal.gather-requires-clause-drivers
 gather-requires-clause-drivers c = rw (c.as_slice-in-Ranks-2.ensures.value, c.as_slice-in-Ranks.ensures)
@@ -24,11 +32,19 @@ pub unreachable-requires : goal.unreachable-requires
 unreachable-requires c =
     let found = subst (RanksOrWalk c.as_slice.result.now) c.in-Walk.is c.in_ok-order.ensures in
     no_walk c.args.module.now c.as_slice.result.now c.in_ok-drivers.drivers.by_net.items (length c.args.module.now.assigns) c.in-Walk.field-0.items c.requires.runnable
-    (subst (λ (g : List (List ℕ)). AreDrivers c.args.module.now g c.in_ok-drivers.drivers.by_net.items (length c.args.module.now.assigns)) (sym c.as_slice.ensures.value) c.in_ok-drivers.ensures) found.0
+    (subst (λ (g : List (List ℕ)). AreDrivers c.args.module.now g
+    c.in_ok-drivers.drivers.by_net.items (length c.args.module.now.assigns))
+    (sym c.as_slice.ensures.value) c.in_ok-drivers.ensures) found.0
 
 pub returns : goal.returns
 returns c =
     let found = subst (RanksOrWalk c.as_slice.result.now) c.in-Ranks.is c.in_ok-order.ensures in
-    let drivers = subst (λ (g : List (List ℕ)). AreDrivers c.args.module.now g c.in_ok-drivers.drivers.by_net.items (length c.args.module.now.assigns)) (sym c.as_slice.ensures.value) c.in_ok-drivers.ensures in
-    IfOk-weaker c.gather.result _ _ (λ order gathered. order_of c.args.module.now c.as_slice.result.now c.in_ok-drivers.drivers.by_net.items c.in-Ranks.order.nodes.items c.in-Ranks.order.rank.items order.items c.requires.runnable drivers found.0 found.1
+    let drivers = subst (λ (g : List
+    (List ℕ)). AreDrivers c.args.module.now g c.in_ok-drivers.drivers.by_net.items
+    (length c.args.module.now.assigns))
+    (sym c.as_slice.ensures.value) c.in_ok-drivers.ensures in
+    IfOk-weaker c.gather.result _ _
+    (λ order gathered. order_of c.args.module.now c.as_slice.result.now
+    c.in_ok-drivers.drivers.by_net.items c.in-Ranks.order.nodes.items
+    c.in-Ranks.order.rank.items order.items c.requires.runnable drivers found.0 found.1
     (rw (← c.as_slice-in-Ranks.ensures, ← c.as_slice-in-Ranks-2.ensures.value, ← c.as_slice-in-Ranks-3.ensures.value) gathered)) c.gather.ensures

@@ -13,7 +13,16 @@ mark_updates-requires c = λ i u at.
     let m = c.args.module.now in
     let f = c.requires.runnable.updates i u (subst (λ (l : List Update). slice_get l i ≡ Some u) c.as_slice-2.ensures at) in
     let items = back c.in_ok-marks.marks c.mark_ports.new.marks c.as_mut_slice.result.now c.mark_ports.auto.marks c.as_mut_slice.ensures.value in
-    let size : length c.as_mut_slice-2.result.now ≡ length m.nets = omega (arith, ap length c.as_mut_slice-2.ensures.value, ap length items, c.mark_ports.auto.marks, ap length c.as_mut_slice.ensures.value, c.in_ok-marks.ensures.len, c.in_ok-marks.marks.ok, c.len.ensures) in
+    let size : length c.as_mut_slice-2.result.now ≡ length m.nets = omega (
+      arith,
+      ap length c.as_mut_slice-2.ensures.value,
+      ap length items,
+      c.mark_ports.auto.marks,
+      ap length c.as_mut_slice.ensures.value,
+      c.in_ok-marks.ensures.len,
+      c.in_ok-marks.marks.ok,
+      c.len.ensures,
+    ) in
     subst (λ (n : ℕ). AreNetsBelow n u) (sym size) (record { enable = f.enable; value = f.value; net = f.net })
 
 pub returns-clause-seen : goal.returns-clause-seen
@@ -22,7 +31,13 @@ returns-clause-seen c =
     let new = c.mark_updates.new.marks in
     let items = back c.in_ok-marks.marks c.mark_ports.new.marks c.as_mut_slice.result.now c.mark_ports.auto.marks c.as_mut_slice.ensures.value in
     let before : c.as_mut_slice-2.result.now ≡ c.mark_ports.new.marks = c.as_mut_slice-2.ensures.value ∙ items in
-    let last : (with_items (with_items c.in_ok-marks.marks c.mark_ports.new.marks) new).items ≡ new = back (with_items c.in_ok-marks.marks c.mark_ports.new.marks) new c.as_mut_slice-2.result.now c.mark_updates.auto.marks c.as_mut_slice-2.ensures.value in
-    let ports : (i : ℕ) (p : Port) → slice_get m.ports i ≡ Some p → is_marked new p.net ≡ true = λ i p at. c.mark_updates.ensures.kept p.net (subst (λ (l : List Bool). is_marked l p.net ≡ true) (sym before) (c.mark_ports.ensures.ports i p (subst (λ (l : List Port). slice_get l i ≡ Some p) (sym c.as_slice.ensures) at))) in
+    let last : (with_items (with_items c.in_ok-marks.marks c.mark_ports.new.marks) new).items
+    ≡ new = back (with_items c.in_ok-marks.marks c.mark_ports.new.marks) new
+    c.as_mut_slice-2.result.now c.mark_updates.auto.marks c.as_mut_slice-2.ensures.value in
+    let ports : (i : ℕ) (p : Port) → slice_get m.ports i ≡ Some p
+    → is_marked new p.net ≡ true = λ i p at. c.mark_updates.ensures.kept p.net
+    (subst (λ (l : List Bool). is_marked l p.net ≡ true) (sym before)
+    (c.mark_ports.ensures.ports i p (subst (λ (l : List Port). slice_get l i ≡ Some p)
+    (sym c.as_slice.ensures) at))) in
     let updates = subst (λ (l : List Update). (j : ℕ) (u : Update) → slice_get l j ≡ Some u → AreNetsMarked new u) c.as_slice-2.ensures c.mark_updates.ensures.updates in
     λ n seen. subst (λ (l : List Bool). is_marked l n ≡ true) (sym last) (seen_marked m new ports updates n seen)

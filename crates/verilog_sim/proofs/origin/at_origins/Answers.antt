@@ -19,7 +19,10 @@ returns c =
     let os = c.in_ok-traced.traced.origins.items in
     let new = c.in_ok-traced.traced.assigns.items in
     let p : AreAtOrigins m order os new (length order) = subst (λ (l : List Assign). AreAtOrigins m l os new (length l)) c.as_slice.ensures.value c.in_ok-traced.ensures in
-    let updates : c.in_ok-updates.updates.items ≡ map (update_at os) m.updates = c.in_ok-updates.ensures ∙ ap (λ (l : List ℕ). map (update_at l) c.as_slice-2.result.now) c.as_slice-origins.ensures.value ∙ ap (map (update_at os)) c.as_slice-2.ensures in
+    let updates : c.in_ok-updates.updates.items ≡ map
+    (update_at os) m.updates = c.in_ok-updates.ensures ∙ ap
+    (λ (l : List ℕ). map (update_at l) c.as_slice-2.result.now)
+    c.as_slice-origins.ensures.value ∙ ap (map (update_at os)) c.as_slice-2.ensures in
     record {
       lists = refl;
       stand = subst (λ (l : List Assign). StandFor m l c.from_vec-2.result) (sym c.from_vec.ensures)

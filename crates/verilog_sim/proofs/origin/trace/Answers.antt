@@ -49,8 +49,12 @@ loop-assign-preserved c =
     let noted = origin_noted m order o os (old ++ assign_at os a ∷ []) (i + 1) (length old) (assign_at os a) (get_last old (assign_at os a)) one in
     let direct : c.assign_at-direct.result ≡ assign_at os a = c.assign_at-direct.ensures ∙ ap (λ (l : List ℕ). assign_at l a) c.as_slice.ensures.value in
     let origins : c.note_origin.new.origins ≡ with_origin (assign_at os a).expr (assign_at os a).target os =
-    c.note_origin.ensures ∙ ap (with_origin c.assign_at-direct.result.expr c.assign_at-direct.result.target) c.as_mut_slice.ensures.value ∙ ap (λ (x : Assign). with_origin x.expr x.target os) direct in
-    let items : (with_items c.loop-assign.origins c.note_origin.new.origins).items ≡ c.note_origin.new.origins = back c.loop-assign.origins c.note_origin.new.origins c.as_mut_slice.result.now c.note_origin.auto.origins c.as_mut_slice.ensures.value in
+    c.note_origin.ensures ∙ ap
+    (with_origin c.assign_at-direct.result.expr c.assign_at-direct.result.target)
+    c.as_mut_slice.ensures.value ∙ ap (λ (x : Assign). with_origin x.expr x.target os) direct in
+    let items : (with_items c.loop-assign.origins c.note_origin.new.origins).items
+    ≡ c.note_origin.new.origins = back c.loop-assign.origins c.note_origin.new.origins
+    c.as_mut_slice.result.now c.note_origin.auto.origins c.as_mut_slice.ensures.value in
     let pushed : c.push.new.self.items ≡ old ++ assign_at os a ∷ [] = c.in_ok-push.ensures.items ∙ ap (λ (x : Assign). old ++ x ∷ []) direct in
     subst (λ (l : List Assign). AreAtOrigins m order (with_items c.loop-assign.origins c.note_origin.new.origins).items l (i + 1)) (sym pushed)
     (subst (λ (l : List ℕ). AreAtOrigins m order l (old ++ assign_at os a ∷ []) (i + 1)) (sym (items ∙ origins)) noted)

@@ -5,7 +5,9 @@ use Rattle.rtl_ir.specs.declared.design.Expr.TheVariants.{Net as Plain}
 use Rattle.verilog_sim.specs.Moved.{join_of, joins_of}
 use Rattle.verilog_sim.proofs.parts.add_joins.Goals as goal
 
-joins_suc : (b k : ℕ) (ps : List Port) (ns : List ℕ) (p : Port) (n : ℕ) → k < length ps → k < length ns → joins_of b (take (suc k) ps) (take (suc k) ns) ≡ joins_of b (take k ps) (take k ns) ++ join_of b (get_or ps k p) (get_or ns k n) ∷ []
+joins_suc : (b k : ℕ) (ps : List Port) (ns : List ℕ) (p : Port) (n : ℕ) → k < length ps
+    → k < length ns → joins_of b (take (suc k) ps) (take (suc k) ns) ≡ joins_of b (take k ps)
+    (take k ns) ++ join_of b (get_or ps k p) (get_or ns k n) ∷ []
 joins_suc b k [] ns p n lt less = absurd (omega arith)
 joins_suc b k (q ∷ ps) [] p n lt less = absurd (omega arith)
 joins_suc b zero (q ∷ ps) (o ∷ ns) p n lt less = refl
@@ -21,7 +23,12 @@ loop-k-preserved c =
     let lt : k < length ports = c.loop-k-test.true in
     let next : suc k ≡ k + 1 = omega arith in
     let more = joins_suc c.args.first_net k ports nets c.index-ports-k.result c.index-nets-k.result lt (omega (arith, lt, c.requires.nets)) in
-    let pick : join_of c.args.first_net c.index-ports-k.result c.index-nets-k.result ≡ join_of c.args.first_net (get_or ports k c.index-ports-k.result) (get_or nets k c.index-nets-k.result) = ap (λ (p : Port). join_of c.args.first_net p c.index-nets-k.result) c.index-ports-k.is ∙ ap (λ (n : ℕ). join_of c.args.first_net (get_or ports k c.index-ports-k.result) n) c.index-nets-k.is in
+    let pick : join_of c.args.first_net c.index-ports-k.result c.index-nets-k.result
+    ≡ join_of c.args.first_net (get_or ports k c.index-ports-k.result)
+    (get_or nets k c.index-nets-k.result) = ap (λ
+    (p : Port). join_of c.args.first_net p c.index-nets-k.result) c.index-ports-k.is ∙ ap
+    (λ (n : ℕ). join_of c.args.first_net
+    (get_or ports k c.index-ports-k.result) n) c.index-nets-k.is in
     let one : Assign = record { target = c.joined-join.result.target; expr = Plain c.joined-join.result.source } in
     c.in_ok-push.ensures.items
     ∙ ap (λ l. l ++ one ∷ []) c.loop-k.invariant

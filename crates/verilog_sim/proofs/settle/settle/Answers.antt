@@ -28,7 +28,12 @@ settle_batch-requires c =
     let at : slice_get batches i ≡ Some b = slice_get_read batches (length batches) i b refl c.loop-batch-test.true c.batch-item.is in
     let around = lines_around batches i b at in
     rw c.loop-batch.invariant.0
-    (record { safe = middle (IsSafe (length c.args.values.now) (length c.args.memories.now)) (lines_of_all (take i batches)) (lines_in b) around.0 (subst (All (IsSafe (length c.args.values.now) (length c.args.memories.now))) around.1 c.requires.safe) })
+    (record {
+      safe = middle (IsSafe (length c.args.values.now) (length c.args.memories.now))
+          (lines_of_all (take i batches)) (lines_in b) around.0
+          (subst (All (IsSafe (length c.args.values.now)
+          (length c.args.memories.now))) around.1 c.requires.safe);
+    })
 
 pub loop-batch-init : goal.loop-batch-init
 loop-batch-init c = (refl, λ m assigns are o h. at_start m assigns c.args.memories.now c.args.values.now h)
@@ -43,7 +48,10 @@ loop-batch-preserved c = (
       let at : slice_get batches i ≡ Some b = slice_get_read batches (length batches) i b refl c.loop-batch-test.true c.batch-item.is in
       let around = lines_around batches i b at in
       let parts = subst (AreLinesOf m assigns) around.1 are in
-      let more : lines_of_all (take (i + 1) batches) ≡ lines_of_all (take i batches) ++ lines_in b = ap lines_of_all (take_more batches i b c.loop-batch-test.true ∙ ap (λ (x : Batch). take i batches ++ x ∷ []) (sym c.batch-item.is)) ∙ lines_more (take i batches) b in
+      let more : lines_of_all (take (i + 1) batches) ≡ lines_of_all (take i batches)
+      ++ lines_in b = ap lines_of_all (take_more batches i b c.loop-batch-test.true ∙ ap
+      (λ (x : Batch). take i batches ++ x
+      ∷ []) (sym c.batch-item.is)) ∙ lines_more (take i batches) b in
       let done = c.settle_batch.ensures.advances m assigns c.args.values.now (lines_of_all (take i batches)) around.0 parts o h (c.loop-batch.invariant.1 m assigns are o h) in
       subst (λ (ls : List Line). Progress m assigns c.args.memories.now c.args.values.now c.settle_batch.new.values (length ls)) (sym more) done,
 )
@@ -53,4 +61,9 @@ returns c = λ m assigns are o h.
     let batches = c.args.batches.now in
     let all : lines_of_all batches ≡ lines_of_all (take c.loop-batch.batch-index batches) = ap lines_of_all (sym (take_all c.loop-batch.batch-index batches c.loop-batch-test.false)) in
     let size = ap length all in
-    at_last m assigns c.args.memories.now (lines_of_all batches) c.args.values.now c.loop-batch.values (length (lines_of_all (take c.loop-batch.batch-index batches))) are (omega (arith, size)) (c.loop-batch.invariant.1 m assigns are o h)
+    at_last m assigns c.args.memories.now
+    (lines_of_all batches) c.args.values.now c.loop-batch.values
+    (length (lines_of_all (take c.loop-batch.batch-index batches))) are (omega (
+      arith,
+      size,
+    )) (c.loop-batch.invariant.1 m assigns are o h)

@@ -7,4 +7,8 @@ use Rattle.verilog_sim.specs.Settled.{IsInOrder, AreWords, Progress}
 use Rattle.verilog_sim.proofs.settle.settle.Given as goal
 
 abbrev pub invariant-loop-batch : goal.invariant-loop-batch
-invariant-loop-batch l = (length l.values ≡ length l.fn.values) × ((m : Module) (assigns : List Assign) → AreLinesOf m assigns (lines_of_all l.batches) → IsInOrder m assigns → AreWords m l.fn.values l.memories → Progress m assigns l.memories l.fn.values l.values (length (lines_of_all (take l.batch-index l.batches))))
+invariant-loop-batch l = (length l.values ≡ length l.fn.values)
+    × ((m : Module) (assigns : List Assign) → AreLinesOf m assigns (lines_of_all l.batches)
+    → IsInOrder m assigns → AreWords m l.fn.values l.memories
+    → Progress m assigns l.memories l.fn.values l.values
+    (length (lines_of_all (take l.batch-index l.batches))))

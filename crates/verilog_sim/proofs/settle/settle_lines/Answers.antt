@@ -36,7 +36,14 @@ loop-line-preserved c =
     let safe = subst (IsSafe (length c.args.values.now) (length c.args.memories.now)) (sym c.line-item.is) (c.requires.safe i l c.loop-line-test.true) in
     rw c.set.ensures (
       length-set c.loop-line.values l.target c.value_of-value.result ∙ c.loop-line.invariant.0,
-      λ m order old before rest are o h p. line_between m order c.args.memories.now before c.args.lines.now rest old c.loop-line.values i l c.value_of-value.result false (λ e. absurd (false≢true e)) are o h at (omega (arith, safe.target, c.loop-line.invariant.0)) safe.some safe.at_most (λ _. c.value_of-value.ensures) (c.loop-line.invariant.1 m order old before rest are o h p),
+      λ m order old before rest are o h p. line_between m order c.args.memories.now before
+          c.args.lines.now rest old c.loop-line.values i l c.value_of-value.result false
+          (λ e. absurd (false≢true e)) are o h at (omega (
+            arith,
+            safe.target,
+            c.loop-line.invariant.0,
+          )) safe.some safe.at_most (λ _. c.value_of-value.ensures)
+          (c.loop-line.invariant.1 m order old before rest are o h p),
     )
 
 pub returns-clause-advances : goal.returns-clause-advances

@@ -27,6 +27,11 @@ pub returns : goal.returns
 returns c =
     let m = c.args.module.now in
     let zeros : c.in_ok-values.values ≡ replicate (length m.nets) 0 = c.in_ok-values.ensures ∙ ap (λ k. replicate k 0) c.len.ensures in
-    let set : AreLiteralsSet m.assigns c.in_ok-values.values c.set_literals.new.values (length m.assigns) = subst (λ (l : List Assign). AreLiteralsSet l c.in_ok-values.values c.set_literals.new.values (length l)) c.as_slice.ensures c.set_literals.ensures in
-    let loaded : IsLoaded m.updates c.args.held.now c.set_literals.new.values c.load.new.values = subst (λ (l : List Update). IsLoaded l c.args.held.now c.set_literals.new.values c.load.new.values) c.as_slice-2.ensures c.load.ensures in
+    let set : AreLiteralsSet m.assigns c.in_ok-values.values c.set_literals.new.values
+    (length m.assigns) = subst (λ
+    (l : List Assign). AreLiteralsSet l c.in_ok-values.values c.set_literals.new.values
+    (length l)) c.as_slice.ensures c.set_literals.ensures in
+    let loaded : IsLoaded m.updates c.args.held.now c.set_literals.new.values c.load.new.values
+    = subst (λ (l : List Update). IsLoaded l c.args.held.now c.set_literals.new.values
+    c.load.new.values) c.as_slice-2.ensures c.load.ensures in
     first_are m c.args.held.now c.in_ok-values.values c.set_literals.new.values c.load.new.values c.requires.runnable zeros set loaded

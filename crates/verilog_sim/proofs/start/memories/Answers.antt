@@ -9,7 +9,13 @@ formed_at : (items mems : List Mem) (k : ℕ) (n : Mem) → ((j : ℕ) (x : Mem)
 formed_at items mems k n formed e lt is = formed k n (subst (λ (l : List Mem). slice_get l k ≡ Some n) e (slice_get_read items (length items) k n refl lt is))
 
 pub reduce-word-requires-clause-some : goal.reduce-word-requires-clause-some
-reduce-word-requires-clause-some c = (formed_at c.as_slice-memory-items.result.now c.args.module.now.mems c.loop-memory.memory-index c.memory-item.result c.requires c.as_slice-memory-items.ensures c.loop-memory-test.true c.memory-item.is).some
+reduce-word-requires-clause-some c =
+    (formed_at c.as_slice-memory-items.result.now c.args.module.now.mems
+    c.loop-memory.memory-index c.memory-item.result c.requires c.as_slice-memory-items.ensures
+    c.loop-memory-test.true c.memory-item.is).some
 
 pub reduce-word-requires-clause-at_most : goal.reduce-word-requires-clause-at_most
-reduce-word-requires-clause-at_most c = (formed_at c.as_slice-memory-items.result.now c.args.module.now.mems c.loop-memory.memory-index c.memory-item.result c.requires c.as_slice-memory-items.ensures c.loop-memory-test.true c.memory-item.is).at_most
+reduce-word-requires-clause-at_most c =
+    (formed_at c.as_slice-memory-items.result.now c.args.module.now.mems
+    c.loop-memory.memory-index c.memory-item.result c.requires c.as_slice-memory-items.ensures
+    c.loop-memory-test.true c.memory-item.is).at_most

@@ -9,7 +9,13 @@ formed_at : (items nets : List Net) (k : ℕ) (n : Net) → ((j : ℕ) (x : Net)
 formed_at items nets k n formed e lt is = formed k n (subst (λ (l : List Net). slice_get l k ≡ Some n) e (slice_get_read items (length items) k n refl lt is))
 
 pub reduce-word-requires-clause-some : goal.reduce-word-requires-clause-some
-reduce-word-requires-clause-some c = (formed_at c.as_slice-net-items.result.now c.args.module.now.nets c.loop-net.net-index c.net-item.result c.requires c.as_slice-net-items.ensures c.loop-net-test.true c.net-item.is).some
+reduce-word-requires-clause-some c =
+    (formed_at c.as_slice-net-items.result.now c.args.module.now.nets c.loop-net.net-index
+    c.net-item.result c.requires c.as_slice-net-items.ensures c.loop-net-test.true
+    c.net-item.is).some
 
 pub reduce-word-requires-clause-at_most : goal.reduce-word-requires-clause-at_most
-reduce-word-requires-clause-at_most c = (formed_at c.as_slice-net-items.result.now c.args.module.now.nets c.loop-net.net-index c.net-item.result c.requires c.as_slice-net-items.ensures c.loop-net-test.true c.net-item.is).at_most
+reduce-word-requires-clause-at_most c =
+    (formed_at c.as_slice-net-items.result.now c.args.module.now.nets c.loop-net.net-index
+    c.net-item.result c.requires c.as_slice-net-items.ensures c.loop-net-test.true
+    c.net-item.is).at_most

@@ -22,7 +22,9 @@ loop-rest-preserved-in-Some c = record {
 pub returns-in_default-next_token-clause-stuck : goal.returns-in_default-next_token-clause-stuck
 returns-in_default-next_token-clause-stuck c =
     let some : (length c.loop-rest.rest.now == 0) ≡ false = cc in
-    no_token c.loop-rest.invariant.read (λ e. let f : (length c.loop-rest.rest.now == 0) ≡ (0 == 0) = ap (λ l. length l == 0) e in absurd (cc)) c.in_default.ensures.none c.in_default-next_token.ensures.none
+    no_token c.loop-rest.invariant.read (λ e. let f : (length c.loop-rest.rest.now == 0) ≡
+    (0 == 0) = ap (λ l. length l == 0) e in absurd
+    (cc)) c.in_default.ensures.none c.in_default-next_token.ensures.none
 
 pub loop-rest-preserved : goal.loop-rest-preserved
 loop-rest-preserved c = record {

@@ -11,5 +11,12 @@ loop-place-preserved c =
     record {
       within = omega (arith, l.invariant.within);
       size = length-set l.line (l.place - 1) c.digit.result ∙ l.invariant.size;
-      digits = one_lower l.line c.args.count (l.place - 1) l.rest c.digit.result (lower_digits c.args.count c.args.value) (omega (arith, l.invariant.within)) (omega (arith, l.invariant.size)) c.digit.ensures (rw (← n) l.invariant.digits);
+      digits = one_lower l.line c.args.count (l.place - 1) l.rest c.digit.result
+          (lower_digits c.args.count c.args.value) (omega (
+            arith,
+            l.invariant.within,
+          )) (omega (
+            arith,
+            l.invariant.size,
+          )) c.digit.ensures (rw (← n) l.invariant.digits);
     }

@@ -9,7 +9,9 @@ returns-then-not-branch c =
     let l = c.loop-file-2 in
     let file = c.as_bytes-in-loop-file-2 in
     let left = files_left c.as_slice-file-items-2.result.now l.file-index c.loop-file-2-item.result (omega arith) c.loop-file-2-item.is in
-    let here = shared_here l.taken file.result l.invariant.0 (files (drop (l.file-index + 1) c.as_slice-file-items-2.result.now)) l.invariant.1 (sym c.in_ok-insert-2.ensures.added ∙ c.if-not-branch.true) in
+    let here = shared_here l.taken file.result l.invariant.0
+    (files (drop (l.file-index + 1) c.as_slice-file-items-2.result.now)) l.invariant.1
+    (sym c.in_ok-insert-2.ensures.added ∙ c.if-not-branch.true) in
     sym (sym l.invariant.2 ∙ ap (is_shared l.invariant.0) (left ∙ ap (λ f. f ∷ files (drop (l.file-index + 1) c.as_slice-file-items-2.result.now)) (sym file.ensures)) ∙ here)
 
 pub loop-file-preserved : goal.loop-file-preserved
@@ -27,7 +29,9 @@ loop-file-2-preserved c =
     let l = c.loop-file-2 in
     let file = c.as_bytes-in-loop-file-2 in
     let left = files_left c.as_slice-file-items-2.result.now l.file-index c.loop-file-2-item.result (omega arith) c.loop-file-2-item.is in
-    let here = apart_here l.taken file.result l.invariant.0 (files (drop (l.file-index + 1) c.as_slice-file-items-2.result.now)) l.invariant.1 (sym c.in_ok-insert-2.ensures.added ∙ c.if-not-branch.false) in (
+    let here = apart_here l.taken file.result l.invariant.0
+    (files (drop (l.file-index + 1) c.as_slice-file-items-2.result.now)) l.invariant.1
+    (sym c.in_ok-insert-2.ensures.added ∙ c.if-not-branch.false) in (
       file.result.now ∷ l.invariant.0,
       one_more l.taken c.insert-in-loop-file-2.new.self file.result _ c.in_ok-insert-2.ensures.updates l.invariant.1,
       sym here ∙ ap (is_shared l.invariant.0) (ap (λ f. f ∷ files (drop (l.file-index + 1) c.as_slice-file-items-2.result.now)) file.ensures ∙ sym left) ∙ l.invariant.2,

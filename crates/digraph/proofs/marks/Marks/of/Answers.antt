@@ -17,7 +17,9 @@ loop-i-preserved c =
     let numbers = c.args.numbers.now in let i = c.loop-i.i in
     record {
       size = c.mark.ensures.size ∙ c.loop-i.invariant.size;
-      first = first_more numbers c.loop-i.marks c.mark.new.self i (get_or numbers i 0) (slice_get-get_or numbers i 0 c.loop-i-test.true) c.mark.ensures.marked c.mark.ensures.others c.loop-i.invariant.first;
+      first = first_more numbers c.loop-i.marks c.mark.new.self i (get_or numbers i 0)
+          (slice_get-get_or numbers i 0 c.loop-i-test.true) c.mark.ensures.marked
+          c.mark.ensures.others c.loop-i.invariant.first;
     }
 
 pub returns : goal.returns

@@ -13,7 +13,21 @@ invariant_of-self-in-Ok c =
     let items = c.in-Ok.ensures.ok in
     subst (λ l. AreEnds 0 l (length c.extend_from_slice.new.self.items)) (sym items)
     (ends_more 0 c.self.inside.packed (length c.self.inside.children.items) (length c.extend_from_slice.new.self.items) q c.self.invariant
-    (omega (arith, c.saturating_add-end.ensures, c.len-start.ensures, c.len.ensures, c.if-end.false)) (omega (arith, size, own, c.saturating_add-end.ensures, c.len-start.ensures, c.len.ensures, c.if-end.false)))
+    (omega (
+      arith,
+      c.saturating_add-end.ensures,
+      c.len-start.ensures,
+      c.len.ensures,
+      c.if-end.false,
+    )) (omega (
+      arith,
+      size,
+      own,
+      c.saturating_add-end.ensures,
+      c.len-start.ensures,
+      c.len.ensures,
+      c.if-end.false,
+    )))
 
 pub returns-in-Ok-clause-number : goal.returns-in-Ok-clause-number
 returns-in-Ok-clause-number c = c.len-number.ensures ∙ sym (as_many 0 c.self.inside.packed c.self.inside.children.items) ∙ ap length c.self.view_is
@@ -25,5 +39,13 @@ returns-in-Ok-clause-nodes c =
     let own = ap length c.as_slice.ensures in
     let items = c.in-Ok.ensures.ok in
     ap (λ l. drafts 0 l c.extend_from_slice.new.self.items) items ∙ ap (λ l. drafts 0 (c.self.inside.packed ++ q ∷ []) l) kids
-    ∙ one_more 0 c.self.inside.packed c.self.inside.children.items c.args.node.children q c.self.invariant (omega (arith, own, c.saturating_add-end.ensures, c.len-start.ensures, c.len.ensures, c.if-end.false))
+    ∙ one_more 0 c.self.inside.packed c.self.inside.children.items c.args.node.children q
+    c.self.invariant (omega (
+      arith,
+      own,
+      c.saturating_add-end.ensures,
+      c.len-start.ensures,
+      c.len.ensures,
+      c.if-end.false,
+    ))
     ∙ ap (λ l. l ++ c.args.node ∷ []) c.self.view_is

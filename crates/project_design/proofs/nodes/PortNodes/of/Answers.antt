@@ -26,4 +26,6 @@ loop-number-preserved c =
     (c.in_ok-add.ensures.outputs ∙ ap (λ k. p.outputs.items ++ cond (is_output kind) (k ∷ []) []) c.new-node.ensures)
 
 pub returns : goal.returns
-returns c = all_ports c.args.kernel.now.nodes c.loop-number.number c.loop-number.ports (let le = c.loop-number-test.false in let end = c.count-number-end.ensures in omega arith) c.loop-number.invariant
+returns c = all_ports c.args.kernel.now.nodes c.loop-number.number c.loop-number.ports
+    (let le = c.loop-number-test.false in let end = c.count-number-end.ensures in omega arith)
+    c.loop-number.invariant

@@ -15,7 +15,9 @@ invariant_of-self-in_err-push-2 c =
 
 pub invariant_of-self-2 : goal.invariant_of-self-2
 invariant_of-self-2 c =
-    open_port c.self.inside.built c.push.new.self c.push-2.new.self (wire c.args.name c.args.width) c.in_ok-net.net c.args.output c.self.invariant (c.in_ok-net.ensures ∙ c.len.ensures) c.in_ok-push.ensures.ok c.in_ok-push-2.ensures.ok
+    open_port c.self.inside.built c.push.new.self c.push-2.new.self
+    (wire c.args.name c.args.width) c.in_ok-net.net c.args.output c.self.invariant
+    (c.in_ok-net.ensures ∙ c.len.ensures) c.in_ok-push.ensures.ok c.in_ok-push-2.ensures.ok
 
 pub returns : goal.returns
 returns c =

@@ -20,4 +20,6 @@ invariant_of-result c =
     let none : (j : ℕ) → flow_of flow j ≡ 0 = λ j. ap (λ l. get_or l j 0) zeros ∙ all_zero c.len.result j in
     let arcs : length flow ≡ length p.arcs.list = search rules in
     let nodes : length rest ≡ p.arcs.nodes = search rules in
-    subst Q (sym c.in_ok-copy.ensures) (subst P (sym new) (kept_at_first p flow rest c.requires.problem.arcs.ends c.requires.problem.ends arcs nodes none c.surpluses.ensures.rest c.surpluses.ensures.light))
+    subst Q (sym c.in_ok-copy.ensures) (subst P (sym new)
+    (kept_at_first p flow rest c.requires.problem.arcs.ends c.requires.problem.ends arcs
+    nodes none c.surpluses.ensures.rest c.surpluses.ensures.light))

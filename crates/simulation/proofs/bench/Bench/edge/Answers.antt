@@ -33,9 +33,18 @@ pub edge-requires-clause-words : goal.edge-requires-clause-words
 edge-requires-clause-words g c =
     let b = c.args.self.now in
     let named = map input_of b.inputs.items in
-    let words : AreOfWidths named c.offer_all.new.offers = subst (λ (l : List Input). AreOfWidths (map input_of l) c.offer_all.new.offers) c.deref_mut-2.ensures.value c.in_ok-offer_all.ensures.words in
-    let offers : c.deref-3.result.now ≡ c.offer_all.new.offers = c.deref-3.ensures.value ∙ back b.offers c.offer_all.new.offers c.deref_mut-3.result.now c.offer_all.auto.offers c.deref_mut-3.ensures.value in
-    λ m top. subst (λ (l : List Offer). AreOffered m b.sim.outer l) (sym offers) (offers_fit b.sim named c.offer_all.new.offers (length-map b.inputs.items input_of ∙ c.requires.bench.inputs) c.requires.bench.input_widths words m top)
+    let words : AreOfWidths named c.offer_all.new.offers = subst
+    (λ (l : List Input). AreOfWidths
+    (map input_of l) c.offer_all.new.offers) c.deref_mut-2.ensures.value
+    c.in_ok-offer_all.ensures.words in
+    let offers : c.deref-3.result.now
+    ≡ c.offer_all.new.offers = c.deref-3.ensures.value ∙ back b.offers
+    c.offer_all.new.offers c.deref_mut-3.result.now c.offer_all.auto.offers
+    c.deref_mut-3.ensures.value in
+    λ m top. subst (λ (l : List Offer). AreOffered m b.sim.outer l) (sym offers)
+    (offers_fit b.sim named c.offer_all.new.offers
+    (length-map b.inputs.items input_of ∙ c.requires.bench.inputs)
+    c.requires.bench.input_widths words m top)
 
 pub put_all-requires-clause-words : goal.put_all-requires-clause-words
 put_all-requires-clause-words g c =
@@ -44,21 +53,37 @@ put_all-requires-clause-words g c =
     let events : c.deref-7.result.now ≡ c.edge.new.events = c.deref-7.ensures.value ∙ back b.events c.edge.new.events c.deref_mut-5.result.now c.edge.auto.events c.deref_mut-5.ensures.value in
     let rest : take (length c.deref-7.result.now - c.len-inputs.result) (drop c.len-inputs.result c.deref-7.result.now) ≡ drop (length b.sim.outer.inputs) c.edge.new.events =
     take_rest c.deref-7.result.now c.len-inputs.result ∙ ap (drop c.len-inputs.result) events ∙ ap (λ n. drop n c.edge.new.events) (c.len-inputs.ensures ∙ b.inputs.ok.0 ∙ c.requires.bench.inputs) in
-    subst (λ (l : List Output). AreOfWidth (map output_of l) (take (length c.deref-7.result.now - c.len-inputs.result) (drop c.len-inputs.result c.deref-7.result.now))) (sym c.deref_mut-7.ensures.value)
+    subst (λ (l : List Output). AreOfWidth (map output_of l)
+    (take (length c.deref-7.result.now - c.len-inputs.result)
+    (drop c.len-inputs.result c.deref-7.result.now))) (sym c.deref_mut-7.ensures.value)
     (subst (λ (l : List Seen). AreOfWidth named l) (sym rest)
-    (seen_fit b.sim c.edge.new.self named c.requires.bench.top c.deref-3.result.now c.deref-4.result.now _ c.edge.new.events (length-map b.outputs.items output_of ∙ c.requires.bench.outputs) c.requires.bench.output_widths c.requires.bench.is_top (c.edge.ensures.edge c.requires.bench.top c.requires.bench.is_top)))
+    (seen_fit b.sim c.edge.new.self named c.requires.bench.top c.deref-3.result.now
+    c.deref-4.result.now _ c.edge.new.events
+    (length-map b.outputs.items output_of ∙ c.requires.bench.outputs)
+    c.requires.bench.output_widths c.requires.bench.is_top
+    (c.edge.ensures.edge c.requires.bench.top c.requires.bench.is_top)))
 
 pub returns-clause-bench : goal.returns-clause-bench
 returns-clause-bench g c =
     let b = c.args.self.now in
-    let looked : c.deref_mut-6.result.now ≡ c.offer_all.new.inputs = c.deref_mut-6.ensures.value ∙ back b.inputs c.offer_all.new.inputs c.deref_mut-2.result.now c.offer_all.auto.inputs c.deref_mut-2.ensures.value in
-    let inputs : map input_of c.take_all.new.inputs ≡ map input_of b.inputs.items = c.take_all.ensures.named ∙ ap (map input_of) looked ∙ c.in_ok-offer_all.ensures.named ∙ ap (map input_of) c.deref_mut-2.ensures.value in
+    let looked : c.deref_mut-6.result.now
+    ≡ c.offer_all.new.inputs = c.deref_mut-6.ensures.value ∙ back b.inputs
+    c.offer_all.new.inputs c.deref_mut-2.result.now c.offer_all.auto.inputs
+    c.deref_mut-2.ensures.value in
+    let inputs : map input_of c.take_all.new.inputs
+    ≡ map input_of b.inputs.items = c.take_all.ensures.named ∙ ap
+    (map input_of) looked ∙ c.in_ok-offer_all.ensures.named ∙ ap
+    (map input_of) c.deref_mut-2.ensures.value in
     let outputs : map output_of c.put_all.new.outputs ≡ map output_of b.outputs.items = c.put_all.ensures.named ∙ ap (map output_of) c.deref_mut-7.ensures.value in
     on_ok_from c.put_all.result
     (bench_after b _ c.requires.bench c.edge.ensures.kept
     (ap (map input_of) (back (with_items b.inputs c.offer_all.new.inputs) c.take_all.new.inputs c.deref_mut-6.result.now c.take_all.auto.inputs c.deref_mut-6.ensures.value) ∙ inputs)
     (ap (map output_of) (back b.outputs c.put_all.new.outputs c.deref_mut-7.result.now c.put_all.auto.outputs c.deref_mut-7.ensures.value) ∙ outputs)
-    (subst AreUnrefused (sym (back (with_items b.inputs c.offer_all.new.inputs) c.take_all.new.inputs c.deref_mut-6.result.now c.take_all.auto.inputs c.deref_mut-6.ensures.value)) (c.take_all.ensures.unrefused (subst AreUnrefused (sym looked) c.in_ok-offer_all.ensures.unrefused)))
+    (subst AreUnrefused (sym (back
+    (with_items b.inputs c.offer_all.new.inputs) c.take_all.new.inputs
+    c.deref_mut-6.result.now c.take_all.auto.inputs c.deref_mut-6.ensures.value))
+    (c.take_all.ensures.unrefused (subst AreUnrefused
+    (sym looked) c.in_ok-offer_all.ensures.unrefused)))
     (lent_length b.stalled c.ask.new.stalled c.deref_mut.result.now c.ask.auto.stalled c.deref_mut.ensures.value)
     (lent_length b.offers c.offer_all.new.offers c.deref_mut-3.result.now c.offer_all.auto.offers c.deref_mut-3.ensures.value)
     (lent_length b.accepts c.accept_all.new.accepts c.deref_mut-4.result.now c.accept_all.auto.accepts c.deref_mut-4.ensures.value)
@@ -68,10 +93,15 @@ pub returns-clause-begun : goal.returns-clause-begun
 returns-clause-begun g c =
     let b = c.args.self.now in
     let later = g.F.Files.held c.put_all.new.files in
-    let outputs : (with_items b.outputs c.put_all.new.outputs).items ≡ c.put_all.new.outputs = back b.outputs c.put_all.new.outputs c.deref_mut-7.result.now c.put_all.auto.outputs c.deref_mut-7.ensures.value in
+    let outputs : (with_items b.outputs c.put_all.new.outputs).items
+    ≡ c.put_all.new.outputs = back b.outputs c.put_all.new.outputs c.deref_mut-7.result.now
+    c.put_all.auto.outputs c.deref_mut-7.ensures.value in
     on_ok_under c.put_all.result _ (λ told.
     let words = c.requires.begun told in
-    let put = subst (λ (l : List Output). ArePut (g.F.Files.held c.offer_all.new.files) words.0 l) (sym c.deref_mut-7.ensures.value) (subst (λ (h : Held). ArePut h words.0 b.outputs.items) (sym c.in_ok-offer_all.ensures.same) words.1) in
+    let put = subst (λ (l : List Output). ArePut
+    (g.F.Files.held c.offer_all.new.files) words.0 l) (sym c.deref_mut-7.ensures.value)
+    (subst (λ (h : Held). ArePut h words.0 b.outputs.items)
+    (sym c.in_ok-offer_all.ensures.same) words.1) in
     on_ok_weaker c.put_all.result (λ p. (_, subst (ArePut later _) (sym outputs) p)) (c.put_all.ensures.put words.0 put))
 
 pub returns-clause-goes : goal.returns-clause-goes
@@ -94,14 +124,20 @@ returns-clause-goes g c = λ s edges is done going.
     let asked : (with_items b.stalled c.ask.new.stalled).items ≡ c.ask.new.stalled = back b.stalled c.ask.new.stalled c.deref_mut.result.now c.ask.auto.stalled c.deref_mut.ensures.value in
     let stalled : c.deref.result.now ≡ c.ask.new.stalled = c.deref.ensures.value ∙ asked in
     let offered : offers ≡ c.offer_all.new.offers = c.deref-3.ensures.value ∙ back b.offers c.offer_all.new.offers c.deref_mut-3.result.now c.offer_all.auto.offers c.deref_mut-3.ensures.value in
-    let accepted : accepts ≡ c.accept_all.new.accepts = c.deref-4.ensures.value ∙ back b.accepts c.accept_all.new.accepts c.deref_mut-4.result.now c.accept_all.auto.accepts c.deref_mut-4.ensures.value in
+    let accepted : accepts
+    ≡ c.accept_all.new.accepts = c.deref-4.ensures.value ∙ back b.accepts
+    c.accept_all.new.accepts c.deref_mut-4.result.now c.accept_all.auto.accepts
+    c.deref_mut-4.ensures.value in
     let seen : c.deref-6.result.now ≡ events = c.deref-6.ensures.value ∙ back b.events events c.deref_mut-5.result.now c.edge.auto.events c.deref_mut-5.ensures.value in
     let seen_again : c.deref-7.result.now ≡ events = c.deref-7.ensures.value ∙ back b.events events c.deref_mut-5.result.now c.edge.auto.events c.deref_mut-5.ensures.value in
     let ins : c.len-inputs.result ≡ length b.sim.outer.inputs = c.len-inputs.ensures ∙ b.inputs.ok.0 ∙ c.requires.bench.inputs in
     let outs : c.len-outputs.result ≡ length b.sim.outer.outputs = c.len-outputs.ensures ∙ b.outputs.ok.0 ∙ c.requires.bench.outputs in
     let js_length : length js ≡ length b.sim.outer.inputs = c.offer_all.auto.inputs ∙ ap length c.deref_mut-2.ensures.value ∙ c.requires.bench.inputs in
     let ks_length : length ks ≡ length js = c.take_all.auto.inputs ∙ ap length looked in
-    let stalled_length : length c.deref.result.now ≡ length b.sim.outer.inputs + length b.sim.outer.outputs + length b.sim.outer.holds = ap length stalled ∙ c.ask.auto.stalled ∙ ap length c.deref_mut.ensures.value ∙ c.requires.bench.stalled in
+    let stalled_length : length c.deref.result.now
+    ≡ length b.sim.outer.inputs + length b.sim.outer.outputs + length b.sim.outer.holds = ap
+    length stalled ∙ c.ask.auto.stalled ∙ ap length c.deref_mut.ensures.value ∙
+    c.requires.bench.stalled in
     let rest : take (length c.deref-7.result.now - c.len-inputs.result) (drop c.len-inputs.result c.deref-7.result.now) ≡ drop (length b.sim.outer.inputs) events =
     take_rest c.deref-7.result.now c.len-inputs.result ∙ ap (drop c.len-inputs.result) seen_again ∙ ap (λ n. drop n events) ins in
     let accept : (k : ℕ) → k < length accepts → get_or accepts k false ≡ not (get_or c.deref.result.now (length b.sim.outer.inputs + k) false) = λ k less. (
@@ -122,15 +158,25 @@ returns-clause-goes g c = λ s edges is done going.
     let run = going told in
     let left = left_after s.outer.inputs (map words_of s.inputs) (own_of run.vs) in
     let words = all_moved s.outer.outputs (own_of (run.restart ∷ run.vs)) in
-    let at_first : AreAt middle s.inputs left c.deref_mut-2.result.now = subst (λ (h : Held). AreAt h s.inputs left c.deref_mut-2.result.now) (sym same) (subst (AreAt held s.inputs left) (sym c.deref_mut-2.ensures.value) run.at) in
+    let at_first : AreAt middle s.inputs left c.deref_mut-2.result.now = subst
+    (λ (h : Held). AreAt h s.inputs left c.deref_mut-2.result.now) (sym same)
+    (subst (AreAt held s.inputs left) (sym c.deref_mut-2.ensures.value) run.at) in
     let at : AreAt held s.inputs left js = c.in_ok-offer_all.ensures.stand s.inputs left (subst (AreAt held s.inputs left) (sym c.deref_mut-2.ensures.value) run.at) in
     let ready : AreReady held c.deref.result.now s.inputs left js offers (length js) =
     subst (λ n. AreReady held c.deref.result.now s.inputs left js offers n) (sym c.offer_all.auto.inputs)
     (subst (λ (l : List Offer). AreReady held c.deref.result.now s.inputs left js l (length c.deref_mut-2.result.now)) (sym offered)
     (c.in_ok-offer_all.ensures.ready s.inputs left (subst (AreAt held s.inputs left) (sym c.deref_mut-2.ensures.value) run.at))) in
-    let taken : AreTaken events js ks (length js) = subst (λ (l : List Input). AreTaken events l ks (length l)) looked (subst (λ (l : List Seen). AreTaken l c.deref_mut-6.result.now ks (length c.deref_mut-6.result.now)) seen c.take_all.ensures.taken) in
-    let put_first : ArePut middle words c.deref_mut-7.result.now = subst (λ (h : Held). ArePut h words c.deref_mut-7.result.now) (sym same) (subst (ArePut held words) (sym c.deref_mut-7.ensures.value) run.put) in
-    let only : ChangesOnlyOutputs (map output_of b.outputs.items) held later = subst (λ (h : Held). ChangesOnlyOutputs (map output_of b.outputs.items) h later) same (subst (λ (l : List Output). ChangesOnlyOutputs (map output_of l) middle later) c.deref_mut-7.ensures.value c.put_all.ensures.others) in
+    let taken : AreTaken events js ks (length js) = subst
+    (λ (l : List Input). AreTaken events l ks (length l)) looked
+    (subst (λ (l : List Seen). AreTaken l c.deref_mut-6.result.now ks
+    (length c.deref_mut-6.result.now)) seen c.take_all.ensures.taken) in
+    let put_first : ArePut middle words c.deref_mut-7.result.now = subst
+    (λ (h : Held). ArePut h words c.deref_mut-7.result.now) (sym same)
+    (subst (ArePut held words) (sym c.deref_mut-7.ensures.value) run.put) in
+    let only : ChangesOnlyOutputs (map output_of b.outputs.items) held later = subst
+    (λ (h : Held). ChangesOnlyOutputs (map output_of b.outputs.items) h later) same
+    (subst (λ (l : List Output). ChangesOnlyOutputs
+    (map output_of l) middle later) c.deref_mut-7.ensures.value c.put_all.ensures.others) in
     let named : map input_of ks ≡ map input_of b.inputs.items = c.take_all.ensures.named ∙ ap (map input_of) looked ∙ c.in_ok-offer_all.ensures.named ∙ ap (map input_of) c.deref_mut-2.ensures.value in
     let other : AreOther (map input_of ks) (map output_of b.outputs.items) = subst (λ (l : List (Name × ℕ)). AreOther l (map output_of b.outputs.items)) (sym named) c.requires.bench.others in
     on_ok_weaker c.put_all.result
@@ -141,7 +187,10 @@ returns-clause-goes g c = λ s edges is done going.
     told run done js_length ks_length (c.put_all.auto.outputs ∙ ap length c.deref_mut-7.ensures.value ∙ c.requires.bench.outputs)
     (ap length offered ∙ c.offer_all.auto.offers ∙ ap length c.deref_mut-3.ensures.value ∙ c.requires.bench.offers)
     stalled_length
-    (λ port less. subst (λ (l : List Bool). stalls s.pick c.args.edge port (get_or l port false)) (sym stalled) (subst (λ n. stalls n c.args.edge port (get_or c.ask.new.stalled port false)) (sym is.picked) (c.ask.ensures port (let z = ap length stalled in omega (arith, z, c.ask.auto.stalled)))))
+    (λ port less. subst (λ (l : List Bool). stalls s.pick c.args.edge port
+    (get_or l port false)) (sym stalled) (subst (λ n. stalls n c.args.edge port
+    (get_or c.ask.new.stalled port false)) (sym is.picked)
+    (c.ask.ensures port (let z = ap length stalled in omega (arith, z, c.ask.auto.stalled)))))
     at ready accept hold
     (c.edge.ensures.edge s.top (ap top_of run.is.design ∙ is.top))
     c.edge.ensures.kept taken only other
@@ -162,7 +211,10 @@ returns-in_err-offer_all-clause-tells g c = λ s edges is done lt going.
     subst (λ (h : Held). Tells stalls s (map output_of b.outputs.items) h (Err c.in_err-offer_all.field-0.0)) (sym c.in_err-offer_all.ensures.same)
     (tells_stop stalls s held b.sim b.inputs.items b.outputs.items c.args.edge run _ c.deref.result.now c.in_err-offer_all.field-0.0 told (subst (λ n. c.args.edge < n) (sym is.counted) lt) done
     (ap length stalled ∙ c.ask.auto.stalled ∙ ap length c.deref_mut.ensures.value ∙ c.requires.bench.stalled ∙ ap (λ (o : Outer). length o.inputs + length o.outputs + length o.holds) run.is.outer)
-    (λ port less. subst (λ (l : List Bool). stalls s.pick c.args.edge port (get_or l port false)) (sym stalled) (subst (λ n. stalls n c.args.edge port (get_or c.ask.new.stalled port false)) (sym is.picked) (c.ask.ensures port (let z = ap length stalled in omega (arith, z, c.ask.auto.stalled)))))
+    (λ port less. subst (λ (l : List Bool). stalls s.pick c.args.edge port
+    (get_or l port false)) (sym stalled) (subst (λ n. stalls n c.args.edge port
+    (get_or c.ask.new.stalled port false)) (sym is.picked)
+    (c.ask.ensures port (let z = ap length stalled in omega (arith, z, c.ask.auto.stalled)))))
     stop))
 
 pub returns-in_err-offer_all-clause-missing : goal.returns-in_err-offer_all-clause-missing
@@ -177,11 +229,19 @@ returns-in_err-offer_all-clause-missing g c = λ s edges is done lt going fault.
     let by_stop = λ (told : IsSome held).
     let run = going told in
     let left = left_after s.outer.inputs (map words_of s.inputs) (own_of run.vs) in
-    let stop : IsFirstStop held counted c.deref.result.now s.inputs left stops.ReadFault = subst (IsFirstStop held counted c.deref.result.now s.inputs left) error (c.in_err-offer_all.ensures.stopped s.inputs left (subst (AreAt held s.inputs left) (sym c.deref_mut-2.ensures.value) run.at)) in
+    let stop : IsFirstStop held counted c.deref.result.now s.inputs left stops.ReadFault = subst
+    (IsFirstStop held counted c.deref.result.now s.inputs left) error
+    (c.in_err-offer_all.ensures.stopped s.inputs left
+    (subst (AreAt held s.inputs left) (sym c.deref_mut-2.ensures.value) run.at)) in
     ⊎_elim (λ rose. inl rose)
-    (λ (m : IsSome held × IsFaulty stop.file stop.left lines.Missing). inr (missing_stop stalls s held b.sim b.inputs.items b.outputs.items c.args.edge run counted c.deref.result.now told (subst (λ n. c.args.edge < n) (sym is.counted) lt) (done told)
+    (λ (m : IsSome held × IsFaulty stop.file stop.left lines.Missing). inr
+    (missing_stop stalls s held b.sim b.inputs.items b.outputs.items c.args.edge run counted
+    c.deref.result.now told (subst (λ n. c.args.edge < n) (sym is.counted) lt) (done told)
     (ap length stalled ∙ c.ask.auto.stalled ∙ ap length c.deref_mut.ensures.value ∙ c.requires.bench.stalled ∙ ap (λ (o : Outer). length o.inputs + length o.outputs + length o.holds) run.is.outer)
-    (λ port less. subst (λ (l : List Bool). stalls s.pick c.args.edge port (get_or l port false)) (sym stalled) (subst (λ n. stalls n c.args.edge port (get_or c.ask.new.stalled port false)) (sym is.picked) (c.ask.ensures port (let z = ap length stalled in omega (arith, z, c.ask.auto.stalled)))))
+    (λ port less. subst (λ (l : List Bool). stalls s.pick c.args.edge port
+    (get_or l port false)) (sym stalled) (subst (λ n. stalls n c.args.edge port
+    (get_or c.ask.new.stalled port false)) (sym is.picked)
+    (c.ask.ensures port (let z = ap length stalled in omega (arith, z, c.ask.auto.stalled)))))
     stop m.1))
     stop.stops in
     ⊎_elim (λ rose. inl rose) by_stop (c.in_err-offer_all.ensures.fault (ap Err error))

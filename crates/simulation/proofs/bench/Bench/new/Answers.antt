@@ -35,7 +35,10 @@ set_all-requires-clause-small g c =
     let d = c.args.design.now in
     let q = c.requires.shape in
     let sim = c.in_ok-sim.sim in
-    let size : length sim.steady ≡ length (outer_of q.1 q.0).steady = ap length c.in_ok-sim.ensures.steady ∙ length-map sim.outer.steady (λ n. 0) ∙ ap (λ (o : Outer). length o.steady) (c.in_ok-sim.ensures.outer q.0 q.1 q.2 q.3) in
+    let size : length sim.steady ≡ length
+    (outer_of q.1 q.0).steady = ap length c.in_ok-sim.ensures.steady ∙ length-map
+    sim.outer.steady (λ n. 0) ∙ ap (λ (o : Outer). length o.steady)
+    (c.in_ok-sim.ensures.outer q.0 q.1 q.2 q.3) in
     omega (arith, size, few d q.0 q.1 c.args.plan q.3 q.4 c.requires.accepted q.2 c.in_ok-sim.ensures.small)
 
 pub set_all-requires-clause-widths : goal.set_all-requires-clause-widths
@@ -78,8 +81,13 @@ pub returns-clause-begins : goal.returns-clause-begins
 returns-clause-begins g c = λ m s top has told.
     let d = c.args.design.now in
     let made = c.set_all.ensures in
-    let steady : c.set_all.new.sim.steady ≡ c.args.plan.ticks ++ c.args.plan.scalars = ap (λ (x : State). x.steady) made ∙ ap (λ (l : List ℕ). l ++ c.as_slice-2.result.now) c.as_slice.ensures ∙ ap (λ (l : List ℕ). c.args.plan.ticks ++ l) c.as_slice-2.ensures in
-    begins_made d m s c.args.plan (g.F.Files.held c.args.files.now) (g.F.Files.held c.create_all.new.files) c.set_all.new.sim c.in_ok-readers.readers.items c.in_ok-writers.writers.items c.requires.apart
+    let steady : c.set_all.new.sim.steady ≡ c.args.plan.ticks
+    ++ c.args.plan.scalars = ap (λ (x : State). x.steady) made ∙ ap (λ (l : List ℕ). l
+    ++ c.as_slice-2.result.now) c.as_slice.ensures ∙ ap (λ (l : List ℕ). c.args.plan.ticks
+    ++ l) c.as_slice-2.ensures in
+    begins_made d m s c.args.plan (g.F.Files.held c.args.files.now)
+    (g.F.Files.held c.create_all.new.files) c.set_all.new.sim c.in_ok-readers.readers.items
+    c.in_ok-writers.writers.items c.requires.apart
     (ap (λ (x : State). x.design) made ∙ c.in_ok-sim.ensures.design)
     (ap (λ (x : State). x.outer) made ∙ c.in_ok-sim.ensures.outer m s top has)
     steady (ap contents made ∙ c.in_ok-sim.ensures.start m top)

@@ -60,7 +60,10 @@ loop-edge-preserved g c =
       write_quiet = e.write_quiet (λ q. cc) ∙ l.invariant.write_quiet;
       going = λ s is begins told. (
           let run = l.invariant.going s is begins told in
-          let not_done : IsDone s.top c.done.new.self false = subst (λ (x : State). IsDone s.top x false) (sym same) (subst (IsDone s.top b.sim) c.if-done.false (c.done.ensures.done s.top (ap top_of run.is.design ∙ is.top))) in
+          let not_done : IsDone s.top c.done.new.self false = subst
+          (λ (x : State). IsDone s.top x false) (sym same)
+          (subst (IsDone s.top b.sim) c.if-done.false
+          (c.done.ensures.done s.top (ap top_of run.is.design ∙ is.top))) in
           e.goes s c.args.edges is not_done (λ _. subst (λ (x : State). Going stalls s now x b.inputs.items b.outputs.items l.edge) (sym same) run) (l.invariant.others.told ∙ told));
     }
 
@@ -74,7 +77,10 @@ returns-in_err-edge-clause-tells g c = λ s is begins told.
     let e = c.in_err-edge.ensures in
     let same : c.done.new.self ≡ b.sim = c.done.ensures.kept in
     let run = l.invariant.going s is begins told in
-    let not_done : IsDone s.top c.done.new.self false = subst (λ (x : State). IsDone s.top x false) (sym same) (subst (IsDone s.top b.sim) c.if-done.false (c.done.ensures.done s.top (ap top_of run.is.design ∙ is.top))) in
+    let not_done : IsDone s.top c.done.new.self false = subst
+    (λ (x : State). IsDone s.top x false) (sym same)
+    (subst (IsDone s.top b.sim) c.if-done.false (c.done.ensures.done s.top
+    (ap top_of run.is.design ∙ is.top))) in
     let p = err_from_is_err_and c.from_residual.result c.from_residual.ensures.1 in
     rw (p.1, p.2)
     (subst (λ (x : List (Name × ℕ)). Tells stalls s x later (Err c.in_err-edge.field-0.0)) l.invariant.named
@@ -133,7 +139,9 @@ returns-clause-tells g c = λ s is begins told.
     (on_ok_weaker c.end-2.result
     (λ (whole : AreWhole later words (map output_of b.outputs.items)).
     subst (λ n. Finishes stalls s named later (cond answer (Done n) (Limit n))) last
-    (finishes stalls s now later b.sim b.inputs.items b.outputs.items l.edge named run answer (omega (arith, is.counted)) (λ _. last ∙ sym is.counted) done (subst (AreWhole later words) l.invariant.named whole)))
+    (finishes stalls s now later b.sim b.inputs.items b.outputs.items l.edge named run answer
+    (omega (arith, is.counted)) (λ _. last ∙ sym is.counted) done
+    (subst (AreWhole later words) l.invariant.named whole)))
     (c.end-2.ensures.whole words run.put))
 
 pub returns-in_err-edge-clause-stopped : goal.returns-in_err-edge-clause-stopped
@@ -146,10 +154,14 @@ pub returns-then-done-clause-stopped : goal.returns-then-done-clause-stopped
 returns-then-done-clause-stopped g c =
     let l = c.loop-edge in
     on_err_under c.end.result _ (λ told.
-    on_err_weaker c.end.result (λ f. subst (λ (x : List (Name × ℕ)). (n : ℕ) × HoldLinesBut n x (g.F.Files.held c.end.new.files)) l.invariant.named (f (l.invariant.others.told ∙ told))) c.end.ensures.stopped)
+    on_err_weaker c.end.result (λ f. subst (λ (x : List (Name × ℕ)). (n : ℕ)
+    × HoldLinesBut n x (g.F.Files.held c.end.new.files)) l.invariant.named
+    (f (l.invariant.others.told ∙ told))) c.end.ensures.stopped)
 
 pub returns-clause-stopped : goal.returns-clause-stopped
 returns-clause-stopped g c =
     let l = c.loop-edge in
     on_err_under c.end-2.result _ (λ told.
-    on_err_weaker c.end-2.result (λ f. subst (λ (x : List (Name × ℕ)). (n : ℕ) × HoldLinesBut n x (g.F.Files.held c.end-2.new.files)) l.invariant.named (f (l.invariant.others.told ∙ told))) c.end-2.ensures.stopped)
+    on_err_weaker c.end-2.result (λ f. subst (λ (x : List (Name × ℕ)). (n : ℕ)
+    × HoldLinesBut n x (g.F.Files.held c.end-2.new.files)) l.invariant.named
+    (f (l.invariant.others.told ∙ told))) c.end-2.ensures.stopped)

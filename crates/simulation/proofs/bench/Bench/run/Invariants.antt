@@ -17,5 +17,10 @@ invariant-loop-edge g l = record {
   write_quiet : g.F.Files.write_faults l.files ≡ g.F.Files.write_faults l.fn.files;
   going : (s : Setup) → IsSetup s l.pick l.fn.edges
       → (IsSome (g.F.Files.held l.fn.files) → Begins s (g.F.Files.held l.fn.files) l.fn.self.sim l.fn.self.inputs.items l.fn.self.outputs.items)
-      → IsSome (g.F.Files.held l.fn.files) → Going (λ pick edge port answer. g.G.Fn.post l.stalls.test (pick, (edge, (port, tt))) answer) s (g.F.Files.held l.files) l.self.sim l.self.inputs.items l.self.outputs.items l.edge;
+      → IsSome (g.F.Files.held l.fn.files)
+      → Going (λ pick edge port answer. g.G.Fn.post l.stalls.test (
+        pick,
+        (edge, (port, tt)),
+      ) answer) s
+      (g.F.Files.held l.files) l.self.sim l.self.inputs.items l.self.outputs.items l.edge;
 }

@@ -12,4 +12,6 @@ pub returns-clause-ok : goal.returns-clause-ok
 returns-clause-ok c =
     let left = c.loop-port.port-iterator in
     let none : zip (iter_rest (zip_first left)) (iter_rest (zip_second left)) ≡ [] = zip_none _ _ (either_empty_from_Zip left c.next.new.self c.next.result c.in-None.is c.next.ensures.steps) in
-    sym (c.loop-port.invariant.0 ∙ ap (λ l. c.loop-port.self.text ++ pieces_left (connection_text c.args.outer.now c.args.inner.now.nets) c.loop-port.separator.now l) none ∙ append-nil c.loop-port.self.text)
+    sym (c.loop-port.invariant.0 ∙ ap (λ l. c.loop-port.self.text
+    ++ pieces_left (connection_text c.args.outer.now c.args.inner.now.nets)
+    c.loop-port.separator.now l) none ∙ append-nil c.loop-port.self.text)

@@ -10,4 +10,6 @@ use Rattle.verilog_print.proofs.printer.Printer.connections.Given as goal
 abbrev pub invariant-loop-port : goal.invariant-loop-port
 invariant-loop-port l =
     (l.initial.self.text ++ connections_text l.outer l.inner.nets (zip l.inner.ports l.joined)
-    ≡ l.self.text ++ pieces_left (connection_text l.outer l.inner.nets) l.separator (zip (iter_rest (zip_first l.port-iterator)) (iter_rest (zip_second l.port-iterator)))) × (l.self.before ≡ l.initial.self.before)
+    ≡ l.self.text ++ pieces_left (connection_text l.outer l.inner.nets) l.separator
+    (zip (iter_rest (zip_first l.port-iterator)) (iter_rest (zip_second l.port-iterator))))
+    × (l.self.before ≡ l.initial.self.before)

@@ -12,8 +12,13 @@ returns c = λ named modules before b.
     let scope = port_scope modules (before ++ port_tree c.args.name.now c.args.width c.args.output ∷ []) in
     let t = c.in_ok-net.ensures.tables b.tables in
     let ports : c.push.new.self ≡ m.ports ++ record { net = length m.nets; output = c.args.output } ∷ [] =
-    c.in_ok-push.ensures.ok ∙ ap (λ (x : Module). x.ports ++ record { net = c.in_ok-net.net; output = c.args.output } ∷ []) e ∙ ap (λ k. m.ports ++ record { net = k; output = c.args.output } ∷ []) c.in_ok-net.ensures.number in
+    c.in_ok-push.ensures.ok ∙ ap (λ (x : Module). x.ports
+    ++ record { net = c.in_ok-net.net; output = c.args.output } ∷ []) e ∙ ap (λ k. m.ports
+    ++ record { net = k; output = c.args.output } ∷ []) c.in_ok-net.ensures.number in
     record {
-      said = subst (λ (x : Module). IsSaid named scope (record x { ports = c.push.new.self })) (sym e) (subst (λ ps. IsSaid named scope (record m { ports = ps; nets = m.nets ++ record { name = c.args.name.now; width = c.args.width; reg = false } ∷ [] })) (sym ports) (port_said named modules before c.args.name.now c.args.width c.args.output m b.said));
+      said = subst (λ (x : Module). IsSaid named scope (record x { ports = c.push.new.self })) (sym e) (subst (λ ps. IsSaid named scope (record m {
+        ports = ps;
+        nets = m.nets ++ record { name = c.args.name.now; width = c.args.width; reg = false } ∷ [];
+      })) (sym ports) (port_said named modules before c.args.name.now c.args.width c.args.output m b.said));
       tables = record { nets = t.nets; registers = t.registers; memories = t.memories };
     }

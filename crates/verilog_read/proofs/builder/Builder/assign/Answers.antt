@@ -12,7 +12,10 @@ pub returns-in_err-expr : goal.returns-in_err-expr
 returns-in_err-expr c = λ named sc b.
     let m = c.args.self.now.module in
     rw (err_is (err_from_is_err_and c.from_residual-in_err-expr.result c.from_residual-in_err-expr.ensures.1))
-    (fault_later (net sc c.args.name.now ∷ []) (expr_uses sc (expr_view c.args.tree)) _ (c.in_ok-target.ensures sc m b.said.declared b.tables).known (c.in_err-expr.ensures sc m b.said.declared b.tables))
+    (fault_later (net sc c.args.name.now
+    ∷ []) (expr_uses sc (expr_view c.args.tree)) _
+    (c.in_ok-target.ensures sc m b.said.declared b.tables).known
+    (c.in_err-expr.ensures sc m b.said.declared b.tables))
 
 pub returns : goal.returns
 returns c = λ named sc b.

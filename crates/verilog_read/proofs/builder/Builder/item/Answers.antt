@@ -36,7 +36,9 @@ returns-in_ok-add_memory-in-Memory c = λ named sc e b.
     given_item named sc _ c.in-Memory.is (record {
       known = refl;
       holds = record {
-        said = subst (IsSaid named (with_item sc (MemoryItem w name c.in-Memory.depth))) (sym c.in_ok-add_memory-in-Memory.ensures.module) (memory_said named sc c.args.self.now.module b.said name w c.in-Memory.depth);
+        said = subst (IsSaid named (with_item sc (MemoryItem w name c.in-Memory.depth)))
+            (sym c.in_ok-add_memory-in-Memory.ensures.module)
+            (memory_said named sc c.args.self.now.module b.said name w c.in-Memory.depth);
         tables = c.in_ok-add_memory-in-Memory.ensures.tables b.tables;
       };
     })
@@ -47,10 +49,17 @@ returns-in_ok-push-in-Instance c = λ named sc e b.
     let of = c.in-Instance.of.now in let name = c.in-Instance.name.now in
     let found = c.in_ok-instance-in-Instance.ensures sc m e b.said.declared b.tables in
     let next : Module = record m { instances = c.push.new.self } in
-    given_item named sc _ c.in-Instance.is (subst (λ (cs : List Connection). AllDeclared (item_uses sc (InstanceItem of name cs)) (IsBuilt named (with_item sc (InstanceItem of name cs)) (record { declared = c.args.self.now.declared; «module» = next }))) (ap (map connection_view) c.as_slice-in-Instance.ensures) (record {
+    given_item named sc _ c.in-Instance.is (subst (λ (cs : List Connection). AllDeclared
+    (item_uses sc (InstanceItem of name cs)) (IsBuilt named
+    (with_item sc (InstanceItem of name cs)) (record
+    { declared = c.args.self.now.declared; «module» = next })))
+    (ap (map connection_view) c.as_slice-in-Instance.ensures) (record {
       known = found.known;
       holds = record {
-        said = instance_said named sc m b.said of name (map connection_view c.as_slice-in-Instance.result.now) c.in_ok-instance-in-Instance.instance c.push.new.self c.in_ok-push-in-Instance.ensures.ok found.holds;
+        said = instance_said named sc m b.said of name
+            (map connection_view c.as_slice-in-Instance.result.now)
+            c.in_ok-instance-in-Instance.instance c.push.new.self
+            c.in_ok-push-in-Instance.ensures.ok found.holds;
         tables = record { nets = b.tables.nets; registers = b.tables.registers; memories = b.tables.memories };
       };
     }))

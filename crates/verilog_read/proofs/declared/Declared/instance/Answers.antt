@@ -13,7 +13,9 @@ use Rattle.verilog_read.proofs.JoinSteps.{gives_instance}
 use Rattle.verilog_read.proofs.declared.Declared.instance.Goals as goal
 
 -- the tree with a number is the module with that number
-tree_at : (modules : List tree.ModuleTree) (trees : List ModuleTree) (k : ℕ) (x : ModuleTree) → modules ≡ map module_view trees → k < length trees → x ≡ get_or trees k x → slice_get modules k ≡ Some (module_view x)
+tree_at : (modules : List tree.ModuleTree) (trees : List ModuleTree) (k : ℕ) (x : ModuleTree)
+    → modules ≡ map module_view trees → k < length trees → x ≡ get_or trees k x
+    → slice_get modules k ≡ Some (module_view x)
 tree_at modules trees k x e lt is = ap (λ l. slice_get l k) e ∙ slice_get-map module_view trees k ∙ ap (option_map module_view) (item_at trees trees k x refl lt is)
 
 some_is : {x y : tree.ModuleTree} → Some x ≡ Some y → x ≡ y
@@ -27,7 +29,11 @@ returns-in-Some-get c = λ sc m e h t.
     let (j, p, f) = named_module 0 sc.modules c.args.of.now number n in
     let q : j ≡ number = omega (arith, p) in
     let same : f.tree ≡ module_view c.in-Some-get.tree.now = some_is (sym f.at ∙ ap (slice_get sc.modules) q ∙ at) in
-    gives_instance sc m c.args.of.now c.args.name.now (map connection_view c.args.connections.now) c.instance_of.result (module_view c.in-Some-get.tree.now) (f.found ∙ ap Some same) (ap (λ (x : tree.ModuleTree). x.name) (sym same) ∙ f.named) (c.instance_of.ensures sc m h t (rw c.new-inner.ensures at))
+    gives_instance sc m c.args.of.now c.args.name.now
+    (map connection_view c.args.connections.now) c.instance_of.result
+    (module_view c.in-Some-get.tree.now) (f.found ∙ ap Some same)
+    (ap (λ (x : tree.ModuleTree). x.name) (sym same) ∙ f.named)
+    (c.instance_of.ensures sc m h t (rw c.new-inner.ensures at))
 
 pub returns-in-None-get : goal.returns-in-None-get
 returns-in-None-get c = λ sc m e h t.

@@ -30,14 +30,21 @@ returns-in_err-place-clause-joined c = λ sc m h t.
     let ports = map port_name (map port_view c.args.ports.now) in
     let f = c.in_err-place.ensures.free ports c.in_ok-numbers.ensures in
     rw (err_is (err_from_is_err_and c.from_residual-in_err-place.result c.from_residual-in_err-place.ensures.1))
-    (taken_fault sc m ports (get_split c.args.connections.now c.loop-connection.connection-index _ (omega arith)) c.loop-connection.nets.items (c.loop-connection.invariant.joined sc m h t) _ f.0 (taken_moved ports _ c.as_slice.ensures.value f.1))
+    (taken_fault sc m ports
+    (get_split c.args.connections.now c.loop-connection.connection-index _
+    (omega arith)) c.loop-connection.nets.items
+    (c.loop-connection.invariant.joined sc m h t) _ f.0
+    (taken_moved ports _ c.as_slice.ensures.value f.1))
 
 pub returns-in_err-net-clause-joined : goal.returns-in_err-net-clause-joined
 returns-in_err-net-clause-joined c = λ sc m h t.
     let ports = map port_name (map port_view c.args.ports.now) in
     let free = free_moved ports c.as_slice.ensures.value (c.in_ok-place.ensures.free ports c.in_ok-numbers.ensures) in
     rw (err_is (err_from_is_err_and c.from_residual-in_err-net.result c.from_residual-in_err-net.ensures.1))
-    (net_fault sc m ports (get_split c.args.connections.now c.loop-connection.connection-index _ (omega arith)) c.loop-connection.nets.items (c.loop-connection.invariant.joined sc m h t) c.in_ok-place.place _ free (c.in_err-net.ensures sc m h t))
+    (net_fault sc m ports (get_split c.args.connections.now c.loop-connection.connection-index _
+    (omega arith)) c.loop-connection.nets.items
+    (c.loop-connection.invariant.joined sc m h t) c.in_ok-place.place _ free
+    (c.in_err-net.ensures sc m h t))
 
 pub loop-connection-preserved : goal.loop-connection-preserved
 loop-connection-preserved c = record {
@@ -45,10 +52,16 @@ loop-connection-preserved c = record {
   joined = λ sc m h t.
       let ports = map port_name (map port_view c.args.ports.now) in
       let free = free_moved ports c.as_slice.ensures.value (c.in_ok-place.ensures.free ports c.in_ok-numbers.ensures) in
-      one_more sc m ports (get_split c.args.connections.now c.loop-connection.connection-index _ (omega arith)) c.loop-connection.nets.items (c.loop-connection.invariant.joined sc m h t) c.in_ok-place.place c.in_ok-net.net free (c.in_ok-net.ensures sc m h t);
+      one_more sc m ports (get_split c.args.connections.now c.loop-connection.connection-index _
+      (omega arith)) c.loop-connection.nets.items
+      (c.loop-connection.invariant.joined sc m h t) c.in_ok-place.place c.in_ok-net.net free
+      (c.in_ok-net.ensures sc m h t);
 }
 
 pub returns-clause-joined : goal.returns-clause-joined
 returns-clause-joined c = λ sc m h t.
     let ports = map port_name (map port_view c.args.ports.now) in
-    subst (λ l. AllDeclared (connection_uses sc ports [] (map connection_view l)) (AreJoined m ports (map connection_view l) c.loop-connection.nets.items)) (take_all c.loop-connection.connection-index c.args.connections.now (omega arith)) (c.loop-connection.invariant.joined sc m h t)
+    subst (λ l. AllDeclared (connection_uses sc ports [] (map connection_view l))
+    (AreJoined m ports (map connection_view l) c.loop-connection.nets.items))
+    (take_all c.loop-connection.connection-index c.args.connections.now (omega arith))
+    (c.loop-connection.invariant.joined sc m h t)

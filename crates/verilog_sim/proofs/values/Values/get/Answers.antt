@@ -27,5 +27,8 @@ returns c =
     let high : c.index-2.result.now ≡ get_or s.high.items c.index-k.result 0 = get_or_read s.high.items _ _ (omega (arith, size, is, all)) c.index-2.ensures 0 in
     let both = get_words s.low.items s.high.items c.index-k.result c.self.invariant in
     let value : get_or c.args.self.now c.args.net 0 ≡ c.index.result.now + c.index-2.result.now * 18446744073709551616 =
-    ap (λ (n : ℕ). get_or c.args.self.now n 0) (sym c.index-k.ensures.number) ∙ ap (λ (l : List ℕ). get_or l c.index-k.result 0) (sym c.self.view_is) ∙ both ∙ ap (λ x. x + get_or s.high.items c.index-k.result 0 * 18446744073709551616) (sym low) ∙ ap (λ x. c.index.result.now + x * 18446744073709551616) (sym high) in
+    ap (λ (n : ℕ). get_or c.args.self.now n 0) (sym c.index-k.ensures.number) ∙ ap
+    (λ (l : List ℕ). get_or l c.index-k.result 0) (sym c.self.view_is) ∙ both ∙ ap
+    (λ x. x + get_or s.high.items c.index-k.result 0 * 18446744073709551616) (sym low) ∙ ap
+    (λ x. c.index.result.now + x * 18446744073709551616) (sym high) in
     omega (arith, value, c.index.type_inv, c.index-2.type_inv)

@@ -11,11 +11,19 @@ returns-in_err-expect-clause-exact c =
 
 pub returns-in_err-updates-clause-exact : goal.returns-in_err-updates-clause-exact
 returns-in_err-updates-clause-exact c =
-    rw (err_is (err_from_is_err_and c.from_residual-in_err-updates.result c.from_residual-in_err-updates.ensures.1)) (failed_read (λ b x below e. Loops.updates_end) (pass (Opened.always_left _ c.requires) c.in_ok-expect.ensures.exact) c.in_err-updates.ensures.exact)
+    rw (err_is (err_from_is_err_and c.from_residual-in_err-updates.result
+    c.from_residual-in_err-updates.ensures.1)) (failed_read
+    (λ b x below e. Loops.updates_end) (pass
+    (Opened.always_left _ c.requires) c.in_ok-expect.ensures.exact)
+    c.in_err-updates.ensures.exact)
 
 pub returns-in_err-expect-2-clause-exact : goal.returns-in_err-expect-2-clause-exact
 returns-in_err-expect-2-clause-exact c =
-    rw (err_is (err_from_is_err_and c.from_residual-in_err-expect-2.result c.from_residual-in_err-expect-2.ensures.1)) (failed_fixed (next (λ b x below e. Loops.updates_end) (pass (Opened.always_left _ c.requires) c.in_ok-expect.ensures.exact) c.in_ok-updates.ensures.exact) c.in_err-expect-2.ensures.exact)
+    rw (err_is (err_from_is_err_and c.from_residual-in_err-expect-2.result
+    c.from_residual-in_err-expect-2.ensures.1)) (failed_fixed
+    (next (λ b x below e. Loops.updates_end) (pass
+    (Opened.always_left _ c.requires) c.in_ok-expect.ensures.exact)
+    c.in_ok-updates.ensures.exact) c.in_err-expect-2.ensures.exact)
 
 pub returns-clause-exact : goal.returns-clause-exact
 returns-clause-exact c =

@@ -10,7 +10,10 @@ returns-in_err-expect-clause-exact c =
 
 pub returns-in_err-name-clause-exact : goal.returns-in_err-name-clause-exact
 returns-in_err-name-clause-exact c =
-    rw (err_is (err_from_is_err_and c.from_residual-in_err-name.result c.from_residual-in_err-name.ensures.1)) (failed (λ t g. g) (pass (Opened.complement_left _ c.requires) c.in_ok-expect.ensures.exact) c.in_err-name.ensures.exact)
+    rw (err_is (err_from_is_err_and c.from_residual-in_err-name.result
+    c.from_residual-in_err-name.ensures.1)) (failed (λ t g. g)
+    (pass (Opened.complement_left _ c.requires) c.in_ok-expect.ensures.exact)
+    c.in_err-name.ensures.exact)
 
 pub returns-clause-exact : goal.returns-clause-exact
 returns-clause-exact c =

@@ -12,14 +12,22 @@ use Rattle.verilog_syntax.proofs.Fronts.{all_none, all_more, all_stop, front_is}
 use Rattle.verilog_syntax.proofs.cursor.Parser.expect.Goals as goal
 
 -- one more piece is read
-read_more : (pieces : List Piece) (i : ℕ) {xs ys zs : List Token} → i < length pieces → ReadsAll (map piece_part (take i pieces)) xs ys → begins_with (piece_token (get_or pieces i (Word Module))) ys ≡ true → zs ≡ drop 1 ys
+read_more : (pieces : List Piece) (i : ℕ) {xs ys zs : List Token} → i < length pieces
+    → ReadsAll (map piece_part (take i pieces)) xs ys
+    → begins_with (piece_token (get_or pieces i (Word Module))) ys ≡ true → zs ≡ drop 1 ys
     → ReadsAll (map piece_part (take (i + 1) pieces)) xs zs
 read_more pieces i {xs = xs} {zs = zs} h r e f =
     let more : take (i + 1) pieces ≡ take i pieces ++ get_or pieces i (Word Module) ∷ [] = rw add-one (take-suc pieces i (Word Module) h) in
-    let parts : map piece_part (take (i + 1) pieces) ≡ map piece_part (take i pieces) ++ piece_part (get_or pieces i (Word Module)) ∷ [] = ap (map piece_part) more ∙ map-append piece_part (take i pieces) (get_or pieces i (Word Module) ∷ []) in
+    let parts : map piece_part (take (i + 1) pieces) ≡ map piece_part (take i pieces)
+    ++ piece_part (get_or pieces i (Word Module))
+    ∷ [] = ap (map piece_part) more ∙ map-append piece_part (take i pieces)
+    (get_or pieces i (Word Module) ∷ []) in
     subst (λ l. ReadsAll l xs zs) (sym parts) (all_more (get_or pieces i (Word Module)) r e f)
 
-stops_at : (pieces : List Piece) (i : ℕ) {xs ys : List Token} → i < length pieces → ReadsAll (map piece_part (take i pieces)) xs ys → begins_with (piece_token (get_or pieces i (Word Module))) ys ≡ false → StopsAll (map piece_part pieces) xs ys
+stops_at : (pieces : List Piece) (i : ℕ) {xs ys : List Token} → i < length pieces
+    → ReadsAll (map piece_part (take i pieces)) xs ys
+    → begins_with (piece_token (get_or pieces i (Word Module))) ys ≡ false
+    → StopsAll (map piece_part pieces) xs ys
 stops_at pieces i {xs = xs} {ys = ys} h r e =
     let p = get_or pieces i (Word Module) in
     let rest = drop (i + 1) pieces in

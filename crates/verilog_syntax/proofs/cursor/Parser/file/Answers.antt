@@ -24,7 +24,11 @@ returns-in_err-push c =
 
 pub returns-in_err-next : goal.returns-in_err-next
 returns-in_err-next c =
-    rw (err_is (err_from_is_err_and c.from_residual-in_err-next.result c.from_residual-in_err-next.ensures.1)) (failed (λ t g. g) (pass (again Productions.modules (λ w. map module_view c.loop-alloc.modules ++ w) (λ below e. e) c.loop-alloc.invariant (Loops.module_goes _ (sym c.begins.ensures ∙ c.loop-alloc-test.true))) (all_none _)) c.in_err-next.ensures.exact)
+    rw (err_is (err_from_is_err_and c.from_residual-in_err-next.result
+    c.from_residual-in_err-next.ensures.1)) (failed (λ t g. g)
+    (pass (again Productions.modules (λ w. map module_view c.loop-alloc.modules
+    ++ w) (λ below e. e) c.loop-alloc.invariant (Loops.module_goes _
+    (sym c.begins.ensures ∙ c.loop-alloc-test.true))) (all_none _)) c.in_err-next.ensures.exact)
 
 pub returns-in_err-push-2 : goal.returns-in_err-push-2
 returns-in_err-push-2 c =
@@ -36,7 +40,11 @@ loop-alloc-init c =
     same (λ w. sym (ap (λ l. map module_view l ++ w) e)) (then (λ t g. g) (begin Productions.file_plans _) c.in_ok-first.ensures.exact)
 
 pub loop-alloc-preserved : goal.loop-alloc-preserved
-loop-alloc-preserved c = same (Loops.map_more module_view c.loop-alloc.modules _ _ c.in_ok-push-2.ensures.ok) (then (λ t g. g) (pass (again Productions.modules (λ w. map module_view c.loop-alloc.modules ++ w) (λ below e. e) c.loop-alloc.invariant (Loops.module_goes _ (sym c.begins.ensures ∙ c.loop-alloc-test.true))) (all_none _)) c.in_ok-next.ensures.exact)
+loop-alloc-preserved c = same
+    (Loops.map_more module_view c.loop-alloc.modules _ _ c.in_ok-push-2.ensures.ok)
+    (then (λ t g. g) (pass (again Productions.modules (λ w. map module_view c.loop-alloc.modules
+    ++ w) (λ below e. e) c.loop-alloc.invariant (Loops.module_goes _
+    (sym c.begins.ensures ∙ c.loop-alloc-test.true))) (all_none _)) c.in_ok-next.ensures.exact)
 
 pub returns : goal.returns
 returns c =

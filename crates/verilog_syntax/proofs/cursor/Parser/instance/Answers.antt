@@ -7,24 +7,51 @@ use Rattle.verilog_syntax.proofs.cursor.Parser.instance.Goals as goal
 
 pub returns-in_err-of-clause-exact : goal.returns-in_err-of-clause-exact
 returns-in_err-of-clause-exact c =
-    rw (err_is (err_from_is_err_and c.from_residual.result c.from_residual.ensures.1)) (failed (λ t g. g) (Opened.instance_left _ c.requires.wire c.requires.reg c.requires.assign c.requires.always) c.in_err-of.ensures.exact)
+    rw (err_is (err_from_is_err_and c.from_residual.result c.from_residual.ensures.1))
+    (failed (λ t g. g) (Opened.instance_left _ c.requires.wire c.requires.reg
+    c.requires.assign c.requires.always) c.in_err-of.ensures.exact)
 
 pub returns-in_err-name-clause-exact : goal.returns-in_err-name-clause-exact
 returns-in_err-name-clause-exact c =
-    rw (err_is (err_from_is_err_and c.from_residual-in_err-name.result c.from_residual-in_err-name.ensures.1)) (failed (λ t g. g) (then (λ t g. g) (Opened.instance_left _ c.requires.wire c.requires.reg c.requires.assign c.requires.always) c.in_ok-of.ensures.exact) c.in_err-name.ensures.exact)
+    rw (err_is (err_from_is_err_and c.from_residual-in_err-name.result
+    c.from_residual-in_err-name.ensures.1)) (failed (λ t g. g)
+    (then (λ t g. g) (Opened.instance_left _ c.requires.wire c.requires.reg
+    c.requires.assign c.requires.always) c.in_ok-of.ensures.exact) c.in_err-name.ensures.exact)
 
 pub returns-in_err-expect-clause-exact : goal.returns-in_err-expect-clause-exact
 returns-in_err-expect-clause-exact c =
-    rw (err_is (err_from_is_err_and c.from_residual-in_err-expect.result c.from_residual-in_err-expect.ensures.1)) (failed_fixed (then (λ t g. g) (then (λ t g. g) (Opened.instance_left _ c.requires.wire c.requires.reg c.requires.assign c.requires.always) c.in_ok-of.ensures.exact) c.in_ok-name.ensures.exact) c.in_err-expect.ensures.exact)
+    rw (err_is (err_from_is_err_and c.from_residual-in_err-expect.result
+    c.from_residual-in_err-expect.ensures.1)) (failed_fixed
+    (then (λ t g. g) (then (λ t g. g)
+    (Opened.instance_left _ c.requires.wire c.requires.reg c.requires.assign
+    c.requires.always) c.in_ok-of.ensures.exact) c.in_ok-name.ensures.exact)
+    c.in_err-expect.ensures.exact)
 
 pub returns-in_err-connections-clause-exact : goal.returns-in_err-connections-clause-exact
 returns-in_err-connections-clause-exact c =
-    rw (err_is (err_from_is_err_and c.from_residual-in_err-connections.result c.from_residual-in_err-connections.ensures.1)) (failed_read (λ b x below e. Loops.comma_ends) (pass (then (λ t g. g) (then (λ t g. g) (Opened.instance_left _ c.requires.wire c.requires.reg c.requires.assign c.requires.always) c.in_ok-of.ensures.exact) c.in_ok-name.ensures.exact) c.in_ok-expect.ensures.exact) c.in_err-connections.ensures.exact)
+    rw (err_is (err_from_is_err_and c.from_residual-in_err-connections.result
+    c.from_residual-in_err-connections.ensures.1)) (failed_read
+    (λ b x below e. Loops.comma_ends) (pass (then (λ t g. g)
+    (then (λ t g. g) (Opened.instance_left _ c.requires.wire c.requires.reg
+    c.requires.assign c.requires.always) c.in_ok-of.ensures.exact)
+    c.in_ok-name.ensures.exact) c.in_ok-expect.ensures.exact)
+    c.in_err-connections.ensures.exact)
 
 pub returns-in_err-expect-2-clause-exact : goal.returns-in_err-expect-2-clause-exact
 returns-in_err-expect-2-clause-exact c =
-    rw (err_is (err_from_is_err_and c.from_residual-in_err-expect-2.result c.from_residual-in_err-expect-2.ensures.1)) (failed_fixed (next (λ b x below e. Loops.comma_ends) (pass (then (λ t g. g) (then (λ t g. g) (Opened.instance_left _ c.requires.wire c.requires.reg c.requires.assign c.requires.always) c.in_ok-of.ensures.exact) c.in_ok-name.ensures.exact) c.in_ok-expect.ensures.exact) c.in_ok-connections.ensures.exact) c.in_err-expect-2.ensures.exact)
+    rw (err_is (err_from_is_err_and c.from_residual-in_err-expect-2.result
+    c.from_residual-in_err-expect-2.ensures.1)) (failed_fixed
+    (next (λ b x below e. Loops.comma_ends) (pass (then (λ t g. g)
+    (then (λ t g. g) (Opened.instance_left _ c.requires.wire c.requires.reg
+    c.requires.assign c.requires.always) c.in_ok-of.ensures.exact)
+    c.in_ok-name.ensures.exact) c.in_ok-expect.ensures.exact)
+    c.in_ok-connections.ensures.exact) c.in_err-expect-2.ensures.exact)
 
 pub returns-clause-exact : goal.returns-clause-exact
 returns-clause-exact c =
-    finish (pass (next (λ b x below e. Loops.comma_ends) (pass (then (λ t g. g) (then (λ t g. g) (Opened.instance_left _ c.requires.wire c.requires.reg c.requires.assign c.requires.always) c.in_ok-of.ensures.exact) c.in_ok-name.ensures.exact) c.in_ok-expect.ensures.exact) c.in_ok-connections.ensures.exact) c.in_ok-expect-2.ensures.exact)
+    finish (pass (next (λ b x below e. Loops.comma_ends)
+    (pass (then (λ t g. g) (then (λ t g. g)
+    (Opened.instance_left _ c.requires.wire c.requires.reg c.requires.assign
+    c.requires.always) c.in_ok-of.ensures.exact) c.in_ok-name.ensures.exact)
+    c.in_ok-expect.ensures.exact) c.in_ok-connections.ensures.exact)
+    c.in_ok-expect-2.ensures.exact)

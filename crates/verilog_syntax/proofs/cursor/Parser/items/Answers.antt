@@ -16,7 +16,11 @@ use Rattle.verilog_syntax.proofs.cursor.Parser.items.Goals as goal
 
 pub returns-in_err-item-clause-exact : goal.returns-in_err-item-clause-exact
 returns-in_err-item-clause-exact c =
-    rw (err_is (err_from_is_err_and c.from_residual.result c.from_residual.ensures.1)) (failed (λ t g. g) (pass (again Productions.items (λ w. map item_view c.loop-alloc.items ++ w) (λ below e. e) c.loop-alloc.invariant.read (Loops.item_goes _ (sym c.begins_item.ensures ∙ c.loop-alloc-test.true))) (all_none _)) c.in_err-item.ensures.exact)
+    rw (err_is (err_from_is_err_and c.from_residual.result c.from_residual.ensures.1))
+    (failed (λ t g. g) (pass (again Productions.items (λ w. map item_view c.loop-alloc.items
+    ++ w) (λ below e. e) c.loop-alloc.invariant.read
+    (Loops.item_goes _ (sym c.begins_item.ensures ∙ c.loop-alloc-test.true)))
+    (all_none _)) c.in_err-item.ensures.exact)
 
 pub returns-in_err-push-clause-exact : goal.returns-in_err-push-clause-exact
 returns-in_err-push-clause-exact c =
@@ -30,7 +34,11 @@ loop-alloc-init c = record {
 
 pub loop-alloc-preserved : goal.loop-alloc-preserved
 loop-alloc-preserved c = record {
-  read = same (Loops.map_more item_view c.loop-alloc.items _ _ c.in_ok-push.ensures.ok) (then (λ t g. g) (pass (again Productions.items (λ w. map item_view c.loop-alloc.items ++ w) (λ below e. e) c.loop-alloc.invariant.read (Loops.item_goes _ (sym c.begins_item.ensures ∙ c.loop-alloc-test.true))) (all_none _)) c.in_ok-item.ensures.exact);
+  read = same (Loops.map_more item_view c.loop-alloc.items _ _ c.in_ok-push.ensures.ok)
+      (then (λ t g. g) (pass (again Productions.items (λ w. map item_view c.loop-alloc.items
+      ++ w) (λ below e. e) c.loop-alloc.invariant.read (Loops.item_goes _
+      (sym c.begins_item.ensures ∙ c.loop-alloc-test.true)))
+      (all_none _)) c.in_ok-item.ensures.exact);
   fewer = (let b = c.in_ok-item.ensures.fewer in let d = c.loop-alloc.invariant.fewer in omega arith);
 }
 

@@ -26,11 +26,21 @@ returns-in_err-push-clause-exact c =
 
 pub returns-in_err-expect-clause-exact : goal.returns-in_err-expect-clause-exact
 returns-in_err-expect-clause-exact c =
-    rw (err_is (err_from_is_err_and c.from_residual-in_err-expect.result c.from_residual-in_err-expect.ensures.1)) (failed_fixed (again Productions.more_ports (λ w. map port_view c.loop-self.ports ++ w) (λ below e. e) c.loop-self.invariant.read (Loops.comma_goes _ (sym c.begins.ensures ∙ c.loop-self-test.true))) c.in_err-expect.ensures.exact)
+    rw (err_is (err_from_is_err_and c.from_residual-in_err-expect.result
+    c.from_residual-in_err-expect.ensures.1)) (failed_fixed
+    (again Productions.more_ports (λ w. map port_view c.loop-self.ports
+    ++ w) (λ below e. e) c.loop-self.invariant.read
+    (Loops.comma_goes _ (sym c.begins.ensures ∙ c.loop-self-test.true)))
+    c.in_err-expect.ensures.exact)
 
 pub returns-in_err-next-clause-exact : goal.returns-in_err-next-clause-exact
 returns-in_err-next-clause-exact c =
-    rw (err_is (err_from_is_err_and c.from_residual-in_err-next.result c.from_residual-in_err-next.ensures.1)) (failed (λ t g. g) (pass (again Productions.more_ports (λ w. map port_view c.loop-self.ports ++ w) (λ below e. e) c.loop-self.invariant.read (Loops.comma_goes _ (sym c.begins.ensures ∙ c.loop-self-test.true))) c.in_ok-expect.ensures.exact) c.in_err-next.ensures.exact)
+    rw (err_is (err_from_is_err_and c.from_residual-in_err-next.result
+    c.from_residual-in_err-next.ensures.1)) (failed (λ t g. g)
+    (pass (again Productions.more_ports (λ w. map port_view c.loop-self.ports
+    ++ w) (λ below e. e) c.loop-self.invariant.read
+    (Loops.comma_goes _ (sym c.begins.ensures ∙ c.loop-self-test.true)))
+    c.in_ok-expect.ensures.exact) c.in_err-next.ensures.exact)
 
 pub returns-in_err-push-2-clause-exact : goal.returns-in_err-push-2-clause-exact
 returns-in_err-push-2-clause-exact c =
@@ -46,11 +56,17 @@ loop-self-init c =
 
 pub loop-self-preserved : goal.loop-self-preserved
 loop-self-preserved c = record {
-  read = same (Loops.map_more port_view c.loop-self.ports _ _ c.in_ok-push-2.ensures.ok) (then (λ t g. g) (pass (again Productions.more_ports (λ w. map port_view c.loop-self.ports ++ w) (λ below e. e) c.loop-self.invariant.read (Loops.comma_goes _ (sym c.begins.ensures ∙ c.loop-self-test.true))) c.in_ok-expect.ensures.exact) c.in_ok-next.ensures.exact);
+  read = same (Loops.map_more port_view c.loop-self.ports _ _ c.in_ok-push-2.ensures.ok)
+      (then (λ t g. g) (pass (again Productions.more_ports (λ w. map port_view c.loop-self.ports
+      ++ w) (λ below e. e) c.loop-self.invariant.read (Loops.comma_goes _
+      (sym c.begins.ensures ∙ c.loop-self-test.true))) c.in_ok-expect.ensures.exact)
+      c.in_ok-next.ensures.exact);
   fewer = (let a = c.in_ok-expect.ensures.fewer in let b = c.in_ok-next.ensures.fewer in let d = c.loop-self.invariant.fewer in omega arith);
 }
 
 pub returns-clause-exact : goal.returns-clause-exact
 returns-clause-exact c =
     subst (λ l. Reads PortsOf (left c.args.self.now) (left c.loop-self.self) l) (append-nil (map port_view c.loop-self.ports))
-    (finish (no_more Productions.more_ports (λ w. map port_view c.loop-self.ports ++ w) (λ below e. e) c.loop-self.invariant.read (Refusals.no_piece (Sign marks.Comma) (sym c.begins.ensures ∙ c.loop-self-test.false))))
+    (finish (no_more Productions.more_ports (λ w. map port_view c.loop-self.ports
+    ++ w) (λ below e. e) c.loop-self.invariant.read
+    (Refusals.no_piece (Sign marks.Comma) (sym c.begins.ensures ∙ c.loop-self-test.false))))

@@ -10,11 +10,17 @@ returns-in_err-expect-clause-exact c =
 
 pub returns-in_err-high-clause-exact : goal.returns-in_err-high-clause-exact
 returns-in_err-high-clause-exact c =
-    rw (err_is (err_from_is_err_and c.from_residual-in_err-high.result c.from_residual-in_err-high.ensures.1)) (failed (λ t g. g) (pass (begin range_plans _) c.in_ok-expect.ensures.exact) c.in_err-high.ensures.exact)
+    rw (err_is (err_from_is_err_and c.from_residual-in_err-high.result
+    c.from_residual-in_err-high.ensures.1)) (failed (λ t g. g)
+    (pass (begin range_plans _) c.in_ok-expect.ensures.exact) c.in_err-high.ensures.exact)
 
 pub returns-in_err-expect-2-clause-exact : goal.returns-in_err-expect-2-clause-exact
 returns-in_err-expect-2-clause-exact c =
-    rw (err_is (err_from_is_err_and c.from_residual-in_err-expect-2.result c.from_residual-in_err-expect-2.ensures.1)) (failed_fixed (then (λ t g. g) (pass (begin range_plans _) c.in_ok-expect.ensures.exact) c.in_ok-high.ensures.exact) c.in_err-expect-2.ensures.exact)
+    rw (err_is (err_from_is_err_and c.from_residual-in_err-expect-2.result
+    c.from_residual-in_err-expect-2.ensures.1)) (failed_fixed
+    (then (λ t g. g) (pass
+    (begin range_plans _) c.in_ok-expect.ensures.exact) c.in_ok-high.ensures.exact)
+    c.in_err-expect-2.ensures.exact)
 
 pub returns-clause-exact : goal.returns-clause-exact
 returns-clause-exact c =

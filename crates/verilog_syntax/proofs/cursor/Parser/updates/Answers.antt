@@ -16,7 +16,12 @@ use Rattle.verilog_syntax.proofs.cursor.Parser.updates.Goals as goal
 
 pub returns-in_err-update-clause-exact : goal.returns-in_err-update-clause-exact
 returns-in_err-update-clause-exact c =
-    rw (err_is (err_from_is_err_and c.from_residual.result c.from_residual.ensures.1)) (failed (λ t g. g) (pass (again Productions.updates (λ w. map update_view c.loop-self.updates ++ w) (λ below e. e) c.loop-self.invariant.read (Loops.update_goes _ (sym c.begins.ensures ∙ c.loop-self-test.true))) (all_none _)) c.in_err-update.ensures.exact)
+    rw (err_is (err_from_is_err_and c.from_residual.result c.from_residual.ensures.1))
+    (failed (λ t g. g) (pass (again Productions.updates
+    (λ w. map update_view c.loop-self.updates
+    ++ w) (λ below e. e) c.loop-self.invariant.read
+    (Loops.update_goes _ (sym c.begins.ensures ∙ c.loop-self-test.true)))
+    (all_none _)) c.in_err-update.ensures.exact)
 
 pub returns-in_err-push-clause-exact : goal.returns-in_err-push-clause-exact
 returns-in_err-push-clause-exact c =
@@ -30,7 +35,11 @@ loop-self-init c = record {
 
 pub loop-self-preserved : goal.loop-self-preserved
 loop-self-preserved c = record {
-  read = same (Loops.map_more update_view c.loop-self.updates _ _ c.in_ok-push.ensures.ok) (then (λ t g. g) (pass (again Productions.updates (λ w. map update_view c.loop-self.updates ++ w) (λ below e. e) c.loop-self.invariant.read (Loops.update_goes _ (sym c.begins.ensures ∙ c.loop-self-test.true))) (all_none _)) c.in_ok-update.ensures.exact);
+  read = same (Loops.map_more update_view c.loop-self.updates _ _ c.in_ok-push.ensures.ok)
+      (then (λ t g. g) (pass (again Productions.updates
+      (λ w. map update_view c.loop-self.updates
+      ++ w) (λ below e. e) c.loop-self.invariant.read (Loops.update_goes _
+      (sym c.begins.ensures ∙ c.loop-self-test.true))) (all_none _)) c.in_ok-update.ensures.exact);
   fewer = (let b = c.in_ok-update.ensures.fewer in let d = c.loop-self.invariant.fewer in omega arith);
 }
 

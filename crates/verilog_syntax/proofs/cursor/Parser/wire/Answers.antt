@@ -10,16 +10,29 @@ returns-in_err-expect-clause-exact c =
 
 pub returns-in_err-width-clause-exact : goal.returns-in_err-width-clause-exact
 returns-in_err-width-clause-exact c =
-    rw (err_is (err_from_is_err_and c.from_residual-in_err-width.result c.from_residual-in_err-width.ensures.1)) (failed (λ t g. g) (pass (Opened.wire_left _ c.requires) c.in_ok-expect.ensures.exact) c.in_err-width.ensures.exact)
+    rw (err_is (err_from_is_err_and c.from_residual-in_err-width.result
+    c.from_residual-in_err-width.ensures.1)) (failed (λ t g. g)
+    (pass (Opened.wire_left _ c.requires) c.in_ok-expect.ensures.exact)
+    c.in_err-width.ensures.exact)
 
 pub returns-in_err-name-clause-exact : goal.returns-in_err-name-clause-exact
 returns-in_err-name-clause-exact c =
-    rw (err_is (err_from_is_err_and c.from_residual-in_err-name.result c.from_residual-in_err-name.ensures.1)) (failed (λ t g. g) (then (λ t g. g) (pass (Opened.wire_left _ c.requires) c.in_ok-expect.ensures.exact) c.in_ok-width.ensures.exact) c.in_err-name.ensures.exact)
+    rw (err_is (err_from_is_err_and c.from_residual-in_err-name.result
+    c.from_residual-in_err-name.ensures.1)) (failed (λ t g. g)
+    (then (λ t g. g) (pass
+    (Opened.wire_left _ c.requires) c.in_ok-expect.ensures.exact)
+    c.in_ok-width.ensures.exact) c.in_err-name.ensures.exact)
 
 pub returns-in_err-expect-2-clause-exact : goal.returns-in_err-expect-2-clause-exact
 returns-in_err-expect-2-clause-exact c =
-    rw (err_is (err_from_is_err_and c.from_residual-in_err-expect-2.result c.from_residual-in_err-expect-2.ensures.1)) (failed_fixed (then (λ t g. g) (then (λ t g. g) (pass (Opened.wire_left _ c.requires) c.in_ok-expect.ensures.exact) c.in_ok-width.ensures.exact) c.in_ok-name.ensures.exact) c.in_err-expect-2.ensures.exact)
+    rw (err_is (err_from_is_err_and c.from_residual-in_err-expect-2.result
+    c.from_residual-in_err-expect-2.ensures.1)) (failed_fixed
+    (then (λ t g. g) (then (λ t g. g) (pass
+    (Opened.wire_left _ c.requires) c.in_ok-expect.ensures.exact)
+    c.in_ok-width.ensures.exact) c.in_ok-name.ensures.exact) c.in_err-expect-2.ensures.exact)
 
 pub returns-clause-exact : goal.returns-clause-exact
 returns-clause-exact c =
-    finish (pass (then (λ t g. g) (then (λ t g. g) (pass (Opened.wire_left _ c.requires) c.in_ok-expect.ensures.exact) c.in_ok-width.ensures.exact) c.in_ok-name.ensures.exact) c.in_ok-expect-2.ensures.exact)
+    finish (pass (then (λ t g. g) (then (λ t g. g) (pass
+    (Opened.wire_left _ c.requires) c.in_ok-expect.ensures.exact)
+    c.in_ok-width.ensures.exact) c.in_ok-name.ensures.exact) c.in_ok-expect-2.ensures.exact)

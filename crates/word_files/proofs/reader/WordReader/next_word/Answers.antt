@@ -53,5 +53,8 @@ returns-clause-follows g c = λ file held follows.
       unrefused = follows.unrefused;
       ahead = c.in-Ok-Some.ensures.ahead file held follows.ahead;
       ended = λ e. absurd (false≢true (sym c.requires.open ∙ e));
-      left = taken_next file c.take_line.new.piece (lines_of file) s.lines s.bytes.place c.take_line.new.self.place c.in-Ok-Some.count c.in-Some.bits c.take_line.array_long follows.left line (sym c.parse_word.ensures ∙ c.in-Some.is);
+      left = taken_next file c.take_line.new.piece
+          (lines_of file) s.lines s.bytes.place c.take_line.new.self.place c.in-Ok-Some.count
+          c.in-Some.bits c.take_line.array_long follows.left line
+          (sym c.parse_word.ensures ∙ c.in-Some.is);
     }
