@@ -36,6 +36,7 @@ use Rattle.kernel_meaning.proofs.Kept.{
   IsHeld,
   AreBound,
   Sound,
+  IsTold,
   Good,
 }
 use Rattle.kernel_meaning.proofs.Later.{
@@ -106,7 +107,7 @@ left_block so_far count state s =
 counted_good : (left : ℕ) {library : Library} (so_far : History library) (state : State)
     (next : Next) → Sound so_far state
     → GoodNext so_far next → Good so_far (counted_from left state next)
-counted_good zero so_far state next s h = record { lawful = tt {0}; plan = tt {0} }
+counted_good zero so_far state next s h = record { lawful = tt {0}; plan = tt {0}; told = tt {0} }
 counted_good (suc left) so_far state next s h =
     h so_far (at_once so_far) (record state { left = left }) (with_left so_far state left s)
 
@@ -119,7 +120,7 @@ pub good_used : (at : ℕ) (value : Value) {library : Library} (so_far : History
     (state : State) (next : Then)
     → IsHeld so_far value → Sound so_far state → GoodThen so_far next
     → Good so_far (used at value state next)
-good_used at V.Nothing so_far state next v s h = record { lawful = tt {0}; plan = tt {0} }
+good_used at V.Nothing so_far state next v s h = record { lawful = tt {0}; plan = tt {0}; told = tt {0} }
 good_used at value so_far state next v s h = h so_far (at_once so_far) value state v s
 
 pub good_decided : (b : Bool) {library : Library} (so_far : History library) (state : State)
@@ -138,10 +139,10 @@ good_unless true so_far state run next s r h = h so_far (at_once so_far) state s
 good_unless false so_far state run next s r h = r next h
 
 pub good_needs : (b : Bool) (e : EvalError) {library : Library} (so_far : History library)
-    (state : State) (next : Next)
+    (state : State) (next : Next) → IsTold e
     → Sound so_far state → GoodNext so_far next → Good so_far (needs b e state next)
-good_needs true e so_far state next s h = h so_far (at_once so_far) state s
-good_needs false e so_far state next s h = record { lawful = tt {0}; plan = tt {0} }
+good_needs true e so_far state next t s h = h so_far (at_once so_far) state s
+good_needs false e so_far state next t s h = record { lawful = tt {0}; plan = tt {0}; told = t }
 
 pub good_chosen : (at : ℕ) (value : Value) {library : Library} (so_far : History library)
     (state : State)
@@ -152,8 +153,8 @@ good_chosen at (V.Flag true) so_far state first_way second_way s y n =
 good_chosen at (V.Flag false) so_far state first_way second_way s y n =
     n so_far (at_once so_far) state s
 good_chosen at V.Nothing so_far state first_way second_way s y n =
-    record { lawful = tt {0}; plan = tt {0} }
-good_chosen at _ so_far state first_way second_way s y n = record { lawful = tt {0}; plan = tt {0} }
+    record { lawful = tt {0}; plan = tt {0}; told = tt {0} }
+good_chosen at _ so_far state first_way second_way s y n = record { lawful = tt {0}; plan = tt {0}; told = tt {0} }
 
 -- what is there after the calls of a row: what was built may have grown, and the value and the state
 -- speak of it
@@ -165,7 +166,7 @@ pub record AtEnd {library : Library} (so_far : History library) (value : Value) 
   pub sound : Sound (with_built so_far plan) state
 
 abbrev pub Holds : {library : Library} → History library → Outcome → Type 0
-Holds so_far (Fails e) = Unit {0}
+Holds so_far (Fails e) = IsTold e
 Holds so_far (Does calls value state) =
     AreLawful so_far.calls calls × AtEnd (onto calls so_far) value state
 
@@ -179,15 +180,16 @@ good_calls : (calls : List Call) {library : Library} (so_far : History library) 
 good_calls [] so_far value state next l e h =
     let rest = h (with_built so_far e.plan) (record { calls = ([], refl); plan = e.grows }) value
     state e.held e.sound in
-    record { lawful = rest.lawful; plan = rest.plan }
+    record { lawful = rest.lawful; plan = rest.plan; told = rest.told }
 good_calls (call ∷ calls) so_far value state next l e h =
     let more = good_calls calls (with_call call so_far) value state next l.1 e
     (then_later so_far (with_call call so_far) next (one_later call so_far) h) in
-    record { lawful = (l.0, more.lawful); plan = more.plan }
+    record { lawful = (l.0, more.lawful); plan = more.plan; told = more.told }
 
 pub good_does : (o : Outcome) {library : Library} (so_far : History library) (next : Then)
     → GoodOutcome so_far o → GoodThen so_far next → Good so_far (does o next)
-good_does (Fails e) so_far next o h = record { lawful = tt {0}; plan = tt {0} }
+good_does (Fails e) so_far next o h =
+    record { lawful = tt {0}; plan = tt {0}; told = o.holds }
 good_does (Does calls value state) so_far next o h =
     good_calls calls so_far value state next o.holds.0 o.holds.1 h
 

@@ -5,6 +5,8 @@ use Rattle.std.specs.Prelude.{All, IfOk}
 use Rattle.kernel_calls.specs.declared.call.Call.{Call}
 use Rattle.kernel_calls.specs.Calls.{count_of, bits_in}
 use Rattle.kernel_calls.specs.Laws.{AreLawful}
+use Rattle.kernel_meaning.specs.declared.error.EvalError.{EvalError}
+use Rattle.kernel_meaning.specs.declared.error.EvalError.TheVariants as E
 use Rattle.kernel_meaning.specs.declared.plan.End.{End}
 use Rattle.kernel_meaning.specs.declared.plan.Plan.{Plan}
 use Rattle.kernel_meaning.specs.declared.plan.Side.{Side}
@@ -13,7 +15,7 @@ use Rattle.kernel_meaning.specs.declared.value.Value.TheVariants as V
 use Rattle.kernel_meaning.specs.declared.state.State.{State}
 use Rattle.kernel_meaning.specs.declared.state.Binding.{Binding}
 use Rattle.kernel_meaning.specs.LibraryRows.{bits_of}
-use Rattle.kernel_meaning.specs.Answer.{Answer, calls_of, plan_at_end}
+use Rattle.kernel_meaning.specs.Answer.{Answer, Finished, Refused, Calls, calls_of, plan_at_end}
 use Rattle.kernel_meaning.specs.Plans.{Library, OfKernel, OfManager}
 use Rattle.kernel_meaning.specs.Sound.{IsSound}
 use Rattle.kernel_meaning.specs.SoundPlans.{IsEndOf, IsAdded, IsJoined}
@@ -98,8 +100,19 @@ pub record Sound {library : Library} (so_far : History library) (state : State) 
   pub digits : (chain : ℕ) → bits_of state.digits chain ≡ bits_in so_far.calls chain
   pub plan : IsFollowed library so_far.plan state.plan
 
--- Each call of the rest of a run may come after those before it, and where a manager's run ends, its
--- plan can be carried out.
+-- a refusal that a source can get: memory is the program's want, and never a source's
+abbrev pub IsTold : EvalError → Type 0
+IsTold E.NoMemory = ⊥
+IsTold _ = Unit {0}
+
+abbrev pub EndsTold : Answer → Type 0
+EndsTold (Finished state) = Unit {0}
+EndsTold (Refused e) = IsTold e
+EndsTold (Calls call answer) = EndsTold answer
+
+-- Each call of the rest of a run may come after those before it; where a manager's run ends, its
+-- plan can be carried out; and where it is refused, not for want of memory.
 pub record Good {library : Library} (so_far : History library) (answer : Answer) : Type 0 where
   pub lawful : AreLawful so_far.calls (calls_of answer)
   pub plan : IfOk (plan_at_end answer) (EndsWell library)
+  pub told : EndsTold answer

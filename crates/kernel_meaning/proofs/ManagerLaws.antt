@@ -247,7 +247,7 @@ pub from_good : {library : Library} (so_far : History library) (state : State) (
     (values : List Value) → AreHeld so_far values → Sound so_far state
     → GoodOutcome so_far (stream_from_cpu at values state)
 from_good so_far state at (V.Str name ∷ []) v s =
-    good_if (is_port_name name) (E.BadPortName at) so_far _
+    good_if (is_port_name name) (E.BadPortName at) so_far _ tt
     (λ e. from_by so_far state name (e, v.0) s)
 from_good so_far state at _ v s = record { holds = tt }
 
@@ -263,7 +263,7 @@ pub to_good : {library : Library} (so_far : History library) (state : State) (at
     (values : List Value) → AreHeld so_far values → Sound so_far state
     → GoodOutcome so_far (stream_to_cpu at values state)
 to_good so_far state at (V.Str name ∷ []) v s =
-    good_if (is_port_name name) (E.BadPortName at) so_far _
+    good_if (is_port_name name) (E.BadPortName at) so_far _ tt
     (λ e. to_by so_far state name (e, v.0) s)
 to_good so_far state at _ v s = record { holds = tt }
 
@@ -276,7 +276,7 @@ pub input_of_good : {library : Library} (so_far : History library) (state : Stat
     (values : List Value) → AreHeld so_far values → Sound so_far state
     → GoodOutcome so_far (kernel_input at values state)
 input_of_good {library = library} so_far state at (V.Block kernel ∷ V.Str name ∷ []) v s =
-    good_if (is_port_name name) (E.BadPortName at) so_far _
+    good_if (is_port_name name) (E.BadPortName at) so_far _ tt
     (λ e. all_hold so_far [] (V.Link (P.Kernel kernel name) W.Left) state tt
     (port_held library so_far.plan W.Left kernel name v.0) s)
 input_of_good so_far state at _ v s = record { holds = tt }
@@ -285,7 +285,7 @@ pub output_of_good : {library : Library} (so_far : History library) (state : Sta
     (values : List Value) → AreHeld so_far values → Sound so_far state
     → GoodOutcome so_far (kernel_output at values state)
 output_of_good {library = library} so_far state at (V.Block kernel ∷ V.Str name ∷ []) v s =
-    good_if (is_port_name name) (E.BadPortName at) so_far _
+    good_if (is_port_name name) (E.BadPortName at) so_far _ tt
     (λ e. all_hold so_far [] (V.Link (P.Kernel kernel name) W.Right) state tt
     (port_held library so_far.plan W.Right kernel name v.0) s)
 output_of_good so_far state at _ v s = record { holds = tt }
@@ -336,7 +336,7 @@ class_good : (kernels : List ℕ → Option ℕ) (at : ℕ) (name : List ℕ) (c
     → ((n : ℕ) → IsClassOf (OfManager kernels) n → GoodNext so_far (next n))
     → Good so_far (class_by at class state next)
 class_good kernels at name None so_far state next e s h =
-    record { lawful = tt {0}; plan = tt {0} }
+    record { lawful = tt {0}; plan = tt {0}; told = tt {0} }
 class_good kernels at name (Some n) so_far state next e s h =
     h n (name, e) so_far (at_once so_far) state s
 
@@ -344,7 +344,7 @@ pub good_classed : (library : Library) (at : ℕ) (class : List ℕ) (so_far : H
     (state : State) (next : ℕ → Next) → Sound so_far state
     → ((n : ℕ) → IsClassOf library n → GoodNext so_far (next n))
     → Good so_far (classed library at class state next)
-good_classed OfKernel at class so_far state next s h = record { lawful = tt {0}; plan = tt {0} }
+good_classed OfKernel at class so_far state next s h = record { lawful = tt {0}; plan = tt {0}; told = tt {0} }
 good_classed (OfManager kernels) at class so_far state next s h =
     class_good kernels at class (kernels class) so_far state next refl s h
 
@@ -352,7 +352,7 @@ name_good : (plain : Bool) (at : ℕ) (name : List ℕ) {library : Library} (so_
     (state : State) (next : Next) → Sound so_far state → (IsTrue plain → GoodNext so_far next)
     → Good so_far (needs plain (E.BadPortName at) state next)
 name_good true at name so_far state next s h = h refl so_far (at_once so_far) state s
-name_good false at name so_far state next s h = record { lawful = tt {0}; plan = tt {0} }
+name_good false at name so_far state next s h = record { lawful = tt {0}; plan = tt {0}; told = tt {0} }
 
 pub good_named : (at : ℕ) (values : List Value) {library : Library} (so_far : History library)
     (state : State) (next : List ℕ → Next) → Sound so_far state
@@ -360,4 +360,4 @@ pub good_named : (at : ℕ) (values : List Value) {library : Library} (so_far : 
     → Good so_far (named at values state next)
 good_named at (V.Str name ∷ []) so_far state next s h =
     name_good (is_port_name name) at name so_far state (next name) s (h name)
-good_named at _ so_far state next s h = record { lawful = tt {0}; plan = tt {0} }
+good_named at _ so_far state next s h = record { lawful = tt {0}; plan = tt {0}; told = tt {0} }

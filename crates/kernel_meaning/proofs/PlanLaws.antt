@@ -80,7 +80,7 @@ use Rattle.kernel_meaning.specs.Plans.{
   dotted_plan,
 }
 use Rattle.kernel_meaning.specs.Signs.{sign_of}
-use Rattle.kernel_meaning.proofs.Kept.{History, IsHeld, Sound}
+use Rattle.kernel_meaning.proofs.Kept.{History, IsHeld, IsTold, Sound}
 use Rattle.kernel_meaning.proofs.Later.{Later, sound_later}
 use Rattle.kernel_meaning.proofs.Ways.{content_sound}
 
@@ -89,7 +89,7 @@ RowSound so_far (R.Gives value) = IsHeld so_far value
 RowSound so_far _ = Unit {0}
 
 abbrev pub PlanSound : {library : Library} → History library → OperandPlan → Type 0
-PlanSound so_far (Fault e) = Unit {0}
+PlanSound so_far (Fault e) = IsTold e
 PlanSound so_far (Reads row from count) = RowSound so_far row
 PlanSound so_far AddsKernel = Unit {0}
 

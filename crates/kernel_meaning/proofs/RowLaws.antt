@@ -44,7 +44,7 @@ use Rattle.kernel_meaning.specs.Typing.{typing}
 use Rattle.kernel_meaning.specs.Outcomes
 use Rattle.kernel_meaning.specs.StreamRows
 use Rattle.kernel_meaning.specs.Plans.{Library}
-use Rattle.kernel_meaning.proofs.Kept.{History, with_call, onto, IsHeld, AreHeld, Sound}
+use Rattle.kernel_meaning.proofs.Kept.{History, with_call, onto, IsHeld, AreHeld, IsTold, Sound}
 use Rattle.kernel_meaning.proofs.Later.{
   Later,
   at_once,
@@ -95,9 +95,10 @@ good_makes call t so_far state m e w l s =
 
 pub good_if : (test : Bool) (e : EvalError) {library : Library} (so_far : History library)
     (o : Outcome)
-    → (test ≡ true → GoodOutcome so_far o) → GoodOutcome so_far (Outcomes.where_so test e o)
-good_if true e so_far o h = h refl
-good_if false e so_far o h = record { holds = tt }
+    → IsTold e → (test ≡ true → GoodOutcome so_far o)
+    → GoodOutcome so_far (Outcomes.where_so test e o)
+good_if true e so_far o t h = h refl
+good_if false e so_far o t h = record { holds = t }
 
 -- Operations on streams and numbers.
 

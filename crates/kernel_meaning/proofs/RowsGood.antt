@@ -171,7 +171,7 @@ module _ {library : Library} (so_far : History library) (state : State)
 
   text_good : (at : ℕ) (text : List ℕ) → GoodOutcome so_far (HostRows.text_of at text state)
   text_good at text =
-      good_if _ _ so_far _ (λ e. given (V.Str text) (at_least (length text) 64 e))
+      good_if _ _ so_far _ tt (λ e. given (V.Str text) (at_least (length text) 64 e))
 
   texts_good : (sign : Sign) (at : ℕ) (a b : List ℕ)
       → GoodOutcome so_far (HostRows.texts_between sign at a b state)
@@ -239,7 +239,7 @@ module _ {library : Library} (so_far : History library) (state : State)
       (E.WrongKind at) (SignRows.operation_with at (SignRows.op_of sign)
       (StreamRows.first_stream (a ∷ b ∷ [])) (a ∷ b ∷ []) state))
   plain_good sign at a b v w =
-      good_if _ _ so_far _ (λ e. with_good at sign a b (StreamRows.first_stream (a ∷ b ∷ []))
+      good_if _ _ so_far _ tt (λ e. with_good at sign a b (StreamRows.first_stream (a ∷ b ∷ []))
       (λ u p. stream_width (a ∷ b ∷ []) u (v, (w, tt)) p) (v, (w, tt)))
 
   stream_good : (sign : Sign) (at : ℕ) (a b : Value) → IsHeld so_far a → IsHeld so_far b
@@ -271,7 +271,7 @@ module _ {library : Library} (so_far : History library) (state : State)
       → AreHeld so_far options →
       GoodOutcome so_far (StreamRows.mux_by at selector options u state)
   mux_by_good at (V.Stream n t feed) options (Some u) w v vs =
-      good_if _ _ so_far _ (λ e. operation_good at O.Mux (pos 0) u [] (V.Stream n t feed ∷ options)
+      good_if _ _ so_far _ tt (λ e. operation_good at O.Mux (pos 0) u [] (V.Stream n t feed ∷ options)
       so_far state (w u refl) (v, vs) s (may_mux (length options)))
   mux_by_good at _ options _ w v vs = record { holds = tt }
 
@@ -289,7 +289,7 @@ module _ {library : Library} (so_far : History library) (state : State)
       good_if (list_all StreamRows.is_operand (a ∷ b ∷ [])
       && not (is_none (StreamRows.first_stream (a ∷ b ∷ [])))) (E.WrongKind at) so_far
       (Outcomes.where_so (StreamRows.is_bit t) (E.Typing at TypesDiffer) chosen)
-      (λ e. good_if (StreamRows.is_bit t) (E.Typing at TypesDiffer) so_far chosen
+      tt (λ e. good_if (StreamRows.is_bit t) (E.Typing at TypesDiffer) so_far chosen tt
       (λ f. mux_good at (V.Stream n t feed ∷ b ∷ a ∷ []) (v.0, (v.1.1.0, (v.1.0, tt)))))
   choose_good at _ v = record { holds = tt }
 
@@ -410,7 +410,7 @@ module _ {library : Library} (so_far : History library) (state : State)
       } in
       good_if (nat_le (nested sizes) state.left) E.StepLimit so_far
       (Does [] (ArrayRows.first_of_all (new_array of sizes state.arrays).values) new)
-      (λ e. all_hold so_far [] (ArrayRows.first_of_all (new_array of sizes state.arrays).values) new
+      tt (λ e. all_hold so_far [] (ArrayRows.first_of_all (new_array of sizes state.arrays).values) new
       tt (first_sound _ g.values)
       (record {
         made = s.made;
@@ -443,7 +443,7 @@ module _ {library : Library} (so_far : History library) (state : State)
       → GoodOutcome so_far (TypeRows.of_width at n type state)
   of_width_good at (pos zero) type h = record { holds = tt }
   of_width_good at (pos (suc n)) type h =
-      good_if _ _ so_far _ (λ e. given (V.«Type» (type (suc n))) (let w = h (suc n) in let l =
+      good_if _ _ so_far _ tt (λ e. given (V.«Type» (type (suc n))) (let w = h (suc n) in let l =
       below n 128 e in (omega arith, omega arith)))
   of_width_good at (negsuc n) type h = record { holds = tt }
 
@@ -456,7 +456,7 @@ module _ {library : Library} (so_far : History library) (state : State)
   fix_of_good : (at : ℕ) (whole frac : ℤ) (signed : Bool)
       → GoodOutcome so_far (TypeRows.fix_of at whole frac signed state)
   fix_of_good at (pos whole) (pos frac) signed =
-      good_if _ _ so_far _ (λ e. given (V.«Type» (T.Fix whole frac signed)) (
+      good_if _ _ so_far _ tt (λ e. given (V.«Type» (T.Fix whole frac signed)) (
         at_least 1 (whole + frac) (both_left (nat_le 1 (whole + frac)) _ e),
         at_least (whole + frac)
             128 (both_right (nat_le 1 (whole + frac)) _ e),
@@ -494,11 +494,11 @@ module _ {library : Library} (so_far : History library) (state : State)
   input_good : (at : ℕ) (values : List Value) → AreHeld so_far values
       → GoodOutcome so_far (LibraryRows.input at values state)
   input_good at (V.Str name ∷ V.«Type» t ∷ []) v =
-      good_if _ _ so_far _ (λ e. good_makes (C.Input name t None) t so_far state
+      good_if _ _ so_far _ tt (λ e. good_makes (C.Input name t None) t so_far state
       (record { one = refl; no_bits = λ chain. refl }) refl v.1.0
       ((e, v.0), v.1.0, tt) s)
   input_good at (V.Str name ∷ V.«Type» t ∷ V.Stream c u feed ∷ []) v =
-      good_if _ _ so_far _ (λ b. good_if _ _ so_far _
+      good_if _ _ so_far _ tt (λ b. good_if _ _ so_far _ tt
       (λ e. good_makes (C.Input name t (Some c)) t so_far state
       (record { one = refl; no_bits = λ chain. refl }) refl v.1.0
       ((e, v.0), v.1.0, is_bit_good c u v.1.1.0.1 b) s))
@@ -513,11 +513,11 @@ module _ {library : Library} (so_far : History library) (state : State)
   output_good : (at : ℕ) (values : List Value) → AreHeld so_far values
       → GoodOutcome so_far (LibraryRows.output at values state)
   output_good at (V.Str name ∷ V.Stream n t feed ∷ V.«Type» u ∷ []) v =
-      good_if _ _ so_far _ (λ p. good_if _ _ so_far _
+      good_if _ _ so_far _ tt (λ p. good_if _ _ so_far _ tt
       (λ e. ends_good (C.Output name n None t) (record { one = refl; no_bits = λ chain. refl })
       ((e, v.0), v.1.0.1, tt, v.1.0.0)))
   output_good at (V.Str name ∷ V.Stream n t feed ∷ V.«Type» u ∷ V.Stream c w other ∷ []) v =
-      good_if _ _ so_far _ (λ p. good_if _ _ so_far _ (λ b. good_if _ _ so_far _ (λ e.
+      good_if _ _ so_far _ tt (λ p. good_if _ _ so_far _ tt (λ b. good_if _ _ so_far _ tt (λ e.
       ends_good (C.Output name n (Some c) t) (record { one = refl; no_bits = λ chain. refl })
       ((e, v.0), v.1.0.1, is_bit_good c w v.1.1.1.0.1 b, v.1.0.0))))
   output_good at _ v = record { holds = tt }
@@ -525,7 +525,7 @@ module _ {library : Library} (so_far : History library) (state : State)
   scalar_good : (at : ℕ) (values : List Value) → AreHeld so_far values
       → GoodOutcome so_far (LibraryRows.scalar at values state)
   scalar_good at (V.Str name ∷ V.«Type» t ∷ []) v =
-      good_if _ _ so_far _ (λ e. good_makes (C.Scalar name t) t so_far state
+      good_if _ _ so_far _ tt (λ e. good_makes (C.Scalar name t) t so_far state
       (record { one = refl; no_bits = λ chain. refl }) refl v.1.0 ((e, v.0), v.1.0) s)
   scalar_good at _ v = record { holds = tt }
 
@@ -548,7 +548,7 @@ module _ {library : Library} (so_far : History library) (state : State)
   offset_good : (at : ℕ) (values : List Value) → AreHeld so_far values
       → GoodOutcome so_far (LibraryRows.offset at values state)
   offset_good at (V.Stream n t feed ∷ V.Int k ∷ []) v =
-      good_if _ _ so_far _ (λ e. good_makes (C.Offset n k t) t so_far state
+      good_if _ _ so_far _ tt (λ e. good_makes (C.Offset n k t) t so_far state
       (record { one = refl; no_bits = λ chain. refl }) refl v.0.0
       (v.0.1, at_least (unsigned_abs k) 1048576 e, v.0.0) s)
   offset_good at _ v = record { holds = tt }
@@ -612,7 +612,7 @@ module _ {library : Library} (so_far : History library) (state : State)
             record { chain = chain; bits = d.bits } ∷ state.digits;
       } in
       good_if (nat_le bits 128) (E.Counter at (TooWide bits)) so_far (Does (call ∷ []) value new)
-      (λ e. all_hold so_far (call ∷ []) value new
+      tt (λ e. all_hold so_far (call ∷ []) value new
       ((m, i, subst (λ n. n + d.bits ≤ 128) (s.digits chain) (at_least bits 128 e)), tt) (
         digit_width d i,
         (
@@ -643,7 +643,7 @@ module _ {library : Library} (so_far : History library) (state : State)
   hold_good : (at : ℕ) (values : List Value) → AreHeld so_far values
       → GoodOutcome so_far (LibraryRows.hold at values state)
   hold_good at (V.Stream n t feed ∷ V.Stream m u other ∷ []) v =
-      good_if _ _ so_far _ (λ b. good_makes (C.Hold n m t) t so_far state
+      good_if _ _ so_far _ tt (λ b. good_makes (C.Hold n m t) t so_far state
       (record { one = refl; no_bits = λ chain. refl }) refl v.0.0
       (v.0.1, is_bit_good m u v.1.0.1 b, v.0.0) s)
   hold_good at _ v = record { holds = tt }
@@ -669,7 +669,7 @@ module _ {library : Library} (so_far : History library) (state : State)
       let l = one_later (C.Connect n m) so_far in
       good_if (same_type t u) (E.Typing at TypesDiffer) so_far
       (Does (C.Connect n m ∷ []) V.Nothing state)
-      (λ e. all_hold so_far (C.Connect n m ∷ []) V.Nothing state
+      tt (λ e. all_hold so_far (C.Connect n m ∷ []) V.Nothing state
       ((t, v.0.2 refl, subst (IsStream so_far.calls m) (sym (same_is t u e)) v.1.0.1), tt) tt
       (record {
         made = s.made ∙ sym (no_more (count_of so_far.calls));

@@ -1,12 +1,13 @@
 -- What a source builds can be carried out.
 use Rattle.std.proofs.Common.{◌≡◌, ℕ, ◌+◌, arith, suc, List, [], ◌∷◌, true, false, Ok, Err, Some, None, refl, sym, subst}
-use Rattle.std.specs.Prelude.{Option, Bool, IfOk, slice_get, if◌then◌else◌, not, ◌&&◌}
+use Rattle.std.specs.Prelude.{Option, Bool, Result, IfOk, slice_get, if◌then◌else◌, not, ◌&&◌}
 use Rattle.std.specs.Str.{bytes_eq}
 use Rattle.std.specs.Option.{option_map}
 use Rattle.std.proofs.lemmas.List.Elements.{All-nil, All-cons, All-weaker}
 use Rattle.std.proofs.lemmas.Result.{IfOk-weaker}
 use Rattle.kernel_calls.specs.Laws.{is_port_name}
 use Rattle.maxj_syntax.specs.Tree.{ClassTree}
+use Rattle.kernel_meaning.specs.declared.error.EvalError.{EvalError}
 use Rattle.kernel_meaning.specs.declared.error.EvalError.TheVariants as E
 use Rattle.kernel_meaning.specs.declared.plan.Made.{Made}
 use Rattle.kernel_meaning.specs.declared.plan.Plan.{Plan}
@@ -25,7 +26,7 @@ use Rattle.kernel_meaning.specs.Managers.{
 }
 use Rattle.kernel_meaning.specs.SoundPlans.{IsAdded, IsKernelClass, IsSoundPlan}
 use Rattle.kernel_meaning.proofs.Kept.{IsClassOf, IsManaged}
-use Rattle.kernel_meaning.proofs.WholeRun.{managed_plan}
+use Rattle.kernel_meaning.proofs.WholeRun.{managed_plan, managed_told}
 
 further : (n k : ℕ) → n + suc k ≡ suc n + k
 further n k = omega arith
@@ -146,3 +147,33 @@ planned_sound classes (Some manager) =
 
 pub source_sound : (classes : List ClassTree) → IfOk (source_plan classes) (IsSoundPlan classes)
 source_sound classes = planned_sound classes (manager_of classes)
+
+-- no source is refused for want of memory
+
+one_told : (plain : Bool) (class : ClassTree) (plan : Plan)
+    → (if plain then Ok plan else Err (E.BadPortName (class_place class))) ≡ Err E.NoMemory → ⊥
+one_told true class plan e = absurd (cc)
+one_told false class plan e = absurd (cc)
+
+alone_told : (number : ℕ) (classes : List ClassTree) → alone_from number classes ≡ Err E.NoMemory
+    → ⊥
+alone_told number [] e = absurd (cc)
+alone_told number (class ∷ classes) e =
+    by_manager class.manager (one_told (is_port_name class.name) class (alone_of number class))
+    (alone_told (suc number) classes) e
+  where
+    by_manager : (manager : Bool) {kernel others : Result Plan EvalError}
+        → (kernel ≡ Err E.NoMemory → ⊥) → (others ≡ Err E.NoMemory → ⊥)
+        → (if manager then others else kernel) ≡ Err E.NoMemory → ⊥
+    by_manager true first second e = second e
+    by_manager false first second e = first e
+
+planned_told : (classes : List ClassTree) (manager : Option ClassTree)
+    → plan_by classes manager ≡ Err E.NoMemory → ⊥
+planned_told classes None = alone_told 0 classes
+planned_told classes (Some manager) =
+    managed_told (kernel_number classes) (members_of manager.tree) step_limit
+    (ctor_of (members_of manager.tree))
+
+pub source_told : (classes : List ClassTree) → source_plan classes ≡ Err E.NoMemory → ⊥
+source_told classes = planned_told classes (manager_of classes)

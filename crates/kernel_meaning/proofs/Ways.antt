@@ -83,9 +83,9 @@ pub good_picked : (at : ℕ) (value : Value) {library : Library} (so_far : Histo
     (state : State) (next : Then)
     → IsHeld so_far value → Sound so_far state → GoodThen so_far next
     → Good so_far (picked at value state next)
-good_picked at V.Nothing so_far state next v s h = record { lawful = tt {0}; plan = tt {0} }
+good_picked at V.Nothing so_far state next v s h = record { lawful = tt {0}; plan = tt {0}; told = tt {0} }
 good_picked at (V.Literal negative digits tens) so_far state next v s h =
-    record { lawful = tt {0}; plan = tt {0} }
+    record { lawful = tt {0}; plan = tt {0}; told = tt {0} }
 good_picked at value so_far state next v s h = h so_far (at_once so_far) value state v s
 
 pub good_parted : (at : ℕ) (value : Value) {library : Library} (so_far : History library)
@@ -94,7 +94,7 @@ pub good_parted : (at : ℕ) (value : Value) {library : Library} (so_far : Histo
     → Sound so_far state → GoodNext so_far first_way → GoodNext so_far second_way
     → GoodThen so_far stream → Good so_far (parted at value state first_way second_way stream)
 good_parted at V.Nothing so_far state first_way second_way stream v s y n h =
-    record { lawful = tt {0}; plan = tt {0} }
+    record { lawful = tt {0}; plan = tt {0}; told = tt {0} }
 good_parted at (V.Flag true) so_far state first_way second_way stream v s y n h =
     y so_far (at_once so_far) state s
 good_parted at (V.Flag false) so_far state first_way second_way stream v s y n h =
@@ -102,7 +102,7 @@ good_parted at (V.Flag false) so_far state first_way second_way stream v s y n h
 good_parted at (V.Stream k t feed) so_far state first_way second_way stream v s y n h =
     h so_far (at_once so_far) (V.Stream k t feed) state v s
 good_parted at _ so_far state first_way second_way stream v s y n h =
-    record { lawful = tt {0}; plan = tt {0} }
+    record { lawful = tt {0}; plan = tt {0}; told = tt {0} }
 
 pub good_first : (either : Bool) (at : ℕ) (value : Value) {library : Library}
     (so_far : History library) (state : State)
@@ -114,15 +114,15 @@ good_first true at (V.Flag false) so_far state next second s h n = n so_far (at_
 good_first false at (V.Flag true) so_far state next second s h n = n so_far (at_once so_far) state s
 good_first false at (V.Flag false) so_far state next second s h n =
     h so_far (at_once so_far) (V.Flag false) state tt s
-good_first true at _ so_far state next second s h n = record { lawful = tt {0}; plan = tt {0} }
-good_first false at _ so_far state next second s h n = record { lawful = tt {0}; plan = tt {0} }
+good_first true at _ so_far state next second s h n = record { lawful = tt {0}; plan = tt {0}; told = tt {0} }
+good_first false at _ so_far state next second s h n = record { lawful = tt {0}; plan = tt {0}; told = tt {0} }
 
 pub good_flag : (at : ℕ) (value : Value) {library : Library} (so_far : History library)
     (state : State) (next : Then)
     → Sound so_far state → GoodThen so_far next → Good so_far (flag_alone at value state next)
 good_flag at (V.Flag b) so_far state next s h = h so_far (at_once so_far) (V.Flag b) state tt s
-good_flag at V.Nothing so_far state next s h = record { lawful = tt {0}; plan = tt {0} }
-good_flag at _ so_far state next s h = record { lawful = tt {0}; plan = tt {0} }
+good_flag at V.Nothing so_far state next s h = record { lawful = tt {0}; plan = tt {0}; told = tt {0} }
+good_flag at _ so_far state next s h = record { lawful = tt {0}; plan = tt {0}; told = tt {0} }
 
 pub good_formed : (form : Form) {library : Library} (so_far : History library) (state : State)
     (choose : Next)
@@ -162,7 +162,7 @@ pub good_turns : (condition : State → Then → Answer) (body : State → Next 
     → Good so_far (turns condition body at more state next)
 unfolding turns
 good_turns condition body at zero so_far state next c b s h =
-    record { lawful = tt {0}; plan = tt {0} }
+    record { lawful = tt {0}; plan = tt {0}; told = tt {0} }
 good_turns condition body at (suc more) so_far state next c b s h =
     c so_far (at_once so_far) state _ s (λ after l value state2 v s2.
     good_chosen at value after state2 _ _ s2
@@ -291,9 +291,9 @@ good_stored : (at : ℕ) (of : Option Declared) (spot : Spot) (value : Value) {l
     (so_far : History library)
     (state : State) (next : Next) → IsHeld so_far value → Sound so_far state → GoodNext so_far next
     → Good so_far (stored_at at of spot value state next)
-good_stored at None spot value so_far state next v s h = record { lawful = tt {0}; plan = tt {0} }
+good_stored at None spot value so_far state next v s h = record { lawful = tt {0}; plan = tt {0}; told = tt {0} }
 good_stored at (Some of) spot value so_far state next v s h =
-    good_needs _ _ so_far state _ s (λ later l state2 s2.
+    good_needs _ _ so_far state _ tt s (λ later l state2 s2.
     h later l (with_content spot value state2)
     (stored_sound later spot value state2 (sound_later so_far later value l v) s2))
 
@@ -309,19 +309,19 @@ pub good_spot : (at : ℕ) (array index : Value) {library : Library} (so_far : H
     (next : Spot → Next) → Sound so_far state → ((spot : Spot) → GoodNext so_far (next spot))
     → Good so_far (spot_in at array index state next)
 good_spot at (V.Array n of) (V.Int (pos place)) so_far state next s h =
-    good_needs _ _ so_far state _ s (h (Element n place of))
+    good_needs _ _ so_far state _ tt s (h (Element n place of))
 good_spot at (V.Array n of) (V.Int (negsuc place)) so_far state next s h =
-    record { lawful = tt {0}; plan = tt {0} }
-good_spot at _ _ so_far state next s h = record { lawful = tt {0}; plan = tt {0} }
+    record { lawful = tt {0}; plan = tt {0}; told = tt {0} }
+good_spot at _ _ so_far state next s h = record { lawful = tt {0}; plan = tt {0}; told = tt {0} }
 
 pub good_introduced : (at : ℕ) (name : List ℕ) (of : Result Declared ℕ) {library : Library}
     (so_far : History library)
     (state : State) (next : Declared → Next) → Sound so_far state
     → ((of : Declared) → GoodNext so_far (next of)) → Good so_far (introduced at name of state next)
 good_introduced at name (Err place) so_far state next s h =
-    record { lawful = tt {0}; plan = tt {0} }
+    record { lawful = tt {0}; plan = tt {0}; told = tt {0} }
 good_introduced at name (Ok of) so_far state next s h =
-    good_needs _ _ so_far state _ s (λ later l state2 s2.
+    good_needs _ _ so_far state _ tt s (λ later l state2 s2.
     h of later l (record state2 { variables = declared name of state2.variables })
     (with_vars later state2 (declared name of state2.variables) (tt, s2.variables) s2))
 
@@ -329,16 +329,16 @@ pub good_back : (at : ℕ) (of : Option Declared) (value : Value) {library : Lib
     (so_far : History library) (state : State)
     (back : Then) → IsHeld so_far value → Sound so_far state → GoodThen so_far back
     → Good so_far (given_back at of value state back)
-good_back at None value so_far state back v s h = record { lawful = tt {0}; plan = tt {0} }
+good_back at None value so_far state back v s h = record { lawful = tt {0}; plan = tt {0}; told = tt {0} }
 good_back at (Some of) value so_far state back v s h =
-    good_needs _ _ so_far state _ s (λ later l state2 s2.
+    good_needs _ _ so_far state _ tt s (λ later l state2 s2.
     h later l value state2 (sound_later so_far later value l v) s2)
 
 pub good_typed : (of : Result Declared ℕ) {library : Library} (so_far : History library)
     (state : State)
     (next : Declared → Next) → Sound so_far state → ((of : Declared) → GoodNext so_far (next of))
     → Good so_far (typed of state next)
-good_typed (Err at) so_far state next s h = record { lawful = tt {0}; plan = tt {0} }
+good_typed (Err at) so_far state next s h = record { lawful = tt {0}; plan = tt {0}; told = tt {0} }
 good_typed (Ok of) so_far state next s h = h of so_far (at_once so_far) state s
 
 -- Braces.
@@ -370,10 +370,10 @@ good_braces_by : (at : ℕ) (of : Option Declared) (count : ℕ) {library : Libr
     (so_far : History library) (state : State)
     (next : Declared → Next) → Sound so_far state → ((of : Declared) → GoodNext so_far (next of))
     → Good so_far (braces_by at of count state next)
-good_braces_by at None count so_far state next s h = record { lawful = tt {0}; plan = tt {0} }
+good_braces_by at None count so_far state next s h = record { lawful = tt {0}; plan = tt {0}; told = tt {0} }
 good_braces_by at (Some inner) count so_far state next s h =
-    good_needs (nat_le count 65536) (E.ArrayRange at) so_far state _ s
-    (λ later l state2 s2. good_needs (nat_le count state2.left) E.StepLimit later state2 _ s2
+    good_needs (nat_le count 65536) (E.ArrayRange at) so_far state _ tt s
+    (λ later l state2 s2. good_needs (nat_le count state2.left) E.StepLimit later state2 _ tt s2
     (λ after m state3 s3.
     h inner after (and_later so_far later after l m) (record state3 { left = state3.left - count })
     (with_left after state3 (state3.left - count) s3)))

@@ -1,5 +1,6 @@
 -- Each call of a run may come after those before it, and a manager's plan can be carried out.
 use Rattle.std.proofs.Common.{
+  ◌≡◌,
   ℕ,
   zero,
   suc,
@@ -8,6 +9,7 @@ use Rattle.std.proofs.Common.{
   ◌∷◌,
   ◌++◌,
   refl,
+  subst,
   true,
   false,
   Ok,
@@ -34,7 +36,19 @@ use Rattle.kernel_meaning.specs.declared.error.EvalError.TheVariants as E
 use Rattle.kernel_meaning.specs.Names.{bound_in, is_mute, mute_place}
 use Rattle.kernel_meaning.specs.Values.{declared_by, has_kind}
 use Rattle.kernel_meaning.specs.Arrays.{content, with_content}
-use Rattle.kernel_meaning.specs.Answer.{Answer, Finished, Refused, Then, Next, leave, back_in, calls_of, plan_at_end}
+use Rattle.kernel_meaning.specs.Answer.{
+  Answer,
+  Finished,
+  Refused,
+  Calls,
+  Then,
+  Next,
+  leave,
+  back_in,
+  calls_of,
+  end_of,
+  plan_at_end,
+}
 use Rattle.kernel_meaning.specs.Rows.{row_of}
 use Rattle.kernel_meaning.specs.Plans.{OperandPlan, Fault, Reads, plan_of, number_of_trees}
 use Rattle.kernel_meaning.specs.Methods.{
@@ -82,7 +96,19 @@ use Rattle.kernel_meaning.specs.Constructors.{
 use Rattle.kernel_calls.specs.Laws.{AreLawful}
 use Rattle.kernel_meaning.specs.Sound.{IsSound, AreSound}
 use Rattle.kernel_meaning.specs.declared.plan.Plan.{Plan}
-use Rattle.kernel_meaning.proofs.Kept.{IsManaged, IsFollowed, EndsWell, History, IsHeld, AreHeld, AreBound, Sound, Good}
+use Rattle.kernel_meaning.proofs.Kept.{
+  IsManaged,
+  IsFollowed,
+  EndsWell,
+  History,
+  IsHeld,
+  AreHeld,
+  AreBound,
+  IsTold,
+  EndsTold,
+  Sound,
+  Good,
+}
 use Rattle.kernel_meaning.proofs.Later.{
   Later,
   at_once,
@@ -153,7 +179,8 @@ good_planned : (plan : OperandPlan) {library : Library} (so_far : History librar
     (add : Next) → PlanOk so_far plan → Sound so_far state
     → ((row : Row) (from count : ℕ) → RowSound so_far row → GoodNext so_far (next row from count))
     → GoodNext so_far add → Good so_far (planned plan state next add)
-good_planned (Fault e) so_far state next add p s h k = record { lawful = tt {0}; plan = tt {0} }
+good_planned (Fault e) so_far state next add p s h k =
+    record { lawful = tt {0}; plan = tt {0}; told = p.sound }
 good_planned (Reads row from count) so_far state next add p s h k =
     h row from count p.sound so_far (at_once so_far) state s
 good_planned AddsKernel so_far state next add p s h k = k so_far (at_once so_far) state s
@@ -177,7 +204,7 @@ module _ (here : Place) (g : GoodCall here.library here.call) where
     good_expr (Node kind word span trees) so_far state next s h =
         good_decided (is_mute state (Node kind word span trees)) so_far state
         (λ state. Refused (E.UnknownName (mute_place (Node kind word span trees)))) _ s
-        (λ _ _ _ _. record { lawful = tt {0}; plan = tt {0} }) (λ c1 l1 state1 s1.
+        (λ _ _ _ _. record { lawful = tt {0}; plan = tt {0}; told = tt {0} }) (λ c1 l1 state1 s1.
         good_counted c1 state1 _ s1 (λ c2 l2 state2 s2.
         let m2 = and_later so_far c1 c2 l1 l2 in
         good_formed (form_of kind word) c2 state2 _ _ _ s2
@@ -208,7 +235,7 @@ module _ (here : Place) (g : GoodCall here.library here.call) where
         let m2 = and_later so_far c1 c2 l1 l2 in
         good_decided (is_settings here word) c2 state2 _ _ s2
         (λ c3 l3 state3 s3. good_counted c3 state3 _ s3 (λ c4 l4 state4 s4.
-        good_needs _ _ c4 state4 _ s4 (λ c5 l5 state5 s5.
+        good_needs _ _ c4 state4 _ tt s4 (λ c5 l5 state5 s5.
         good_operands inner.from 0 1 names [] c5 state5 _ tt s5 (λ c6 l6 found state6 v6 s6.
         good_named inner.from found c6 state6 _ s6 (λ name plain c7 l7 state7 s7.
         let m5 = and_later c3 c4 c5 l4 l5 in
@@ -222,17 +249,17 @@ module _ (here : Place) (g : GoodCall here.library here.call) where
         (λ c3 l3 state3 s3.
         good_operands span.from 0 (suc (number_of_trees trees))
         (Cons (Node N.Call word inner names) trees) [] c3 state3 _ tt s3
-        (λ _ _ _ _ _ _. record { lawful = tt {0}; plan = tt {0} }))))
+        (λ _ _ _ _ _ _. record { lawful = tt {0}; plan = tt {0}; told = tt {0} }))))
     good_added at (Cons (Node N.New class span Nil) Nil) so_far state next s h =
         good_counted so_far state _ s (λ c1 l1 state1 s1.
         good_classed here.library span.from class c1 state1 _ s1 (λ _ _ _ _ _ _.
-        record { lawful = tt {0}; plan = tt {0} }))
+        record { lawful = tt {0}; plan = tt {0}; told = tt {0} }))
     good_added at (Cons (Node N.New class span trees) Nil) so_far state next s h =
         good_counted so_far state _ s (λ c1 l1 state1 s1.
         good_classed here.library span.from class c1 state1 _ s1 (λ number _ c2 l2 state2 s2.
         good_operands span.from 0 (number_of_trees trees) trees [] c2 state2 _ tt s2
-        (λ _ _ _ _ _ _. record { lawful = tt {0}; plan = tt {0} })))
-    good_added at _ so_far state next s h = record { lawful = tt {0}; plan = tt {0} }
+        (λ _ _ _ _ _ _. record { lawful = tt {0}; plan = tt {0}; told = tt {0} })))
+    good_added at _ so_far state next s h = record { lawful = tt {0}; plan = tt {0}; told = tt {0} }
 
     pub good_operands : (at from count : ℕ) (ts : Trees) (values : List Value)
         (so_far : History here.library)
@@ -280,7 +307,7 @@ module _ (here : Place) (g : GoodCall here.library here.call) where
         (sound_later c2 c6 v2 m2 w2, (sound_later c4 c6 a4 m4 w4, (w6, tt))))
         (then_later so_far c6 next (and_later so_far c2 c6 (and_later so_far c1 c2 l1 l2) m2)
         h)))))))
-    good_choice at _ so_far state next s h = record { lawful = tt {0}; plan = tt {0} }
+    good_choice at _ so_far state next s h = record { lawful = tt {0}; plan = tt {0}; told = tt {0} }
 
     pub good_short : (either : Bool) (at : ℕ) (ts : Trees) (so_far : History here.library)
         (state : State)
@@ -295,7 +322,7 @@ module _ (here : Place) (g : GoodCall here.library here.call) where
         good_flag at v3 c3 state3 next s3
         (then_later so_far c3 next (and_later so_far c2 c3 (and_later so_far c1 c2 l1 l2) l3)
         h))))
-    good_short either at _ so_far state next s h = record { lawful = tt {0}; plan = tt {0} }
+    good_short either at _ so_far state next s h = record { lawful = tt {0}; plan = tt {0}; told = tt {0} }
 
   -- where the value of an assignment goes
   mutual
@@ -305,7 +332,7 @@ module _ (here : Place) (g : GoodCall here.library here.call) where
         (next : Spot → Next)
         → Sound so_far state → GoodSpot so_far next → Good so_far (target here user t state next)
     good_where user (Node N.Name name span ts) so_far state next s h =
-        good_needs _ _ so_far state _ s (λ c l state1 s1. h c l (Variable name) state1 s1)
+        good_needs _ _ so_far state _ tt s (λ c l state1 s1. h c l (Variable name) state1 s1)
     good_where user (Node N.Index word span (Cons base (Cons index Nil))) so_far state next s h =
         good_where user base so_far state _ s
         (λ c1 l1 outer state1 s1. good_used user (content outer state1) c1 state1 _
@@ -316,7 +343,7 @@ module _ (here : Place) (g : GoodCall here.library here.call) where
         good_spot user array v4 c4 state4 next s4
         (λ place c5 l5 state5 s5. h c5 (and_later so_far c4 c5 m l5) place state5 s5)))))
     good_where user (Node _ word span ts) so_far state next s h =
-        record { lawful = tt {0}; plan = tt {0} }
+        record { lawful = tt {0}; plan = tt {0}; told = tt {0} }
 
   mutual
     unfolding expr
@@ -339,7 +366,7 @@ module _ (here : Place) (g : GoodCall here.library here.call) where
         good_expr (Node kind word span parts) so_far state _ s
         (λ c1 l1 value state1 v1 s1.
         good_used at value c1 state1 _ v1 s1 (λ c2 l2 value2 state2 v2 s2.
-        good_needs _ _ c2 state2 _ s2 (λ c3 l3 state3 s3.
+        good_needs _ _ c2 state2 _ tt s2 (λ c3 l3 state3 s3.
         let m = and_later so_far c2 c3 (and_later so_far c1 c2 l1 l2) l3 in
         good_inits at of ts (values ++ value2 ∷ []) c3 state3 next
         (more_sound c3 values value2 (all_later so_far c3 values m v)
@@ -361,7 +388,7 @@ module _ (here : Place) (g : GoodCall here.library here.call) where
       good_expr (Node kind word span parts) so_far state _ s
       (λ c1 l1 value state1 v1 s1.
       good_used user value c1 state1 _ v1 s1 (λ c2 l2 value2 state2 v2 s2.
-      good_needs _ _ c2 state2 _ s2 (λ c3 l3 state3 s3.
+      good_needs _ _ c2 state2 _ tt s2 (λ c3 l3 state3 s3.
       h c3 (and_later so_far c2 c3 (and_later so_far c1 c2 l1 l2) l3)
       (with_content place value2 state3)
       (stored_sound c3 place value2 state3 (sound_later c2 c3 value2 l3 v2) s3))))
@@ -471,7 +498,7 @@ module _ (here : Place) (g : GoodCall here.library here.call) where
         (leave (length state1.variables) state3)
         (left_block c2 (length state1.variables) state3 s3))))
     good_exec (Node _ word span ts) so_far state next back s h b =
-        record { lawful = tt {0}; plan = tt {0} }
+        record { lawful = tt {0}; plan = tt {0}; told = tt {0} }
 
     pub good_block : (count : ℕ) (ts : Trees) (so_far : History here.library) (state : State)
         (next : Next)
@@ -508,7 +535,7 @@ module _ (here : Place) (g : GoodCall here.library here.call) where
   good_body (Node N.Block word span ts) so_far state next back s h b =
       good_block 0 ts so_far state next back s h b
   good_body (Node _ word span ts) so_far state next back s h b =
-      record { lawful = tt {0}; plan = tt {0} }
+      record { lawful = tt {0}; plan = tt {0}; told = tt {0} }
 
   pub good_fields : (ms : Trees) (so_far : History here.library) (state : State) (next : Next)
       → Sound so_far state → GoodNext so_far next → Good so_far (set_fields here ms state next)
@@ -525,11 +552,11 @@ module _ (here : Place) (g : GoodCall here.library here.call) where
 
 abbrev pub OkBound : {library : Library} → History library → Result (List Binding) EvalError
     → Type 0
-OkBound so_far (Err e) = Unit {0}
+OkBound so_far (Err e) = IsTold e
 OkBound so_far (Ok variables) = AreBound so_far variables
 
 abbrev pub OkBody : {library : Library} → History library → Result Body EvalError → Type 0
-OkBody so_far (Err e) = Unit {0}
+OkBody so_far (Err e) = IsTold e
 OkBody so_far (Ok body) = AreBound so_far body.variables
 
 if_bound : {library : Library} (so_far : History library) (b : Bool)
@@ -555,7 +582,7 @@ body_good : {library : Library} (so_far : History library) (wanted : Option Decl
     (trees : Trees)
     (values : List Value) (r : Result (List Binding) EvalError) → OkBound so_far r
     → AreHeld so_far values → OkBody so_far (body_by wanted user trees values r)
-body_good so_far wanted user trees values (Err e) h v = tt
+body_good so_far wanted user trees values (Err e) h v = h
 body_good so_far wanted user (Cons block Nil) [] (Ok variables) h v = h
 body_good so_far wanted user (Cons (Node kind name span (Cons type Nil)) trees) (value ∷ values)
     (Ok variables) h v =
@@ -584,7 +611,8 @@ called_good : {library : Library} (so_far : History library) (run : Body → Sta
     (state : State) (next : Then) → OkBody so_far r
     → ((body : Body) → AreBound so_far body.variables → Good so_far (run body state next))
     → Good so_far (called run r state next)
-called_good so_far run (Err e) state next b h = record { lawful = tt {0}; plan = tt {0} }
+called_good so_far run (Err e) state next b h =
+    record { lawful = tt {0}; plan = tt {0}; told = b }
 called_good so_far run (Ok body) state next b h = h body b
 
 run_good : (here : Place) (body : Body) (so_far : History here.library) (state : State)
@@ -607,7 +635,7 @@ pub good_call : (library : Library) (members : Trees) (deeper : ℕ)
 unfolding call_to
 good_call library members zero name at values so_far state next v s h =
     called_good so_far _ _ state next (entered_good so_far at values (method_of name members) v)
-    (λ body b. record { lawful = tt {0}; plan = tt {0} })
+    (λ body b. record { lawful = tt {0}; plan = tt {0}; told = tt {0} })
 good_call library members (suc deeper) name at values so_far state next v s h =
     called_good so_far _ _ state next (entered_good so_far at values (method_of name members) v)
     (λ body b. run_good (in_class library members (call_to library members deeper)) body so_far
@@ -646,12 +674,14 @@ finished_good : {library : Library} (so_far : History library) (state : State)
 finished_good {library = library} so_far state s = record {
   lawful = tt;
   plan = finished_by library so_far.plan state.plan s.plan;
+  told = tt;
 }
 
 built_good : (here : Place) (members : Trees) (r : Result Body EvalError)
     (so_far : History here.library) (state : State) → GoodCall here.library here.call
     → OkBody so_far r → Sound so_far state → Good so_far (built_by here members r state)
-built_good here members (Err e) so_far state g b s = record { lawful = tt {0}; plan = tt {0} }
+built_good here members (Err e) so_far state g b s =
+    record { lawful = tt {0}; plan = tt {0}; told = b }
 built_good here members (Ok body) so_far state g b s =
     good_fields here g members so_far state _ s (λ later l state2 s2.
     good_body here g body.block later (record state2 { variables = body.variables }) _ _
@@ -694,11 +724,11 @@ first_held (OfManager kernels) = tt
 run_of_good : (library : Library) (members : Trees) (args : List Value) (steps : ℕ)
     (ctor : Option (ℕ × Trees)) → AreHeld (begun library) args
     → Good (begun library) (run_of library members args steps ctor)
-run_of_good library members args steps None v = record { lawful = tt {0}; plan = tt {0} }
+run_of_good library members args steps None v = record { lawful = tt {0}; plan = tt {0}; told = tt {0} }
 run_of_good library members args steps (Some ctor) v =
     let values : List Value = first_argument library ∷ args in
     let first = begun library in
-    good_needs _ _ first (start library members steps) _ (started library members steps)
+    good_needs _ _ first (start library members steps) _ tt (started library members steps)
     (λ later l state s. built_good (in_constructor library members) members
     (body_by None ctor.0 ctor.1 values (Ok [])) later state (good_call library members 64)
     (body_good later None ctor.0 ctor.1 values (Ok []) tt (
@@ -725,6 +755,38 @@ unfolding begun
 all_lawful class args v =
     (run_of_good OfKernel (members_of class.tree) args 1000000
     (ctor_of (members_of class.tree)) (held (begun OfKernel) args v)).lawful
+
+-- a run that ends so isn't refused for want of memory
+ends_otherwise : (answer : Answer) → EndsTold answer → end_of answer ≡ Err E.NoMemory → ⊥
+ends_otherwise (Finished state) t e = absurd (cc)
+ends_otherwise (Refused fault) t e =
+    let same : fault ≡ E.NoMemory = cc in
+    subst IsTold same t
+ends_otherwise (Calls call answer) t e = ends_otherwise answer t e
+
+plans_otherwise : (answer : Answer) → EndsTold answer → plan_at_end answer ≡ Err E.NoMemory → ⊥
+plans_otherwise (Finished state) t e = absurd (cc)
+plans_otherwise (Refused fault) t e =
+    let same : fault ≡ E.NoMemory = cc in
+    subst IsTold same t
+plans_otherwise (Calls call answer) t e = plans_otherwise answer t e
+
+-- the building run of a class isn't refused for want of memory
+pub all_told : (class : ClassTree) (args : List Value) → AreSound [] args
+    → end_of (building_run class args) ≡ Err E.NoMemory → ⊥
+unfolding begun
+all_told class args v =
+    ends_otherwise (building_run class args)
+    (run_of_good OfKernel (members_of class.tree) args 1000000
+    (ctor_of (members_of class.tree)) (held (begun OfKernel) args v)).told
+
+-- nor is a manager's
+pub managed_told : (kernels : List ℕ → Option ℕ) (members : Trees) (steps : ℕ)
+    (ctor : Option (ℕ × Trees))
+    → plan_at_end (run_of (OfManager kernels) members [] steps ctor) ≡ Err E.NoMemory → ⊥
+managed_told kernels members steps ctor =
+    plans_otherwise (run_of (OfManager kernels) members [] steps ctor)
+    (run_of_good (OfManager kernels) members [] steps ctor tt).told
 
 -- where a manager's run ends, its plan can be carried out with classes that it may add
 pub managed_plan : (kernels : List ℕ → Option ℕ) (members : Trees) (steps : ℕ)

@@ -1,12 +1,13 @@
 // What holds of every building run.
-ghost use Rattle.std.specs.Prelude.{List, [], IfOk};
+ghost use Rattle.std.specs.Prelude.{◌≡◌, List, [], Err, IfOk};
 ghost use Rattle.maxj_syntax.specs.Tree.{ClassTree};
 ghost use Rattle.kernel_calls.specs.Laws.{AreLawful};
-ghost use Rattle.kernel_meaning.specs.Answer.{calls_of};
+ghost use Rattle.kernel_meaning.specs.Answer.{calls_of, end_of};
 ghost use Rattle.kernel_meaning.specs.Constructors.{building_run};
 ghost use Rattle.kernel_meaning.specs.Managers.{source_plan};
 ghost use Rattle.kernel_meaning.specs.Sound.{AreSound};
 ghost use Rattle.kernel_meaning.specs.SoundPlans.{IsSoundPlan};
+ghost use Rattle.kernel_meaning.specs.declared.error.EvalError.TheVariants as E;
 ghost use Rattle.kernel_meaning.specs.declared.value.Value.{Value};
 
 /// Each call of a building run may come after those before it: it speaks of nodes that were made, of
@@ -23,4 +24,18 @@ pub fn lawful()
 #[tactic(auto, using(crate::proofs::SourcePlans::source_sound))]
 pub fn plans_are_sound()
     ensures { (classes : List ClassTree) → IfOk (source_plan classes) (IsSoundPlan classes) }
+{}
+
+/// No building run is refused for want of memory: that is a want of the program that carries the run
+/// out, and never a source's.
+#[tactic(auto, using(crate::proofs::WholeRun::all_told))]
+pub fn runs_never_want_memory()
+    ensures { (class : ClassTree) (args : List Value) → AreSound [] args
+        → end_of (building_run class args) ≡ Err E.NoMemory → ⊥ }
+{}
+
+/// Nor is a source refused for it, by its manager or without one.
+#[tactic(auto, using(crate::proofs::SourcePlans::source_told))]
+pub fn plans_never_want_memory()
+    ensures { (classes : List ClassTree) → source_plan classes ≡ Err E.NoMemory → ⊥ }
 {}

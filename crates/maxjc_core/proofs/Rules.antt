@@ -97,7 +97,7 @@ joins-kept plan kernels _ m (Refuses.kernel_loop names few known once hosts type
 -- a kernel that is built isn't lacking
 kernel-kept : (classes : List ClassTree) (made : Made) (kernel : Kernel) (error : ProjectError)
     → IsKernelFor classes made kernel → LacksKernel classes made error → ⊥
-kernel-kept classes made kernel _ is (LacksKernel.run class error found memory ends) =
+kernel-kept classes made kernel _ is (LacksKernel.run class error found ends) =
     let same : class ≡ is.class = same_Some class is.class (sym found ∙ is.found) in
     let both = sym (subst (λ c. end_of (run_for c made) ≡ Err error) same ends) ∙ is.built.ends in
     absurd (cc)
@@ -115,7 +115,7 @@ kernels-kept classes mades kernels error are one =
 
 pub not-lacking : (classes : List ClassTree) (project : Project) (error : ProjectError)
     → IsProjectOf classes project → LacksProject classes error → ⊥
-not-lacking classes project _ is (LacksProject.plan error memory refused) =
+not-lacking classes project _ is (LacksProject.plan error refused) =
     let both = sym refused ∙ is.planned in
     absurd (cc)
 not-lacking classes project error is (LacksProject.kernel plan planned one) =

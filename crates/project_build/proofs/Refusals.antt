@@ -40,7 +40,7 @@ run_refused : (classes : List ClassTree) (made : Made) (class : ClassTree) (name
     → MayLackKernel classes made (of_run error)
 run_refused classes made class name E.NoMemory found h = inl refl
 run_refused classes made class name error found h =
-    inr (LacksKernel.run class error found (λ e. absurd (cc)) h)
+    inr (LacksKernel.run class error found h)
 
 pub run_lacks : (classes : List ClassTree) (made : Made) (class : ClassTree) (args : List Arg)
     (name : List ℕ) (told : BuildError) (error : EvalError) → IsClassFor classes made class
@@ -96,7 +96,7 @@ kernels_lack classes plan mades error planned e (inr lacks) =
 pub plan_lacks : (classes : List ClassTree) (error : EvalError)
     → IsAnswer (source_plan classes) (Err error) → MayLackProject classes (of_plan error)
 plan_lacks classes E.NoMemory h = inl refl
-plan_lacks classes error h = inr (LacksProject.plan error (λ e. absurd (cc)) h)
+plan_lacks classes error h = inr (LacksProject.plan error h)
 
 pub links_lack : (classes : List ClassTree) (plan : Plan) (kernels : List Kernel)
     (error : LinkError) → source_plan classes ≡ Ok plan

@@ -2,7 +2,6 @@
 -- its run and then what the run makes, and of the rules of joins.
 use Rattle.std.specs.Prelude.{◌≡◌, ◌⊎◌, ℕ, true, List, Some, Ok, Err, take, slice_get}
 use Rattle.kernel_meaning.specs.declared.error.EvalError.{EvalError}
-use Rattle.kernel_meaning.specs.declared.error.EvalError.TheVariants as E
 use Rattle.kernel_meaning.specs.declared.plan.Made.{Made}
 use Rattle.kernel_meaning.specs.declared.plan.Plan.{Plan}
 use Rattle.kernel_meaning.specs.Answer.{calls_of, end_of}
@@ -27,8 +26,7 @@ use Rattle.stream_graph.specs.Kernels.{Refuses}
 -- rule of kernels, the first in their order
 pub data LacksKernel (classes : List ClassTree) (made : Made) : ProjectError → Type 0 where
   run : (class : ClassTree) (error : EvalError) → IsClassFor classes made class
-      → (error ≡ E.NoMemory → ⊥) → end_of (run_for class made) ≡ Err error
-      → LacksKernel classes made (OfKernel error)
+      → end_of (run_for class made) ≡ Err error → LacksKernel classes made (OfKernel error)
   rule : (class : ClassTree) (error : GraphError) → IsClassFor classes made class
       → end_of (run_for class made) ≡ Ok tt → Refuses (calls_of (run_for class made)) error
       → LacksKernel classes made (OfGraph made.name error)
@@ -45,7 +43,7 @@ pub record LacksOne (classes : List ClassTree) (mades : List Made) (error : Proj
 
 -- why these classes have no project
 pub data LacksProject (classes : List ClassTree) : ProjectError → Type 0 where
-  plan : (error : EvalError) → (error ≡ E.NoMemory → ⊥) → source_plan classes ≡ Err error
+  plan : (error : EvalError) → source_plan classes ≡ Err error
       → LacksProject classes (OfPlan error)
   kernel : {error : ProjectError} (plan : Plan) → source_plan classes ≡ Ok plan
       → LacksOne classes plan.kernels error → LacksProject classes error
