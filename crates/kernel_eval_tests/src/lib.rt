@@ -4,16 +4,16 @@
 
 mod building;
 mod kernels;
+mod projects;
 
 pub use building::{Built, build, build_alone};
-pub use kernels::{ACC, DOUBLE, LONG, SELF, SQUARE, STENCIL, SUM3};
+pub use kernels::{ACC, DOUBLE, FOURTH, GUARD, LONG, NEXT, SELF, SQUARE, STENCIL, SUM3};
+pub use projects::{RING, SPLIT_ADD};
 
 #[cfg(test)]
 mod nodes;
 #[cfg(test)]
 mod plans;
-#[cfg(test)]
-mod projects;
 #[cfg(test)]
 mod rows;
 #[cfg(test)]

@@ -5,7 +5,7 @@
 mod kernels;
 mod running;
 
-pub use kernels::{FOURTH, GUARD, NEXT, QUOT};
+pub use kernels::QUOT;
 pub use running::{Ran, run_alone};
 
 #[cfg(test)]

@@ -1,6 +1,6 @@
 // Worked words.
-use crate::{FOURTH, GUARD, NEXT, QUOT, Ran, run_alone};
-use kernel_eval_tests::{ACC, Built, SUM3, build_alone};
+use crate::{QUOT, Ran, run_alone};
+use kernel_eval_tests::{ACC, Built, FOURTH, GUARD, NEXT, SUM3, build_alone};
 use std::test::Fail;
 
 // A source, the name of its kernel, its ticks, the words of its inputs, and those of its output.

@@ -3,10 +3,10 @@ use Rattle.std.proofs.Common.{ℕ, List, Result, Ok, Err}
 use Rattle.std.specs.Prelude.{IsSome, IfOk, IfErr}
 use Rattle.mx_base.specs.Files.{Held}
 use Rattle.maxjc_core.specs.Command.{Name, Names}
-use Rattle.maxjc_core.specs.Causes.{IsReadable, IsTooLarge, Stands, IsOfFiles}
+use Rattle.maxjc_core.specs.CompileCauses.{IsReadable, IsTooLarge, Stands, IsOfFiles}
 use Rattle.maxjc_core.specs.Compiling.{Compiles}
-use Rattle.maxjc_core.specs.Refusals.{cause_told}
-use Rattle.maxjc_core.specs.Stops.{IfRefused, AreBytes, Answers}
+use Rattle.maxjc_core.specs.ErrorCauses.{cause_told}
+use Rattle.maxjc_core.specs.CompileStops.{IfRefused, AreBytes, Answers}
 use Rattle.maxjc_core.specs.declared.compile.Compiled.{Compiled}
 use Rattle.maxjc_core.specs.declared.stop.Stop.{Stop}
 use Rattle.maxjc_core.specs.declared.stop.Stop.TheVariants as stops

@@ -56,11 +56,11 @@ use Rattle.project_check.specs.Refused.{
 }
 use Rattle.project_check.specs.declared.error.CheckError.{CheckError}
 use Rattle.maxjc_core.specs.Command.{CheckNames}
-use Rattle.maxjc_core.specs.Causes.{IsMissing, IsTooLarge}
+use Rattle.maxjc_core.specs.CompileCauses.{IsMissing, IsTooLarge}
 use Rattle.maxjc_core.specs.CheckCauses.{IsOfCheck, IsCheckable, IsInputTooLarge, CheckStands, LacksChecked}
 use Rattle.maxjc_core.specs.Checking.{IsShowing, IsChecked, IsGood}
-use Rattle.maxjc_core.specs.Lines.{Cause}
-use Rattle.maxjc_core.specs.Stops.{IfRefused, AreBytes}
+use Rattle.maxjc_core.specs.CauseLines.{Cause}
+use Rattle.maxjc_core.specs.CompileStops.{IfRefused, AreBytes}
 use Rattle.maxjc_core.specs.declared.stop.Stop.{Stop}
 use Rattle.maxjc_core.specs.declared.stop.Stop.TheVariants as stops
 use Rattle.maxjc_core.proofs.Answering.{readable}

@@ -9,7 +9,7 @@ use Rattle.maxjc_core.specs.CheckCauses.{IsOfCheck, IsCheckable, CheckStands}
 use Rattle.maxjc_core.specs.Checking.{IsShowing, Checks, IsChecked}
 use Rattle.maxjc_core.specs.CheckStops.{AreInputs, ShowsAs}
 use Rattle.maxjc_core.specs.Projects.{MakesNoProject}
-use Rattle.maxjc_core.specs.Stops.{IfRefused}
+use Rattle.maxjc_core.specs.CompileStops.{IfRefused}
 use Rattle.maxjc_core.specs.declared.stop.Stop.{Stop}
 use Rattle.maxjc_core.proofs.Answering.{readable}
 use Rattle.maxjc_core.proofs.Refusing.{refused-so}

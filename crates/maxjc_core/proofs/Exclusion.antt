@@ -70,9 +70,9 @@ use Rattle.maxjc_core.proofs.Lists.{zip_weaker}
 use Rattle.maxjc_core.proofs.OneProject.{AreSame, one_project, links_along}
 use Rattle.maxjc_core.proofs.Rules.{not-lacking}
 use Rattle.maxjc_core.specs.Command.{Names}
-use Rattle.maxjc_core.specs.Lines.{Cause}
+use Rattle.maxjc_core.specs.CauseLines.{Cause}
 use Rattle.maxjc_core.specs.Projects.{IsProjectOf, MakesNoProject}
-use Rattle.maxjc_core.specs.Causes.{
+use Rattle.maxjc_core.specs.CompileCauses.{
   file_limit,
   IsWithin,
   IsPast,
@@ -84,8 +84,8 @@ use Rattle.maxjc_core.specs.Causes.{
   Stands,
   IsBuilt,
 }
-use Rattle.maxjc_core.specs.Refusals.{cause_told}
-use Rattle.maxjc_core.specs.Stops.{IfRefused, IsCompiled}
+use Rattle.maxjc_core.specs.ErrorCauses.{cause_told}
+use Rattle.maxjc_core.specs.CompileStops.{IfRefused, IsCompiled}
 use Rattle.maxjc_core.specs.declared.stop.Stop.{Stop}
 use Rattle.maxjc_core.specs.declared.stop.Stop.TheVariants as stops
 use Rattle.maxjc_core.proofs.Refusing.{cause_of}

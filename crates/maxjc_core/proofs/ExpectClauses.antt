@@ -13,8 +13,8 @@ use Rattle.maxjc_core.specs.ExpectCauses.{ExpectStands, LacksFile, LacksExpected
 use Rattle.maxjc_core.specs.ExpectStops.{BeginsIn, FitsPorts, readings_in}
 use Rattle.maxjc_core.specs.Expecting.{IsExpectable, CanBegin, readings}
 use Rattle.maxjc_core.specs.InputWords.{IsFirstLineFault, LacksWords}
-use Rattle.maxjc_core.specs.Lines.{Cause}
-use Rattle.maxjc_core.specs.Stops.{IfRefused}
+use Rattle.maxjc_core.specs.CauseLines.{Cause}
+use Rattle.maxjc_core.specs.CompileStops.{IfRefused}
 use Rattle.maxjc_core.specs.declared.begin.Begun.{Begun}
 use Rattle.maxjc_core.specs.declared.stop.Stop.{Stop}
 use Rattle.maxjc_core.specs.declared.stop.Stop.TheVariants as stops

@@ -40,7 +40,7 @@ use Rattle.maxjc_core.specs.Expecting.{
   CanExpect,
 }
 use Rattle.maxjc_core.specs.InputWords.{readings_of, IsFirstLineFault}
-use Rattle.maxjc_core.specs.Lines.{Cause}
+use Rattle.maxjc_core.specs.CauseLines.{Cause}
 use Rattle.maxjc_core.specs.RunFiles.{IsPlanned, IsPlanOfBytes, IsUnfitFor, IsUnfit, HasNoPlan}
 use Rattle.maxjc_core.proofs.CheckExclusion.{one-report, not-of-check, no-large-input, told-from-large-input}
 use Rattle.maxjc_core.proofs.Exclusion.{told, same_bytes, not_past, AreOne, are-one, none-over}

@@ -7,9 +7,9 @@ use Rattle.maxjc_core.specs.CheckStops.{AreInputs}
 use Rattle.maxjc_core.specs.Command.{ExpectNames}
 use Rattle.maxjc_core.specs.ExpectCauses.{IsFileTooLarge, LacksFile}
 use Rattle.maxjc_core.specs.Expecting.{CanBegin}
-use Rattle.maxjc_core.specs.Lines.{Cause}
-use Rattle.maxjc_core.specs.Refusals.{cause_told}
-use Rattle.maxjc_core.specs.Stops.{IfRefused}
+use Rattle.maxjc_core.specs.CauseLines.{Cause}
+use Rattle.maxjc_core.specs.ErrorCauses.{cause_told}
+use Rattle.maxjc_core.specs.CompileStops.{IfRefused}
 use Rattle.maxjc_core.specs.declared.stop.Stop.{Stop}
 use Rattle.maxjc_core.specs.declared.stop.Stop.TheVariants as stops
 use Rattle.maxjc_core.proofs.CheckExclusion.{no-large-input, told_lacks}

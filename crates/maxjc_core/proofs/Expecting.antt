@@ -15,7 +15,7 @@ use Rattle.maxjc_core.specs.ExpectStops.{
 }
 use Rattle.maxjc_core.specs.Expecting.{IsExpectable, CanBegin}
 use Rattle.maxjc_core.specs.InputWords.{HaveWords, IsFirstLineFault, LacksWords}
-use Rattle.maxjc_core.specs.Stops.{IfRefused}
+use Rattle.maxjc_core.specs.CompileStops.{IfRefused}
 use Rattle.maxjc_core.specs.declared.begin.Begun.{Begun}
 use Rattle.maxjc_core.specs.declared.expect.Answer.{Answer}
 use Rattle.maxjc_core.specs.declared.stop.Stop.{Stop}

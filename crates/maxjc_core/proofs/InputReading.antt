@@ -54,8 +54,8 @@ use Rattle.maxjc_core.specs.InputWords.{
   LacksLine,
   LacksWords,
 }
-use Rattle.maxjc_core.specs.Lines.{Cause}
-use Rattle.maxjc_core.specs.Refusals.{IfCause, stop_cause}
+use Rattle.maxjc_core.specs.CauseLines.{Cause}
+use Rattle.maxjc_core.specs.ErrorCauses.{IfCause, stop_cause}
 use Rattle.maxjc_core.proofs.CheckExclusion.{told_lacks}
 use Rattle.maxjc_core.proofs.Reading.{found}
 use Rattle.maxjc_core.proofs.Refusing.{some-same}

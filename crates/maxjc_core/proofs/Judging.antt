@@ -18,12 +18,12 @@ use Rattle.project_netlists.specs.Refused.{IsRefused}
 use Rattle.project_netlists.specs.declared.error.NetlistsError.{NetlistsError}
 use Rattle.project_netlists.specs.declared.error.NetlistsError.TheVariants as netlists_errors
 use Rattle.stream_graph.specs.declared.kernel.Kernel.{Kernel}
-use Rattle.maxjc_core.specs.Causes.{IsOfFiles, netlists_cause}
+use Rattle.maxjc_core.specs.CompileCauses.{IsOfFiles, netlists_cause}
 use Rattle.maxjc_core.specs.CheckCauses.{IsOfCheck}
-use Rattle.maxjc_core.specs.Lines.{Cause}
+use Rattle.maxjc_core.specs.CauseLines.{Cause}
 use Rattle.maxjc_core.specs.Projects.{IsProjectOf, MakesNoProject}
-use Rattle.maxjc_core.specs.Refusals.{IfCause, table_cause, project_cause, report_cause}
-use Rattle.maxjc_core.specs.Stops.{IfRefused}
+use Rattle.maxjc_core.specs.ErrorCauses.{IfCause, table_cause, project_cause, report_cause}
+use Rattle.maxjc_core.specs.CompileStops.{IfRefused}
 use Rattle.maxjc_core.specs.declared.stop.Stop.{Stop}
 use Rattle.maxjc_core.proofs.Refusing.{refused-so, some-same}
 

@@ -3,10 +3,10 @@ use Rattle.std.proofs.Common.{◌≡◌, ◌⊎◌, inl, inr, ◌<◌, ◌≤◌
 use Rattle.std.specs.Prelude.{IsSome}
 use Rattle.std.specs.FinMap.{get}
 use Rattle.mx_base.specs.Files.{Held, Name, Holds, Lacks}
-use Rattle.maxjc_core.specs.Causes.{file_limit, IsWithin, IsPast, IsMissing}
-use Rattle.maxjc_core.specs.Lines.{Cause, TooLarge}
-use Rattle.maxjc_core.specs.Refusals.{cause_told}
-use Rattle.maxjc_core.specs.Stops.{IfRefused}
+use Rattle.maxjc_core.specs.CompileCauses.{file_limit, IsWithin, IsPast, IsMissing}
+use Rattle.maxjc_core.specs.CauseLines.{Cause, TooLarge}
+use Rattle.maxjc_core.specs.ErrorCauses.{cause_told}
+use Rattle.maxjc_core.specs.CompileStops.{IfRefused}
 use Rattle.maxjc_core.specs.declared.stop.Stop.{Stop}
 use Rattle.maxjc_core.specs.declared.stop.Stop.TheVariants as stops
 use Rattle.maxjc_core.proofs.Refusing.{if_cause_so, of_cause}

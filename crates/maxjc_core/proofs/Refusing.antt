@@ -14,12 +14,12 @@ use Rattle.word_files.specs.declared.error.RunFileError.{RunFileError}
 use Rattle.word_files.specs.declared.error.RunFileError.TheVariants as run_errors
 use Rattle.word_files.specs.declared.run_file.RunFile.{RunFile}
 use Rattle.rtl_ir.specs.declared.interface.Interface.{Interface}
-use Rattle.maxjc_core.specs.Lines.{Cause}
+use Rattle.maxjc_core.specs.CauseLines.{Cause}
 use Rattle.maxjc_core.specs.RunFiles.{IsRunFault, IsUnfitFor}
 use Rattle.maxjc_core.specs.Projects.{MakesNoProject}
-use Rattle.maxjc_core.specs.Refusals.{IfCause, cause_told, source_cause, run_file_cause}
-use Rattle.maxjc_core.specs.RunCauses.{rule_cause, text_cause}
-use Rattle.maxjc_core.specs.Stops.{IfRefused}
+use Rattle.maxjc_core.specs.ErrorCauses.{IfCause, cause_told, source_cause, run_file_cause}
+use Rattle.maxjc_core.specs.SimulateCauses.{rule_cause, text_cause}
+use Rattle.maxjc_core.specs.CompileStops.{IfRefused}
 use Rattle.maxjc_core.specs.declared.stop.Stop.{Stop}
 use Rattle.maxjc_core.specs.declared.stop.Stop.TheVariants as stops
 

@@ -20,11 +20,11 @@ use Rattle.simulation.specs.declared.stop.Outcome.{Outcome}
 use Rattle.simulation.specs.declared.stop.Stop.{Stop}
 use Rattle.simulation.specs.declared.stop.Stop.TheVariants as stops
 use Rattle.maxjc_core.specs.Command.{RunNames, said_more}
-use Rattle.maxjc_core.specs.Ends.{IsCutOff, IsQuiet}
-use Rattle.maxjc_core.specs.Lines.{Cause, TooManyCells}
-use Rattle.maxjc_core.specs.Refusals.{IfCause, stop_cause}
-use Rattle.maxjc_core.specs.RunCauses.{IsFaulty, StandsIn, LacksFile, LacksInput}
-use Rattle.maxjc_core.specs.RunEnds.{IsRunTo, IsRunDone, IsRunLimited, RefusesRun, ReadFails, ChangesOutputs, LeavesOutputs}
+use Rattle.maxjc_core.specs.CommandEnds.{IsCutOff, IsQuiet}
+use Rattle.maxjc_core.specs.CauseLines.{Cause, TooManyCells}
+use Rattle.maxjc_core.specs.ErrorCauses.{IfCause, stop_cause}
+use Rattle.maxjc_core.specs.SimulateCauses.{IsFaulty, StandsIn, LacksFile, LacksInput}
+use Rattle.maxjc_core.specs.SimulateRuns.{IsRunTo, IsRunDone, IsRunLimited, RefusesRun, ReadFails, ChangesOutputs, LeavesOutputs}
 use Rattle.maxjc_core.specs.RunStops.{end_status, end_line, stop_status}
 use Rattle.maxjc_core.specs.declared.status.Status.{Status}
 use Rattle.maxjc_core.specs.declared.status.Status.TheVariants.{Done, Refused, ReadFault, WriteFault, NoMemory, EdgeLimit}

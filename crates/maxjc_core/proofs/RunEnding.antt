@@ -21,7 +21,7 @@ use Rattle.simulation.specs.declared.stop.Stop.TheVariants as stops
 use Rattle.maxjc_core.specs.Command.{RunNames}
 use Rattle.maxjc_core.specs.Loading.{IsLoaded, setup}
 use Rattle.maxjc_core.specs.LoadStops.{CanRun, IsLoadedAs}
-use Rattle.maxjc_core.specs.RunCauses.{IsSmall}
+use Rattle.maxjc_core.specs.SimulateCauses.{IsSmall}
 use Rattle.maxjc_core.proofs.Exclusion.{told}
 use Rattle.top_ports.proofs.ShapeLists.{one_alone}
 use Rattle.maxjc_core.proofs.RunExclusion.{top_once, loaded_once}

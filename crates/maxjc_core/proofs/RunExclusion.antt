@@ -14,10 +14,10 @@ use Rattle.verilog_read.specs.Refused.{IsReadAs}
 use Rattle.simulation.specs.declared.plan.Plan.{Plan}
 use Rattle.simulation.specs.Plans.{IsPlanOf}
 use Rattle.maxjc_core.specs.Command.{RunNames}
-use Rattle.maxjc_core.specs.Lines.{Cause}
-use Rattle.maxjc_core.specs.Causes.{file_limit, IsWithin, IsPast}
+use Rattle.maxjc_core.specs.CauseLines.{Cause}
+use Rattle.maxjc_core.specs.CompileCauses.{file_limit, IsWithin, IsPast}
 use Rattle.maxjc_core.specs.Loading.{text_limit, FitTogether, AreRead, IsLoaded}
-use Rattle.maxjc_core.specs.RunCauses.{BreaksForm, IsFaulty}
+use Rattle.maxjc_core.specs.SimulateCauses.{BreaksForm, IsFaulty}
 use Rattle.maxjc_core.proofs.Exclusion.{same_bytes}
 use Rattle.maxjc_core.proofs.OneShape.{ticks_along, scalars_along, inputs_along, outputs_along, plan_along}
 use Rattle.top_ports.proofs.ShapeLists.{one_alone}
@@ -26,7 +26,7 @@ use Rattle.maxjc_core.specs.RunFiles.{IsUnfit, IsUnfitFor, IsRunFault}
 use Rattle.verilog_read.specs.Refused.{Refuses}
 use Rattle.verilog_read.specs.declared.error.VerilogError.{VerilogError}
 use Rattle.maxjc_core.proofs.RunReading.{refused_so}
-use Rattle.maxjc_core.specs.Stops.{IfRefused}
+use Rattle.maxjc_core.specs.CompileStops.{IfRefused}
 use Rattle.maxjc_core.specs.declared.stop.Stop.{Stop}
 
 -- two readings of a run file are one

@@ -3,13 +3,13 @@ use Rattle.std.proofs.Common.{◌≡◌, ◌⊎◌, ◌<◌, ℕ, List, Result, 
 use Rattle.std.specs.Prelude.{IsSome, IfOk, IfErr}
 use Rattle.mx_base.specs.Files.{Held, Name, Holds, Lacks}
 use Rattle.maxjc_core.specs.Command.{RunNames}
-use Rattle.maxjc_core.specs.Lines.{Cause}
-use Rattle.maxjc_core.specs.Causes.{file_limit, IsWithin}
+use Rattle.maxjc_core.specs.CauseLines.{Cause}
+use Rattle.maxjc_core.specs.CompileCauses.{file_limit, IsWithin}
 use Rattle.maxjc_core.specs.Loading.{text_limit, FitTogether, AreRead, IsLoaded}
 use Rattle.maxjc_core.specs.LoadStops.{FitAs, LoadAnswers}
-use Rattle.maxjc_core.specs.RunCauses.{BreaksForm, IsFaulty, LacksFile}
-use Rattle.maxjc_core.specs.Refusals.{cause_told}
-use Rattle.maxjc_core.specs.Stops.{IfRefused}
+use Rattle.maxjc_core.specs.SimulateCauses.{BreaksForm, IsFaulty, LacksFile}
+use Rattle.maxjc_core.specs.ErrorCauses.{cause_told}
+use Rattle.maxjc_core.specs.CompileStops.{IfRefused}
 use Rattle.maxjc_core.specs.declared.stop.Stop.{Stop}
 use Rattle.maxjc_core.specs.declared.stop.Stop.TheVariants as stops
 use Rattle.maxjc_core.specs.declared.load.Loaded.{Loaded}

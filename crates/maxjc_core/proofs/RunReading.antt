@@ -10,12 +10,12 @@ use Rattle.top_ports.specs.Shapes.{IsTop}
 use Rattle.rtl_ir.specs.declared.interface.Interface.{Interface}
 use Rattle.rtl_ir.specs.Interfaces.{shape_of}
 use Rattle.simulation.specs.declared.plan.Plan.{Plan}
-use Rattle.maxjc_core.specs.Lines.{Cause}
+use Rattle.maxjc_core.specs.CauseLines.{Cause}
 use Rattle.maxjc_core.specs.LoadStops.{FitAs, IsOnlyDesign}
 use Rattle.maxjc_core.specs.RunFiles.{IsRunFault, IsPlanned, IsUnfit, IsUnfitFor}
-use Rattle.maxjc_core.specs.RunCauses.{BreaksForm}
-use Rattle.maxjc_core.specs.Refusals.{cause_told}
-use Rattle.maxjc_core.specs.Stops.{IfRefused}
+use Rattle.maxjc_core.specs.SimulateCauses.{BreaksForm}
+use Rattle.maxjc_core.specs.ErrorCauses.{cause_told}
+use Rattle.maxjc_core.specs.CompileStops.{IfRefused}
 use Rattle.maxjc_core.specs.declared.stop.Stop.{Stop}
 use Rattle.maxjc_core.specs.declared.stop.Stop.TheVariants as stops
 use Rattle.maxjc_core.proofs.Refusing.{IsTextFault, if_cause_so}

@@ -6,8 +6,8 @@ use Rattle.manager_links.specs.declared.project.Project.{Project}
 use Rattle.project_check.specs.Refused.{IsNotChecked}
 use Rattle.project_check.specs.declared.error.CheckError.{CheckError}
 use Rattle.maxjc_core.specs.Command.{CheckNames}
-use Rattle.maxjc_core.specs.Causes.{file_limit, IsWithin, IsPast, IsReadable, IsTooLarge, IsMissing}
-use Rattle.maxjc_core.specs.Lines.{Cause, TooLarge, NotChecked}
+use Rattle.maxjc_core.specs.CompileCauses.{file_limit, IsWithin, IsPast, IsReadable, IsTooLarge, IsMissing}
+use Rattle.maxjc_core.specs.CauseLines.{Cause, TooLarge, NotChecked}
 use Rattle.maxjc_core.specs.Projects.{IsProjectOf, MakesNoProject}
 
 -- The cause for which the bytes of a source, of a table and of a report are refused, the first that

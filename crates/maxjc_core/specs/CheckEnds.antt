@@ -5,8 +5,8 @@ use Rattle.mx_base.specs.Files.{Held, Lacks}
 use Rattle.maxjc_core.specs.Command.{CheckNames, said_more}
 use Rattle.maxjc_core.specs.CheckCauses.{CheckStands, LacksChecked}
 use Rattle.maxjc_core.specs.Checking.{IsChecked, IsGood}
-use Rattle.maxjc_core.specs.Ends.{IsCutOff}
-use Rattle.maxjc_core.specs.Lines.{Cause, line_of}
+use Rattle.maxjc_core.specs.CommandEnds.{IsCutOff}
+use Rattle.maxjc_core.specs.CauseLines.{Cause, line_of}
 use Rattle.maxjc_core.specs.Outside.{Outside}
 use Rattle.maxjc_core.specs.declared.status.Status.{Status}
 use Rattle.maxjc_core.specs.declared.status.Status.TheVariants.{Done, Refused, ReadFault, WriteFault, NoMemory, EdgeLimit}

@@ -6,9 +6,9 @@ use Rattle.mx_base.specs.Files.{Held}
 use Rattle.project_check.specs.Checked.{IsCheckedReport}
 use Rattle.schedule_report.specs.declared.report.Report.{Report}
 use Rattle.maxjc_core.specs.Command.{CheckNames}
-use Rattle.maxjc_core.specs.Causes.{file_limit, IsWithin}
+use Rattle.maxjc_core.specs.CompileCauses.{file_limit, IsWithin}
 use Rattle.maxjc_core.specs.Projects.{IsProjectOf}
-use Rattle.maxjc_core.specs.Stops.{AreBytes}
+use Rattle.maxjc_core.specs.CompileStops.{AreBytes}
 
 -- the files of a check are held and within the limit, with these bytes
 pub record AreInputs (names : CheckNames) (held : Held) (source table report : List ℕ) : Type 0 where

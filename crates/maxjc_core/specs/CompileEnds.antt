@@ -2,11 +2,11 @@
 use Rattle.std.specs.Prelude.{◌≡◌, ◌⊎◌, IsSome}
 use Rattle.mx_base.specs.Counts.{Rose}
 use Rattle.mx_base.specs.Files.{Lacks}
-use Rattle.maxjc_core.specs.Causes.{Stands, IsMissing, IsBuilt}
+use Rattle.maxjc_core.specs.CompileCauses.{Stands, IsMissing, IsBuilt}
 use Rattle.maxjc_core.specs.Command.{Names}
 use Rattle.maxjc_core.specs.CompileFiles.{ChangesBoth, LeavesCutOff}
-use Rattle.maxjc_core.specs.Ends.{KeepsFiles, IsCutOff, IsDone, IsRefused}
-use Rattle.maxjc_core.specs.Lines.{Cause}
+use Rattle.maxjc_core.specs.CommandEnds.{KeepsFiles, IsCutOff, IsDone, IsRefused}
+use Rattle.maxjc_core.specs.CauseLines.{Cause}
 use Rattle.maxjc_core.specs.Outside.{Outside}
 use Rattle.maxjc_core.specs.declared.status.Status.{Status}
 use Rattle.maxjc_core.specs.declared.status.Status.TheVariants.{Done, Refused, ReadFault, WriteFault, NoMemory, EdgeLimit}

@@ -2,7 +2,7 @@
 use Rattle.std.specs.Prelude.{ℕ, ◌≡◌, ◌≢◌, ◌⊎◌, List, is_some}
 use Rattle.mx_base.specs.Files.{Held, Holds, file_of}
 use Rattle.maxjc_core.specs.Command.{Name, Names}
-use Rattle.maxjc_core.specs.Causes.{IsReadable}
+use Rattle.maxjc_core.specs.CompileCauses.{IsReadable}
 use Rattle.maxjc_core.specs.Compiling.{Compiles}
 
 -- only the files of these two names may have changed

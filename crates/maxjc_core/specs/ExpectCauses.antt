@@ -6,7 +6,7 @@ use Rattle.mx_base.specs.Files.{Held, Lacks}
 use Rattle.project_rtl.specs.Shapes.{shape_of}
 use Rattle.stream_expect.specs.Refused.{IsTooLarge}
 use Rattle.stream_graph.specs.declared.kernel.Kernel.{Kernel}
-use Rattle.maxjc_core.specs.Causes.{file_limit, IsPast}
+use Rattle.maxjc_core.specs.CompileCauses.{file_limit, IsPast}
 use Rattle.maxjc_core.specs.CheckCauses.{IsCheckable, IsOfCheck, IsInputTooLarge, LacksChecked}
 use Rattle.maxjc_core.specs.Checking.{IsShowing}
 use Rattle.maxjc_core.specs.Command.{ExpectNames}
@@ -20,7 +20,7 @@ use Rattle.maxjc_core.specs.Expecting.{
   readings,
 }
 use Rattle.maxjc_core.specs.InputWords.{IsFirstLineFault, LacksWords}
-use Rattle.maxjc_core.specs.Lines.{Cause, TooLarge, LinkTooDeep, TooManyWords}
+use Rattle.maxjc_core.specs.CauseLines.{Cause, TooLarge, LinkTooDeep, TooManyWords}
 use Rattle.maxjc_core.specs.RunFiles.{HasNoPlan}
 
 -- ---- the bytes of the files

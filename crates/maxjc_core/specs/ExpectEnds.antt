@@ -7,11 +7,11 @@ use Rattle.simulation.specs.Outputs.{ChangesOnlyOutputs}
 use Rattle.stream_expect.specs.declared.expected.Expected.{Expected}
 use Rattle.word_lists.specs.Written.{word_lines}
 use Rattle.maxjc_core.specs.Command.{ExpectNames, said_more}
-use Rattle.maxjc_core.specs.Ends.{IsCutOff}
+use Rattle.maxjc_core.specs.CommandEnds.{IsCutOff}
 use Rattle.maxjc_core.specs.ExpectCauses.{ExpectStands, LacksExpected}
 use Rattle.maxjc_core.specs.ExpectLines.{expected_lines}
 use Rattle.maxjc_core.specs.Expecting.{project_of, CanExpect, IsExpected}
-use Rattle.maxjc_core.specs.Lines.{Cause, line_of}
+use Rattle.maxjc_core.specs.CauseLines.{Cause, line_of}
 use Rattle.maxjc_core.specs.Outside.{Outside}
 use Rattle.maxjc_core.specs.declared.status.Status.{Status}
 use Rattle.maxjc_core.specs.declared.status.Status.TheVariants.{Done, Refused, Usage, ReadFault, WriteFault, NoMemory, EdgeLimit}

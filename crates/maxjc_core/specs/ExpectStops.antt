@@ -16,7 +16,7 @@ use Rattle.stream_expect.specs.Expected.{IsExpectedOf}
 use Rattle.stream_expect.specs.declared.expected.Expected.{Expected}
 use Rattle.stream_graph.specs.declared.kernel.Kernel.{Kernel}
 use Rattle.word_lists.specs.Written.{HaveWidth}
-use Rattle.maxjc_core.specs.Causes.{file_limit, IsWithin}
+use Rattle.maxjc_core.specs.CompileCauses.{file_limit, IsWithin}
 use Rattle.maxjc_core.specs.CheckStops.{AreInputs, ShowsAs}
 use Rattle.maxjc_core.specs.Command.{ExpectNames}
 use Rattle.maxjc_core.specs.ExpectLines.{expected_lines}

@@ -13,7 +13,7 @@ use Rattle.schedule_report.specs.declared.report.ReportKernel.{ReportKernel}
 use Rattle.simulation.specs.declared.plan.Plan.{Plan}
 use Rattle.stream_expect.specs.Expected.{IsExpectedOf}
 use Rattle.stream_expect.specs.declared.expected.Expected.{Expected}
-use Rattle.maxjc_core.specs.Causes.{file_limit, IsWithin}
+use Rattle.maxjc_core.specs.CompileCauses.{file_limit, IsWithin}
 use Rattle.maxjc_core.specs.CheckCauses.{IsCheckable}
 use Rattle.maxjc_core.specs.Checking.{IsShowing}
 use Rattle.maxjc_core.specs.Command.{ExpectNames}

@@ -24,10 +24,10 @@ use Rattle.project_streams.specs.Streams.{GivenProject, ProjectValues}
 use Rattle.simulation.specs.Inputs.{InputFile, words_of, fault_behind, input_files}
 use Rattle.maxjc_core.specs.Command.{RunNames, said_more}
 use Rattle.maxjc_core.specs.Compiling.{Compiles}
-use Rattle.maxjc_core.specs.Ends.{IsCutOff}
+use Rattle.maxjc_core.specs.CommandEnds.{IsCutOff}
 use Rattle.maxjc_core.specs.Loading.{IsLoaded, setup}
-use Rattle.maxjc_core.specs.RunCauses.{IsSmall}
-use Rattle.maxjc_core.specs.RunEnds.{done_line}
+use Rattle.maxjc_core.specs.SimulateCauses.{IsSmall}
+use Rattle.maxjc_core.specs.SimulateRuns.{done_line}
 use Rattle.maxjc_core.specs.Writing.{IsRunOver}
 use Rattle.maxjc_core.specs.declared.status.Status.{Status}
 use Rattle.maxjc_core.specs.declared.status.Status.TheVariants.{Done}

@@ -4,7 +4,7 @@ use Rattle.std.specs.List.{AllZip}
 use Rattle.manager_links.specs.declared.hosts.HostPort.{HostPort}
 use Rattle.mx_base.specs.Files.{Name, Held, Holds, Lacks}
 use Rattle.word_lists.specs.Read.{said_by, AreWords, IsFirstWrong}
-use Rattle.maxjc_core.specs.Lines.{Cause, BadLine, WordRange}
+use Rattle.maxjc_core.specs.CauseLines.{Cause, BadLine, WordRange}
 
 -- a file whose lines are read: the width of its words, and how many lines are read at most
 pub record Reading : Type 0 where

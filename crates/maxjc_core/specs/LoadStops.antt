@@ -8,8 +8,8 @@ use Rattle.verilog_read.specs.Refused.{IsReadAs}
 use Rattle.simulation.specs.Plans.{FitsShape, AreApart}
 use Rattle.maxjc_core.specs.Command.{RunNames}
 use Rattle.maxjc_core.specs.Loading.{FitTogether, AreRead}
-use Rattle.maxjc_core.specs.RunCauses.{IsFaulty}
-use Rattle.maxjc_core.specs.Stops.{IfRefused}
+use Rattle.maxjc_core.specs.SimulateCauses.{IsFaulty}
+use Rattle.maxjc_core.specs.CompileStops.{IfRefused}
 use Rattle.maxjc_core.specs.declared.stop.Stop.{Stop}
 use Rattle.maxjc_core.specs.declared.load.Loaded.{Loaded}
 

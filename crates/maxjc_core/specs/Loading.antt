@@ -11,7 +11,7 @@ use Rattle.simulation.specs.declared.plan.Plan.{Plan}
 use Rattle.simulation.specs.Plans.{IsPlanOf, setup_of}
 use Rattle.simulation.specs.Runs.{Setup}
 use Rattle.maxjc_core.specs.Command.{RunNames}
-use Rattle.maxjc_core.specs.Causes.{file_limit, IsWithin}
+use Rattle.maxjc_core.specs.CompileCauses.{file_limit, IsWithin}
 
 -- the most bytes of a text: 2 ^ 26
 abbrev pub text_limit : ℕ

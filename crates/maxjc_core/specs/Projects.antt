@@ -10,7 +10,7 @@ use Rattle.maxj_syntax.specs.Tree.{ClassTree}
 use Rattle.project_build.specs.Building as building
 use Rattle.project_build.specs.Causes.{LacksProject}
 use Rattle.project_build.specs.declared.error.ProjectError.{ProjectError}
-use Rattle.maxjc_core.specs.Lines.{Cause, SourceFault, TableFault, NoProject}
+use Rattle.maxjc_core.specs.CauseLines.{Cause, SourceFault, TableFault, NoProject}
 
 -- The bytes are a source and a latency table: the classes of the source build this project, and the
 -- table says these latencies.

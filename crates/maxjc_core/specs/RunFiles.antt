@@ -8,7 +8,7 @@ use Rattle.simulation.specs.declared.plan.Plan.{Plan}
 use Rattle.word_files.specs.RunFiles.{Reads, Fits, TicksFit, ScalarsFit, InputsFit, OutputsFit}
 use Rattle.word_files.specs.declared.error.RunFileError.TheVariants as run_errors
 use Rattle.word_files.specs.declared.run_file.RunFile.{RunFile}
-use Rattle.maxjc_core.specs.Lines.{Cause, NotJson, RunShape}
+use Rattle.maxjc_core.specs.CauseLines.{Cause, NotJson, RunShape}
 
 -- ---- what is handed to a run
 

@@ -3,7 +3,7 @@ use Rattle.std.specs.Prelude.{ℕ, List, if◌then◌else◌}
 use Rattle.simulation.specs.declared.stop.Outcome.{Outcome}
 use Rattle.simulation.specs.declared.stop.Stop.{Stop}
 use Rattle.simulation.specs.declared.stop.Stop.TheVariants as stops
-use Rattle.maxjc_core.specs.RunEnds.{done_line, limit_line}
+use Rattle.maxjc_core.specs.SimulateRuns.{done_line, limit_line}
 use Rattle.maxjc_core.specs.declared.status.Status.{Status}
 use Rattle.maxjc_core.specs.declared.status.Status.TheVariants.{Done, Refused, ReadFault, WriteFault, NoMemory, EdgeLimit}
 

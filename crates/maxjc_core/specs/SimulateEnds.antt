@@ -7,12 +7,12 @@ use Rattle.stall_source.specs.Stalls.{Answers}
 use Rattle.simulation.specs.Ends as ends
 use Rattle.simulation.specs.Ends.{Ends}
 use Rattle.maxjc_core.specs.Command.{RunNames}
-use Rattle.maxjc_core.specs.Ends.{IsCutOff}
-use Rattle.maxjc_core.specs.Lines.{Cause}
+use Rattle.maxjc_core.specs.CommandEnds.{IsCutOff}
+use Rattle.maxjc_core.specs.CauseLines.{Cause}
 use Rattle.maxjc_core.specs.Loading.{IsLoaded, setup}
 use Rattle.maxjc_core.specs.Outside.{Outside}
-use Rattle.maxjc_core.specs.RunCauses.{IsSmall, StandsIn, LacksFile, LacksInput}
-use Rattle.maxjc_core.specs.RunEnds.{IsRunDone, IsRunLimited, IsRunRefused, ReadFails, ChangesOutputs, LeavesOutputs}
+use Rattle.maxjc_core.specs.SimulateCauses.{IsSmall, StandsIn, LacksFile, LacksInput}
+use Rattle.maxjc_core.specs.SimulateRuns.{IsRunDone, IsRunLimited, IsRunRefused, ReadFails, ChangesOutputs, LeavesOutputs}
 use Rattle.maxjc_core.specs.Writing.{WritesAllWords}
 use Rattle.maxjc_core.specs.Finishing.{AllFinish}
 use Rattle.maxjc_core.specs.declared.status.Status.{Status}

@@ -7,7 +7,7 @@ ghost use Rattle.stream_graph.specs.declared.kernel.Kernel.{Kernel};
 ghost use Rattle.maxjc_core.specs.ExpectCauses.{HaveTooMany, IsOfExpect};
 ghost use Rattle.maxjc_core.specs.ExpectStops.{BeginsAs, FitsPorts};
 ghost use Rattle.maxjc_core.specs.RunFiles.{IsPlanOfBytes, HasNoPlan};
-ghost use Rattle.maxjc_core.specs.Stops.{IfRefused};
+ghost use Rattle.maxjc_core.specs.CompileStops.{IfRefused};
 
 use crate::linked::{Linked, link_project};
 use crate::refusal::Refusal;

@@ -2,12 +2,12 @@
 ghost use Rattle.std.specs.Prelude.{◌≡◌, ◌<◌, ◌≤◌, ◌^◌, ◌⊎◌, Err, IfOk, IfErr, length, IsSome};
 ghost use Rattle.mx_base.specs.Counts.{Rose};
 ghost use Rattle.mx_base.specs.Files.{Lacks};
-ghost use Rattle.maxjc_core.specs.Causes.{file_limit};
+ghost use Rattle.maxjc_core.specs.CompileCauses.{file_limit};
 ghost use Rattle.maxjc_core.specs.CheckCauses.{IsOfCheck, IsInputTooLarge, CheckStands, LacksChecked};
 ghost use Rattle.maxjc_core.specs.Checking.{Checks, IsChecked};
 ghost use Rattle.maxjc_core.specs.CheckStops.{AreInputs};
-ghost use Rattle.maxjc_core.specs.Named.{check_told};
-ghost use Rattle.maxjc_core.specs.Stops.{IfRefused};
+ghost use Rattle.maxjc_core.specs.NamedCommand.{check_told};
+ghost use Rattle.maxjc_core.specs.CompileStops.{IfRefused};
 
 use crate::command::Check;
 use crate::files::{FILE_LIMIT, read_file};

@@ -2,12 +2,12 @@
 ghost use Rattle.std.specs.Prelude.{◌≡◌, ◌⊎◌, IsSome};
 ghost use Rattle.mx_base.specs.Counts.{Rose};
 ghost use Rattle.mx_base.specs.Files.{Lacks};
-ghost use Rattle.maxjc_core.specs.Lines.{Cause};
+ghost use Rattle.maxjc_core.specs.CauseLines.{Cause};
 ghost use Rattle.maxjc_core.specs.CheckCauses.{CheckStands, LacksChecked};
 ghost use Rattle.maxjc_core.specs.Checking.{IsGood};
 ghost use Rattle.maxjc_core.specs.CheckEnds.{IsCheckDone, IsCheckRefused};
-ghost use Rattle.maxjc_core.specs.Named.{check_told};
-ghost use Rattle.maxjc_core.specs.Ends.{IsQuiet, IsSilent, IsCutOff};
+ghost use Rattle.maxjc_core.specs.NamedCommand.{check_told};
+ghost use Rattle.maxjc_core.specs.CommandEnds.{IsQuiet, IsSilent, IsCutOff};
 
 use crate::Status;
 use crate::check::check;

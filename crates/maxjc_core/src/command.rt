@@ -1,7 +1,7 @@
 // The words of a command.
 ghost use Rattle.std.specs.Prelude.{◌≡◌, IfSome, IfNone, Some, None};
 ghost use Rattle.maxjc_core.specs.Command.{command_of};
-ghost use Rattle.maxjc_core.specs.Named.{command_told, IsApart};
+ghost use Rattle.maxjc_core.specs.NamedCommand.{command_told, IsApart};
 
 use mx_base::Text;
 

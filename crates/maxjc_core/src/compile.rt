@@ -4,11 +4,11 @@ ghost use Rattle.mx_base.specs.Counts.{Rose};
 ghost use Rattle.mx_base.specs.Files.{Lacks};
 ghost use Rattle.schedule_report.specs.Reports.{IsKernelPart, report_text};
 ghost use Rattle.project_netlists.specs.Netlists.{HasPortName};
-ghost use Rattle.maxjc_core.specs.Causes.{IsMissing, IsOfFiles};
+ghost use Rattle.maxjc_core.specs.CompileCauses.{IsMissing, IsOfFiles};
 ghost use Rattle.maxjc_core.specs.Compiling.{summary_of, Compiles};
 ghost use Rattle.maxjc_core.specs.Projects.{IsProjectOf};
-ghost use Rattle.maxjc_core.specs.Stops.{IfRefused, Answers};
-ghost use Rattle.maxjc_core.specs.Named.{names_told};
+ghost use Rattle.maxjc_core.specs.CompileStops.{IfRefused, Answers};
+ghost use Rattle.maxjc_core.specs.NamedCommand.{names_told};
 
 use crate::command::Compile;
 use crate::project::{make_project, read_project};

@@ -3,10 +3,10 @@ ghost use Rattle.std.specs.Prelude.{◌≡◌, ◌≢◌, ◌⊎◌, ◌++◌, N
 ghost use Rattle.mx_base.specs.Counts.{Rose, Counts};
 ghost use Rattle.mx_base.specs.Files.{Holds, Lacks, ChangesOnly};
 ghost use Rattle.maxjc_core.specs.Command.{Names, said_more};
-ghost use Rattle.maxjc_core.specs.Lines.{Cause};
-ghost use Rattle.maxjc_core.specs.Causes.{Stands, IsMissing, IsBuilt};
-ghost use Rattle.maxjc_core.specs.Named.{names_told};
-ghost use Rattle.maxjc_core.specs.Ends.{IsQuiet, KeepsFiles, IsSilent, IsCutOff, WriteFailed, IsDone, IsRefused};
+ghost use Rattle.maxjc_core.specs.CauseLines.{Cause};
+ghost use Rattle.maxjc_core.specs.CompileCauses.{Stands, IsMissing, IsBuilt};
+ghost use Rattle.maxjc_core.specs.NamedCommand.{names_told};
+ghost use Rattle.maxjc_core.specs.CommandEnds.{IsQuiet, KeepsFiles, IsSilent, IsCutOff, WriteFailed, IsDone, IsRefused};
 ghost use Rattle.maxjc_core.specs.CompileFiles.{ChangesBoth, LeavesInOrder, LeavesCutOff};
 
 use crate::Status;

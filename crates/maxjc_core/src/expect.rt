@@ -3,11 +3,11 @@ ghost use Rattle.std.specs.Prelude.{◌≡◌, ◌⊎◌, ◌≤◌, Err, IfOk, 
 ghost use Rattle.std.specs.List.{AllZip};
 ghost use Rattle.mx_base.specs.Counts.{Rose};
 ghost use Rattle.mx_base.specs.Files.{Lacks};
-ghost use Rattle.maxjc_core.specs.Causes.{file_limit};
+ghost use Rattle.maxjc_core.specs.CompileCauses.{file_limit};
 ghost use Rattle.maxjc_core.specs.ExpectCauses.{IsFileTooLarge, ExpectStands, LacksFile, LacksExpected};
 ghost use Rattle.maxjc_core.specs.ExpectStops.{AreRunInputs, AreWithin, AnswersAs, BeginsIn, CanWrite, IsAnswerOf, IsExpectedIn, IsReady, readings_in};
-ghost use Rattle.maxjc_core.specs.Named.{expect_told};
-ghost use Rattle.maxjc_core.specs.Stops.{IfRefused};
+ghost use Rattle.maxjc_core.specs.NamedCommand.{expect_told};
+ghost use Rattle.maxjc_core.specs.CompileStops.{IfRefused};
 ghost use Rattle.stream_expect.specs.Widths.{HaveHostWidths};
 
 use crate::begin::{Begun, begin};

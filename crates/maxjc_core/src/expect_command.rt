@@ -6,13 +6,13 @@ ghost use Rattle.mx_base.specs.Files.{Lacks};
 ghost use Rattle.simulation.specs.Outputs.{ChangesOnlyOutputs};
 ghost use Rattle.word_files.specs.declared.error.WordError.TheVariants as errors;
 ghost use Rattle.maxjc_core.specs.Command.{said_more};
-ghost use Rattle.maxjc_core.specs.Ends.{IsQuiet, IsSilent, IsCutOff, WriteFailed};
+ghost use Rattle.maxjc_core.specs.CommandEnds.{IsQuiet, IsSilent, IsCutOff, WriteFailed};
 ghost use Rattle.maxjc_core.specs.ExpectCauses.{ExpectStands, LacksExpected};
 ghost use Rattle.maxjc_core.specs.ExpectEnds.{ChangesExpected, HoldsLines, IsExpectDone, IsExpectRefused, WritesNothing};
 ghost use Rattle.maxjc_core.specs.Expecting.{CanExpect};
 ghost use Rattle.maxjc_core.specs.ExpectStops.{CanWrite};
-ghost use Rattle.maxjc_core.specs.Lines.{Cause};
-ghost use Rattle.maxjc_core.specs.Named.{expect_told};
+ghost use Rattle.maxjc_core.specs.CauseLines.{Cause};
+ghost use Rattle.maxjc_core.specs.NamedCommand.{expect_told};
 
 use crate::Status;
 use crate::command::Expect;

@@ -2,8 +2,8 @@
 ghost use Rattle.std.specs.Prelude.{◌≡◌, ◌≤◌, ◌<◌, ◌⊎◌, List, ℕ, Err, IfOk, IfErr, length};
 ghost use Rattle.mx_base.specs.Counts.{Rose};
 ghost use Rattle.mx_base.specs.Files.{Holds, Lacks};
-ghost use Rattle.maxjc_core.specs.Lines.{TooLarge};
-ghost use Rattle.maxjc_core.specs.Stops.{IfRefused};
+ghost use Rattle.maxjc_core.specs.CauseLines.{TooLarge};
+ghost use Rattle.maxjc_core.specs.CompileStops.{IfRefused};
 
 use crate::refusal::Refusal;
 use crate::stop::Stop;

@@ -8,8 +8,8 @@ ghost use Rattle.simulation.specs.Errors.{stop_of};
 ghost use Rattle.word_files.specs.declared.error.WordError.TheVariants.{ReadFault, WriteFault};
 ghost use Rattle.maxjc_core.specs.ExpectStops.{AreWithin, IsWordWidth};
 ghost use Rattle.maxjc_core.specs.InputWords.{readings_of, reading_of, HasWords, HaveWords, IsLineFault, IsFirstLineFault, LacksLine, LacksWords};
-ghost use Rattle.maxjc_core.specs.Refusals.{stop_cause};
-ghost use Rattle.maxjc_core.specs.Stops.{IfRefused};
+ghost use Rattle.maxjc_core.specs.ErrorCauses.{stop_cause};
+ghost use Rattle.maxjc_core.specs.CompileStops.{IfRefused};
 
 use crate::refusal::Refusal;
 use crate::stop::Stop;

@@ -5,7 +5,7 @@ ghost use Rattle.manager_links.specs.Starts.{AreTimes};
 ghost use Rattle.maxjc_core.specs.ExpectCauses.{IsTooDeep, HasNoLinks};
 ghost use Rattle.maxjc_core.specs.Expecting.{report_times};
 ghost use Rattle.maxjc_core.specs.ExpectStops.{LinksAs};
-ghost use Rattle.maxjc_core.specs.Stops.{IfRefused};
+ghost use Rattle.maxjc_core.specs.CompileStops.{IfRefused};
 
 use crate::refusal::Refusal;
 use crate::shown::show_report;

@@ -8,12 +8,12 @@ ghost use Rattle.rtl_ir.specs.Flat.{top_of};
 ghost use Rattle.rtl_ir.specs.Interfaces.{IsInterface};
 ghost use Rattle.verilog_read.specs.Refused.{Refuses, IsReadAs};
 ghost use Rattle.verilog_read.specs.declared.error.VerilogError.{VerilogError};
-ghost use Rattle.maxjc_core.specs.Lines.{Cause};
+ghost use Rattle.maxjc_core.specs.CauseLines.{Cause};
 ghost use Rattle.maxjc_core.specs.Loading.{IsLoaded, FitTogether};
 ghost use Rattle.maxjc_core.specs.LoadStops.{LoadAnswers, CanRun, FitAs, IsOnlyDesign};
-ghost use Rattle.maxjc_core.specs.Named.{run_told};
-ghost use Rattle.maxjc_core.specs.RunCauses.{IsFaulty, BreaksForm, LacksFile, text_cause};
-ghost use Rattle.maxjc_core.specs.Stops.{IfRefused};
+ghost use Rattle.maxjc_core.specs.NamedCommand.{run_told};
+ghost use Rattle.maxjc_core.specs.SimulateCauses.{IsFaulty, BreaksForm, LacksFile, text_cause};
+ghost use Rattle.maxjc_core.specs.CompileStops.{IfRefused};
 
 use crate::command::Simulate;
 use crate::files::{FILE_LIMIT, TEXT_LIMIT, read_file};

@@ -5,9 +5,9 @@ ghost use Rattle.mx_base.specs.Files.{Lacks};
 ghost use Rattle.maxj_syntax.specs.Outcomes.{FailsToRead, IsTheSource};
 ghost use Rattle.maxj_syntax.specs.Ranges.{AreInRange};
 ghost use Rattle.maxj_syntax.specs.Tree.{ClassTree, ProgramIs};
-ghost use Rattle.maxjc_core.specs.Causes.{file_limit, IsMissing, IsTooLarge};
+ghost use Rattle.maxjc_core.specs.CompileCauses.{file_limit, IsMissing, IsTooLarge};
 ghost use Rattle.maxjc_core.specs.Projects.{IsProjectOf, MakesNoProject};
-ghost use Rattle.maxjc_core.specs.Stops.{IfRefused, AreBytes};
+ghost use Rattle.maxjc_core.specs.CompileStops.{IfRefused, AreBytes};
 
 use crate::files::{FILE_LIMIT, read_file};
 use crate::refusal::Refusal;

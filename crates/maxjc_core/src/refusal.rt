@@ -1,7 +1,7 @@
 // Why a command refuses its files.
 ghost use Rattle.std.specs.Prelude.{◌≡◌, IfOk};
-ghost use Rattle.maxjc_core.specs.Lines.{line_of};
-ghost use Rattle.maxjc_core.specs.Refusals.{cause_told, IfCause};
+ghost use Rattle.maxjc_core.specs.CauseLines.{line_of};
+ghost use Rattle.maxjc_core.specs.ErrorCauses.{cause_told, IfCause};
 
 use kernel_netlist::NetlistError;
 use kernel_schedule::ScheduleError;

@@ -7,7 +7,7 @@ ghost use Rattle.serde_json.specs.Data.{Data};
 ghost use Rattle.simulation.specs.Plans.{FitsShape, AreApart};
 ghost use Rattle.word_files.specs.RunFiles.{Reads, IsRunFile, Fits};
 ghost use Rattle.maxjc_core.specs.RunFiles.{IsRunFault, IsPlanned, IsUnfit, IsUnfitFor};
-ghost use Rattle.maxjc_core.specs.Stops.{IfRefused};
+ghost use Rattle.maxjc_core.specs.CompileStops.{IfRefused};
 
 use crate::refusal::Refusal;
 use crate::stop::Stop;

@@ -2,8 +2,8 @@
 ghost use Rattle.std.specs.Prelude.{◌≡◌, ◌⊎◌};
 ghost use Rattle.mx_base.specs.Counts.{Rose};
 ghost use Rattle.maxjc_core.specs.Command.{usage_line, said_more};
-ghost use Rattle.maxjc_core.specs.Lines.{line_of};
-ghost use Rattle.maxjc_core.specs.Refusals.{cause_told, IfCause};
+ghost use Rattle.maxjc_core.specs.CauseLines.{line_of};
+ghost use Rattle.maxjc_core.specs.ErrorCauses.{cause_told, IfCause};
 
 use crate::Status;
 use crate::refusal::Refusal;

@@ -3,7 +3,7 @@ ghost use Rattle.std.specs.Prelude.{◌≡◌, ◌<◌, ◌^◌, List, ℕ, Err,
 ghost use Rattle.maxjc_core.specs.CheckCauses.{IsOfCheck};
 ghost use Rattle.maxjc_core.specs.CheckStops.{ShowsAs};
 ghost use Rattle.maxjc_core.specs.Projects.{IsProjectOf};
-ghost use Rattle.maxjc_core.specs.Stops.{IfRefused};
+ghost use Rattle.maxjc_core.specs.CompileStops.{IfRefused};
 
 use crate::project::{Made, make_project};
 use crate::stop::Stop;

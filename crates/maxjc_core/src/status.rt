@@ -19,7 +19,7 @@ pub enum Status {
 
 impl Status {
     ghost use Rattle.std.specs.Prelude.{◌≡◌};
-    ghost use Rattle.maxjc_core.specs.Codes.{code_of};
+    ghost use Rattle.maxjc_core.specs.ExitStatus.{code_of};
 
     /// The exit status of the program, 0 to 6.
     pub fn code(self) -> u8

@@ -1,9 +1,9 @@
 // What errors of a project and of a report on it stop with.
 ghost use Rattle.std.specs.Prelude.{◌≡◌, Some, IfOk};
 ghost use Rattle.project_netlists.specs.Lines.{IsOfThese};
-ghost use Rattle.maxjc_core.specs.Causes.{netlists_cause};
-ghost use Rattle.maxjc_core.specs.Refusals.{table_cause, project_cause, report_cause, cause_told, IfCause};
-ghost use Rattle.maxjc_core.specs.Stops.{IfRefused};
+ghost use Rattle.maxjc_core.specs.CompileCauses.{netlists_cause};
+ghost use Rattle.maxjc_core.specs.ErrorCauses.{table_cause, project_cause, report_cause, cause_told, IfCause};
+ghost use Rattle.maxjc_core.specs.CompileStops.{IfRefused};
 
 use crate::refusal::Refusal;
 use crate::stop::Stop;

@@ -3,7 +3,7 @@ ghost use Rattle.std.specs.Prelude.{◌≡◌, ◌⊎◌, None, Some};
 ghost use Rattle.stall_source.specs.Stalls.{IsDecided, IsFreeAtZero};
 ghost use Rattle.maxjc_core.specs.Command.{Names, RunNames, ExpectNames, CheckNames, Compile, Simulate, Expect, Check, command_of, usage_line, said_more};
 ghost use Rattle.maxjc_core.specs.Outside.{outside};
-ghost use Rattle.maxjc_core.specs.Ends.{EndsAll};
+ghost use Rattle.maxjc_core.specs.CommandEnds.{EndsAll};
 ghost use Rattle.maxjc_core.specs.CompileEnds.{EndsCompile};
 ghost use Rattle.maxjc_core.specs.SimulateEnds.{EndsSimulate};
 ghost use Rattle.maxjc_core.specs.ExpectEnds.{EndsExpect};

@@ -1,4 +1,4 @@
-// Worked sources.
+// Worked sources, beside those of `kernel_eval_tests`.
 
 /// A kernel alone, whose words pass.
 pub const PASS: &str = "class Pass extends Kernel {
@@ -6,55 +6,6 @@ pub const PASS: &str = "class Pass extends Kernel {
     super(p);
     DFEVar x = io.input(\"x\", dfeUInt(8));
     io.output(\"y\", x, dfeUInt(8));
-  }
-}
-";
-
-/// Two words of a stream, 95 ticks apart, added up in a second kernel.
-pub const SPLIT_ADD: &str = "class Split extends Kernel {
-  Split(KernelParameters p) {
-    super(p);
-    DFEVar x = io.input(\"x\", dfeUInt(8));
-    io.output(\"p\", stream.offset(x, 5), dfeUInt(8));
-    io.output(\"q\", stream.offset(x, 100), dfeUInt(8));
-  }
-}
-class Add2 extends Kernel {
-  Add2(KernelParameters p) {
-    super(p);
-    DFEVar p1 = io.input(\"p\", dfeUInt(8));
-    DFEVar q1 = io.input(\"q\", dfeUInt(8));
-    io.output(\"y\", p1 + q1, dfeUInt(8));
-  }
-}
-class M extends CustomManager {
-  M(EngineParameters e) {
-    super(e);
-    KernelBlock a = addKernel(new Split(makeKernelParameters(\"A\")));
-    KernelBlock b = addKernel(new Add2(makeKernelParameters(\"B\")));
-    a.getInput(\"x\") <== addStreamFromCPU(\"x\");
-    b.getInput(\"p\") <== a.getOutput(\"p\");
-    b.getInput(\"q\") <== a.getOutput(\"q\");
-    addStreamToCPU(\"y\") <== b.getOutput(\"y\");
-  }
-}
-";
-
-/// Two kernels that each wait for the other.
-pub const RING: &str = "class Pass extends Kernel {
-  Pass(KernelParameters p) {
-    super(p);
-    DFEVar x = io.input(\"x\", dfeUInt(8));
-    io.output(\"y\", x, dfeUInt(8));
-  }
-}
-class M extends CustomManager {
-  M(EngineParameters e) {
-    super(e);
-    KernelBlock a = addKernel(new Pass(makeKernelParameters(\"A\")));
-    KernelBlock b = addKernel(new Pass(makeKernelParameters(\"B\")));
-    a.getInput(\"x\") <== b.getOutput(\"y\");
-    b.getInput(\"x\") <== a.getOutput(\"y\");
   }
 }
 ";

@@ -1,8 +1,7 @@
 // Worked sources: the projects that they build, and refusals in the order of the stages.
-use crate::sources::{
-    LOOSE_WRONG, PASS, RING, SAME_NAME, SPLIT_ADD, UNLINKED, WRONG_LOOSE, WRONG_MANAGER,
-};
+use crate::sources::{LOOSE_WRONG, PASS, SAME_NAME, UNLINKED, WRONG_LOOSE, WRONG_MANAGER};
 use crate::telling::{Told, tell};
+use kernel_eval_tests::{RING, SPLIT_ADD};
 use std::test::Fail;
 
 /// A source, its kernels with the number of their nodes, and how many links there are.

@@ -3,7 +3,7 @@ use Rattle.project_rtl.specs.Shapes.{shape_of}
 use Rattle.project_words.specs.Given.{word_count}
 use Rattle.maxjc_core.specs.ExpectCauses.{HasNoLinks, HaveTooMany, IsOfExpect}
 use Rattle.maxjc_core.specs.RunFiles.{HasNoPlan}
-use Rattle.maxjc_core.specs.Stops.{IfRefused}
+use Rattle.maxjc_core.specs.CompileStops.{IfRefused}
 use Rattle.maxjc_core.proofs.Giving.{counted-ticks}
 use Rattle.maxjc_core.proofs.Linking.{linking}
 use Rattle.maxjc_core.proofs.Building.{names_plain}

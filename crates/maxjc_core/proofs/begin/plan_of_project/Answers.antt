@@ -8,7 +8,7 @@ use Rattle.rtl_ir.specs.Rules.{AllDiffer}
 use Rattle.simulation.specs.Plans.{FitsShape, AreApart}
 use Rattle.maxjc_core.specs.ExpectStops.{FitsPorts}
 use Rattle.maxjc_core.specs.RunFiles.{IsPlanned, IsPlanOfBytes, IsRunFault, IsUnfit, HasNoPlan}
-use Rattle.maxjc_core.specs.Stops.{IfRefused}
+use Rattle.maxjc_core.specs.CompileStops.{IfRefused}
 use Rattle.maxjc_core.proofs.Linking.{outputs-differ, both-ok}
 use Rattle.maxjc_core.proofs.Refusing.{refused-so}
 use Rattle.maxjc_core.proofs.begin.plan_of_project.Goals as goal

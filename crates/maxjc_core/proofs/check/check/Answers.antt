@@ -3,8 +3,8 @@ use Rattle.std.specs.Prelude.{IsSome}
 use Rattle.mx_base.specs.Files.{Held}
 use Rattle.maxjc_core.specs.CheckCauses.{IsOfCheck, IsInputTooLarge, CheckStands}
 use Rattle.maxjc_core.specs.Checking.{Checks, IsChecked}
-use Rattle.maxjc_core.specs.Named.{check_told}
-use Rattle.maxjc_core.specs.Stops.{IfRefused}
+use Rattle.maxjc_core.specs.NamedCommand.{check_told}
+use Rattle.maxjc_core.specs.CompileStops.{IfRefused}
 use Rattle.maxjc_core.proofs.Checking.{checked-of, stands-of}
 use Rattle.maxjc_core.proofs.Refusing.{refused-so}
 use Rattle.maxjc_core.proofs.check.check.Goals as goal

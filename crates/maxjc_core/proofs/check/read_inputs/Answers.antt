@@ -1,9 +1,9 @@
 use Rattle.std.proofs.Common.{inl, inr, ⊎_elim}
 use Rattle.std.specs.Prelude.{IsSome}
 use Rattle.mx_base.specs.Files.{Held}
-use Rattle.maxjc_core.specs.Causes.{file_limit, IsTooLarge}
+use Rattle.maxjc_core.specs.CompileCauses.{file_limit, IsTooLarge}
 use Rattle.maxjc_core.specs.CheckCauses.{IsInputTooLarge}
-use Rattle.maxjc_core.specs.Named.{check_told}
+use Rattle.maxjc_core.specs.NamedCommand.{check_told}
 use Rattle.maxjc_core.proofs.Answering.{readable}
 use Rattle.maxjc_core.proofs.CheckExclusion.{missing_inputs, report_fault}
 use Rattle.maxjc_core.proofs.Reading.{within, read_stops}

@@ -2,10 +2,10 @@ use Rattle.std.proofs.Common.{◌≡◌}
 use Rattle.std.specs.Prelude.{IsSome}
 use Rattle.mx_base.specs.Files.{Held}
 use Rattle.maxjc_core.specs.CheckCauses.{CheckStands}
-use Rattle.maxjc_core.specs.Named.{check_told}
+use Rattle.maxjc_core.specs.NamedCommand.{check_told}
 use Rattle.maxjc_core.specs.Command.{said_more}
-use Rattle.maxjc_core.specs.Lines.{line_of}
-use Rattle.maxjc_core.specs.Refusals.{cause_told, IfCause}
+use Rattle.maxjc_core.specs.CauseLines.{line_of}
+use Rattle.maxjc_core.specs.ErrorCauses.{cause_told, IfCause}
 use Rattle.maxjc_core.proofs.Refusing.{both_of, cause_of}
 use Rattle.maxjc_core.proofs.Exclusion.{told}
 use Rattle.maxjc_core.proofs.CheckExclusion.{excluded_check, told_from_check, good_from_checked}

@@ -1,5 +1,5 @@
 use Rattle.mx_base.specs.Files.{Held}
-use Rattle.maxjc_core.specs.Named.{names_told}
+use Rattle.maxjc_core.specs.NamedCommand.{names_told}
 use Rattle.maxjc_core.proofs.Answering.{answers_of, answers_unread}
 use Rattle.maxjc_core.proofs.compile.compile.Goals as goal
 

@@ -2,7 +2,7 @@
 use Rattle.std.proofs.Common.{subst}
 use Rattle.std.specs.Prelude.{All}
 use Rattle.kernel_report.specs.Judging.{ShownAreLeast}
-use Rattle.maxjc_core.specs.Refusals.{cause_told}
+use Rattle.maxjc_core.specs.ErrorCauses.{cause_told}
 use Rattle.maxjc_core.proofs.Compiling.{printable, compiles_of}
 use Rattle.maxjc_core.proofs.Judging.{of-netlists}
 use Rattle.maxjc_core.proofs.compile.compile_project.Goals as goal

@@ -1,11 +1,11 @@
 use Rattle.std.proofs.Common.{◌≡◌, inr}
 use Rattle.std.specs.Prelude.{IsSome}
 use Rattle.mx_base.specs.Files.{Held}
-use Rattle.maxjc_core.specs.Causes.{Stands}
-use Rattle.maxjc_core.specs.Named.{names_told}
+use Rattle.maxjc_core.specs.CompileCauses.{Stands}
+use Rattle.maxjc_core.specs.NamedCommand.{names_told}
 use Rattle.maxjc_core.specs.Command.{said_more}
-use Rattle.maxjc_core.specs.Lines.{line_of}
-use Rattle.maxjc_core.specs.Refusals.{cause_told, IfCause}
+use Rattle.maxjc_core.specs.CauseLines.{line_of}
+use Rattle.maxjc_core.specs.ErrorCauses.{cause_told, IfCause}
 use Rattle.maxjc_core.proofs.Refusing.{both_of, cause_of}
 use Rattle.maxjc_core.proofs.Exclusion.{excluded, told, told_from_cause, built_from_compiled}
 use Rattle.maxjc_core.proofs.compile_command.run_compile.Goals as goal

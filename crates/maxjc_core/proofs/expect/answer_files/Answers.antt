@@ -2,7 +2,7 @@
 use Rattle.std.proofs.Common.{◌∙◌, Err, inl, inr, length, ap, sym, ⊎_elim}
 use Rattle.mx_base.specs.Files.{Held}
 use Rattle.maxjc_core.specs.ExpectStops.{readings_in}
-use Rattle.maxjc_core.specs.Named.{expect_told}
+use Rattle.maxjc_core.specs.NamedCommand.{expect_told}
 use Rattle.maxjc_core.proofs.Expecting.{answers-of, line-stands, lacks-four, lacks-input}
 use Rattle.maxjc_core.proofs.ExpectClauses.{ticks-for, missing-four, missing-input, read-lacks-none}
 use Rattle.maxjc_core.proofs.InputReading.{err-same, ok-no-error, no-error, told-by-lack}

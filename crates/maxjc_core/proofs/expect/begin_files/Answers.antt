@@ -3,8 +3,8 @@ use Rattle.std.specs.Prelude.{IsSome}
 use Rattle.mx_base.specs.Files.{Held}
 use Rattle.maxjc_core.specs.ExpectCauses.{IsOfExpect, IsFileTooLarge, ExpectStands}
 use Rattle.maxjc_core.specs.ExpectStops.{BeginsAs, BeginsIn, FitsPorts, IsReady}
-use Rattle.maxjc_core.specs.Named.{expect_told}
-use Rattle.maxjc_core.specs.Stops.{IfRefused}
+use Rattle.maxjc_core.specs.NamedCommand.{expect_told}
+use Rattle.maxjc_core.specs.CompileStops.{IfRefused}
 use Rattle.maxjc_core.proofs.Expecting.{begins-of, expect-stands-of}
 use Rattle.maxjc_core.proofs.Linking.{both-ok}
 use Rattle.maxjc_core.proofs.Refusing.{refused-so}

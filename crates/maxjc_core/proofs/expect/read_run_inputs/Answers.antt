@@ -1,10 +1,10 @@
 use Rattle.std.proofs.Common.{inl, inr, ⊎_elim}
 use Rattle.std.specs.Prelude.{IsSome}
 use Rattle.mx_base.specs.Files.{Held}
-use Rattle.maxjc_core.specs.Causes.{file_limit}
+use Rattle.maxjc_core.specs.CompileCauses.{file_limit}
 use Rattle.maxjc_core.specs.CheckCauses.{IsInputTooLarge}
 use Rattle.maxjc_core.specs.ExpectCauses.{IsFileTooLarge}
-use Rattle.maxjc_core.specs.Named.{expect_told}
+use Rattle.maxjc_core.specs.NamedCommand.{expect_told}
 use Rattle.maxjc_core.proofs.Checking.{checkable}
 use Rattle.maxjc_core.proofs.ExpectMissing.{missing-run-inputs, run-fault}
 use Rattle.maxjc_core.proofs.Reading.{within, read_stops}

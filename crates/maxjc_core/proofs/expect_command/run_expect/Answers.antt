@@ -6,9 +6,9 @@ use Rattle.simulation.specs.Outputs.{ChangesOnlyOutputs}
 use Rattle.maxjc_core.specs.Command.{said_more}
 use Rattle.maxjc_core.specs.ExpectCauses.{ExpectStands}
 use Rattle.maxjc_core.specs.ExpectEnds.{HoldsLines}
-use Rattle.maxjc_core.specs.Lines.{line_of}
-use Rattle.maxjc_core.specs.Named.{expect_told}
-use Rattle.maxjc_core.specs.Refusals.{cause_told, IfCause}
+use Rattle.maxjc_core.specs.CauseLines.{line_of}
+use Rattle.maxjc_core.specs.NamedCommand.{expect_told}
+use Rattle.maxjc_core.specs.ErrorCauses.{cause_told, IfCause}
 use Rattle.maxjc_core.proofs.Exclusion.{told}
 use Rattle.maxjc_core.proofs.ExpectExclusion.{excluded-expect, told-from-expect}
 use Rattle.maxjc_core.proofs.Refusing.{both_of, cause_of}

@@ -4,7 +4,7 @@ use Rattle.std.specs.Prelude.{IsSome}
 use Rattle.mx_base.specs.Files.{Held}
 use Rattle.simulation.specs.Errors.{stop_of}
 use Rattle.maxjc_core.specs.InputWords.{reading_of, HasWords, IsLineFault}
-use Rattle.maxjc_core.specs.Refusals.{stop_cause}
+use Rattle.maxjc_core.specs.ErrorCauses.{stop_cause}
 use Rattle.maxjc_core.proofs.ExpectMissing.{no-cause-left}
 use Rattle.maxjc_core.proofs.InputReading.{err-same, no-error, cause-held, has-words, line-fault}
 use Rattle.maxjc_core.proofs.Refusing.{refused-so}

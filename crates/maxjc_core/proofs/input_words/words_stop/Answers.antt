@@ -1,6 +1,6 @@
 use Rattle.std.proofs.Common.{◌≡◌, Some, sym, subst}
 use Rattle.simulation.specs.Errors.{stop_of}
-use Rattle.maxjc_core.specs.Refusals.{IfCause, stop_cause}
+use Rattle.maxjc_core.specs.ErrorCauses.{IfCause, stop_cause}
 use Rattle.maxjc_core.proofs.InputReading.{own-line}
 use Rattle.maxjc_core.proofs.input_words.words_stop.Goals as goal
 

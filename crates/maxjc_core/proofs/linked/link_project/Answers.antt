@@ -5,7 +5,7 @@ use Rattle.manager_links.specs.Starts.{AreTimes}
 use Rattle.maxjc_core.specs.CheckCauses.{IsOfCheck}
 use Rattle.maxjc_core.specs.ExpectCauses.{IsTooDeep, HasNoLinks}
 use Rattle.maxjc_core.specs.Expecting.{report_times}
-use Rattle.maxjc_core.specs.Stops.{IfRefused}
+use Rattle.maxjc_core.specs.CompileStops.{IfRefused}
 use Rattle.maxjc_core.proofs.Checking.{showing}
 use Rattle.maxjc_core.proofs.Linking.{timed-parts}
 use Rattle.maxjc_core.proofs.Refusing.{refused-so}

@@ -5,9 +5,9 @@ use Rattle.rtl_ir.specs.Interfaces.{IsInterface}
 use Rattle.rtl_ir.specs.Ports.{Shape}
 use Rattle.rtl_ir.specs.Rules.{AllDiffer}
 use Rattle.simulation.specs.Plans.{FitsShape}
-use Rattle.maxjc_core.specs.Stops.{IfRefused}
+use Rattle.maxjc_core.specs.CompileStops.{IfRefused}
 use Rattle.maxjc_core.specs.RunFiles.{IsRunFault, IsUnfit, IsPlanned}
-use Rattle.maxjc_core.specs.RunCauses.{BreaksForm}
+use Rattle.maxjc_core.specs.SimulateCauses.{BreaksForm}
 use Rattle.simulation.proofs.OutputNames.{names_differ}
 use Rattle.maxjc_core.proofs.RunExclusion.{fit_apart, run_not_refused, plan_not_refused}
 use Rattle.maxjc_core.proofs.RunReading.{refused_so, text_breaks, run_breaks, plan_breaks, fit_as, top_is}

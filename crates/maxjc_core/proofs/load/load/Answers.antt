@@ -1,9 +1,9 @@
 use Rattle.std.proofs.Common.{inl, inr, ⊎_elim}
 use Rattle.mx_base.specs.Files.{Held}
-use Rattle.maxjc_core.specs.Causes.{file_limit}
+use Rattle.maxjc_core.specs.CompileCauses.{file_limit}
 use Rattle.maxjc_core.specs.Loading.{text_limit}
-use Rattle.maxjc_core.specs.Named.{run_told}
-use Rattle.maxjc_core.specs.RunCauses.{IsFaulty}
+use Rattle.maxjc_core.specs.NamedCommand.{run_told}
+use Rattle.maxjc_core.specs.SimulateCauses.{IsFaulty}
 use Rattle.maxjc_core.proofs.Reading.{within, read_stops}
 use Rattle.maxjc_core.proofs.RunLoading.{missing_stops, within_read, load_answers, faulty_loads_not, loaded_refused_not}
 use Rattle.maxjc_core.proofs.load.load.Goals as goal

@@ -1,6 +1,6 @@
 use Rattle.std.proofs.Common.{inl, inr, ⊎_elim}
 use Rattle.mx_base.specs.Files.{Held}
-use Rattle.maxjc_core.specs.Causes.{file_limit, IsTooLarge}
+use Rattle.maxjc_core.specs.CompileCauses.{file_limit, IsTooLarge}
 use Rattle.maxjc_core.proofs.Reading.{within, read_stops, missing_stops}
 use Rattle.maxjc_core.proofs.project.read_project.Goals as goal
 

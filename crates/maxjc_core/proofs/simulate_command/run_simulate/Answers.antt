@@ -2,12 +2,12 @@ use Rattle.std.proofs.Common.{◌≡◌, ◌∙◌, Ok, Err, inl, inr, ⊎_elim}
 use Rattle.std.specs.Prelude.{IsSome}
 use Rattle.mx_base.specs.Files.{Held}
 use Rattle.stall_source.specs.Stalls.{Answers}
-use Rattle.maxjc_core.specs.Named.{run_told}
+use Rattle.maxjc_core.specs.NamedCommand.{run_told}
 use Rattle.maxjc_core.specs.Command.{said_more}
-use Rattle.maxjc_core.specs.Lines.{line_of}
-use Rattle.maxjc_core.specs.Refusals.{cause_told, stop_cause, IfCause}
-use Rattle.maxjc_core.specs.RunCauses.{IsFaulty}
-use Rattle.maxjc_core.specs.RunEnds.{RefusesRun, ReadFails}
+use Rattle.maxjc_core.specs.CauseLines.{line_of}
+use Rattle.maxjc_core.specs.ErrorCauses.{cause_told, stop_cause, IfCause}
+use Rattle.maxjc_core.specs.SimulateCauses.{IsFaulty}
+use Rattle.maxjc_core.specs.SimulateRuns.{RefusesRun, ReadFails}
 use Rattle.maxjc_core.proofs.Refusing.{both_of, of_cause}
 use Rattle.maxjc_core.proofs.RunEnding.{IsMade, IsSimulated, simulated, ends_so}
 use Rattle.maxjc_core.proofs.RunClauses.{stopped_not_done, stopped_not_limited, run_done}

@@ -4,7 +4,7 @@ use Rattle.maxjc_core.specs.Command.{Names, RunNames, ExpectNames, CheckNames, C
 use Rattle.maxjc_core.specs.CompileEnds.{EndsCompile}
 use Rattle.maxjc_core.specs.CheckEnds.{EndsCheck}
 use Rattle.maxjc_core.specs.ExpectEnds.{EndsExpect}
-use Rattle.maxjc_core.specs.Named.{names_told, run_told, expect_told, check_told}
+use Rattle.maxjc_core.specs.NamedCommand.{names_told, run_told, expect_told, check_told}
 use Rattle.maxjc_core.specs.Outside.{Outside, outside}
 use Rattle.maxjc_core.specs.SimulateEnds.{EndsSimulate}
 use Rattle.maxjc_core.proofs.OneCommand.{same_names, same_run_names, same_expect_names, same_check_names}

@@ -10,9 +10,9 @@ use Rattle.simulation.specs.Ends.{End, Done, Limit, Stopped}
 use Rattle.simulation.specs.Outputs.{ChangesOnlyOutputs, Leaves}
 use Rattle.simulation.specs.Answers.{Finishes, Breaks, IsInterrupted, IsMissing}
 use Rattle.maxjc_core.specs.Command.{RunNames, said_more}
-use Rattle.maxjc_core.specs.Lines.{Cause, TooManyCells, BadLine, WordRange, line_of}
+use Rattle.maxjc_core.specs.CauseLines.{Cause, TooManyCells, BadLine, WordRange, line_of}
 use Rattle.maxjc_core.specs.Loading.{IsLoaded, setup}
-use Rattle.maxjc_core.specs.RunCauses.{IsFaulty, IsVast, IsSmall, LacksFile}
+use Rattle.maxjc_core.specs.SimulateCauses.{IsFaulty, IsVast, IsSmall, LacksFile}
 
 abbrev pub done_line : ℕ → List ℕ
 done_line edges = codes "done after " ++ decimal edges ++ codes " edges\n"

@@ -4,8 +4,8 @@ use Rattle.mx_base.specs.Counts.{Rose}
 use Rattle.mx_base.specs.Files.{Held, Holds}
 use Rattle.maxjc_core.specs.Command.{Names, said_more}
 use Rattle.maxjc_core.specs.Outside.{Outside}
-use Rattle.maxjc_core.specs.Causes.{Stands, IsReadable}
-use Rattle.maxjc_core.specs.Lines.{Cause, line_of}
+use Rattle.maxjc_core.specs.CompileCauses.{Stands, IsReadable}
+use Rattle.maxjc_core.specs.CauseLines.{Cause, line_of}
 use Rattle.maxjc_core.specs.Compiling.{Compiles}
 use Rattle.maxjc_core.specs.declared.status.Status.{Status}
 use Rattle.maxjc_core.specs.declared.status.Status.TheVariants.{Done, Refused, Usage, ReadFault, WriteFault, NoMemory, EdgeLimit}

@@ -13,7 +13,7 @@ use Rattle.project_build.specs.declared.error.ProjectError.{ProjectError}
 use Rattle.project_build.specs.declared.error.ProjectError.TheVariants as project_errors
 use Rattle.project_check.specs.declared.error.CheckError.{CheckError}
 use Rattle.project_check.specs.declared.error.CheckError.TheVariants as check_errors
-use Rattle.maxjc_core.specs.Lines.{
+use Rattle.maxjc_core.specs.CauseLines.{
   Cause,
   TooLarge,
   SourceFault,
@@ -30,7 +30,7 @@ use Rattle.maxjc_core.specs.Lines.{
   BadLine,
   WordRange,
 }
-use Rattle.maxjc_core.specs.RunCauses.{text_cause}
+use Rattle.maxjc_core.specs.SimulateCauses.{text_cause}
 use Rattle.maxjc_core.specs.declared.refusal.Refusal.{Refusal}
 use Rattle.maxjc_core.specs.declared.refusal.Refusal.TheVariants as refusals
 

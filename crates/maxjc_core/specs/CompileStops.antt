@@ -2,9 +2,9 @@
 use Rattle.std.specs.Prelude.{ℕ, List, IsSome, Result, Ok, Err}
 use Rattle.mx_base.specs.Files.{Held}
 use Rattle.maxjc_core.specs.Command.{Name, Names}
-use Rattle.maxjc_core.specs.Causes.{file_limit, IsWithin, IsReadable, Stands}
-use Rattle.maxjc_core.specs.Lines.{Cause}
-use Rattle.maxjc_core.specs.Refusals.{cause_told, IfCause}
+use Rattle.maxjc_core.specs.CompileCauses.{file_limit, IsWithin, IsReadable, Stands}
+use Rattle.maxjc_core.specs.CauseLines.{Cause}
+use Rattle.maxjc_core.specs.ErrorCauses.{cause_told, IfCause}
 use Rattle.maxjc_core.specs.Compiling.{Compiles}
 use Rattle.maxjc_core.specs.declared.stop.Stop.{Stop}
 use Rattle.maxjc_core.specs.declared.stop.Stop.TheVariants as stops

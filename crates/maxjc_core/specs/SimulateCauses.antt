@@ -19,8 +19,8 @@ use Rattle.simulation.specs.Inputs as lines
 use Rattle.simulation.specs.Ends.{Ends, Stopped}
 use Rattle.simulation.specs.Answers.{IsMissing}
 use Rattle.maxjc_core.specs.Command.{RunNames}
-use Rattle.maxjc_core.specs.Lines.{Cause, TooLarge, NoToken, Syntax, Rule, PortShape, TooManyCells, NotJson, RunShape, BadLine, WordRange}
-use Rattle.maxjc_core.specs.Causes.{file_limit, IsWithin, IsPast}
+use Rattle.maxjc_core.specs.CauseLines.{Cause, TooLarge, NoToken, Syntax, Rule, PortShape, TooManyCells, NotJson, RunShape, BadLine, WordRange}
+use Rattle.maxjc_core.specs.CompileCauses.{file_limit, IsWithin, IsPast}
 use Rattle.maxjc_core.specs.Loading.{text_limit, AreRead, IsLoaded, setup}
 
 -- the number of a rule, and the names that break it. Want of memory is no cause

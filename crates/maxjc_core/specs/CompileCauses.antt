@@ -14,7 +14,7 @@ use Rattle.project_netlists.specs.Laws.{HasCause}
 use Rattle.project_netlists.specs.Refused.{FitsBits}
 use Rattle.project_netlists.specs.Scheduled.{HasSchedule, AreBestSchedules, all_times}
 use Rattle.maxjc_core.specs.Command.{Name, Names}
-use Rattle.maxjc_core.specs.Lines.{Cause, TooLarge, NoSchedule, TooManyBits, LinkTooDeep}
+use Rattle.maxjc_core.specs.CauseLines.{Cause, TooLarge, NoSchedule, TooManyBits, LinkTooDeep}
 use Rattle.maxjc_core.specs.Projects.{IsProjectOf, MakesNoProject}
 
 -- the most bytes of a file that is read whole: 2 ^ 24
