@@ -1,3 +1,4 @@
+-- Made by tools/source_grammar.py from tools/source_grammar.txt.
 -- The table holds the family of moves, and no more.
 use Rattle.std.proofs.Common.{true, false, List, inl, inr, refl, subst}
 use Rattle.maxj_syntax.specs.declared.level.Level.{Level}

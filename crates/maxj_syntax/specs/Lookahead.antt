@@ -1,3 +1,4 @@
+-- Made by tools/source_grammar.py from tools/source_grammar.txt.
 -- What the parser knows of a rule: the tokens with which it may begin and go on, and whether it may be empty.
 use Rattle.std.specs.Prelude.{List, [], ◌∷◌, ℕ, Bool, true, false}
 use Rattle.maxj_syntax.specs.declared.level.Level.{Level}

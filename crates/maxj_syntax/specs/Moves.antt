@@ -1,3 +1,4 @@
+-- Made by tools/source_grammar.py from tools/source_grammar.txt.
 -- The productions in the form that the parser reads: the next token tells the choice. Between the symbols stand the steps that
 -- build the tree, on a stack of trees that aren't whole yet.
 use Rattle.std.specs.Prelude.{◌≡◌, ℕ, Bool, true, false, ◌&&◌, List, [], ◌∷◌, ◌++◌, codes}

@@ -1,3 +1,4 @@
+-- Made by tools/source_grammar.py from tools/source_grammar.txt.
 -- The table of the parser: the choices of each rule, and the tokens with which each is taken.
 use Rattle.std.specs.Prelude.{List, [], ◌∷◌, ◌++◌, true, false}
 use Rattle.maxj_syntax.specs.declared.level.Level.{Level}

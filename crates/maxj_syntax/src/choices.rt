@@ -1,3 +1,4 @@
+// Made by tools/source_grammar.py from tools/source_grammar.txt.
 // The choices of each rule, as the parser reads them.
 
 ghost use Rattle.std.specs.Prelude.{◌≡◌, map};

@@ -1,3 +1,4 @@
+// Made by tools/source_grammar.py from tools/source_grammar.txt.
 // The tokens with which each choice of a rule is taken.
 
 ghost use Rattle.std.specs.Prelude.{◌≡◌, map};
