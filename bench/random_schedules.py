@@ -25,7 +25,7 @@ from dataclasses import dataclass
 import library_program
 
 BENCH = pathlib.Path(__file__).resolve().parent
-BELOW = ["mx_base", "cycle_find", "schedule_problem", "schedule_flow"]
+BELOW = ["mx_base", "cycle_find", "schedule_problem", "dual_check", "schedule_flow"]
 PROBLEMS = library_program.TOP / "crates/schedule_flow_tests/src/problems.rt"
 MOST_NODES = 14
 SHARE = 10  # one kernel in so many, at least, has times, and one has none
@@ -228,7 +228,7 @@ def main():
     with tempfile.TemporaryDirectory() as folder:
         work = pathlib.Path(folder)
         solver, found = fewest_bits(kernels, work, words[2] if len(words) > 2 else None)
-        uses = "anyhow cycle_find mx_base schedule_flow schedule_problem"
+        uses = "anyhow cycle_find dual_check mx_base schedule_flow schedule_problem"
         program = library_program.built(work, "random_schedules", BELOW, uses, [PROBLEMS])
         lines = "".join(kernel.line() + "\n" for kernel in kernels)
         said = iter(subprocess.run([str(program)], input=lines, capture_output=True, text=True, check=True).stdout.splitlines())

@@ -23,7 +23,7 @@ import library_program
 
 TOP = pathlib.Path(__file__).resolve().parent.parent
 BENCH = TOP / "bench"
-BELOW = ["mx_base", "cycle_find", "schedule_problem", "schedule_flow"]
+BELOW = ["mx_base", "cycle_find", "schedule_problem", "dual_check", "schedule_flow"]
 SIZES = [1024, 4096]
 REACH = 64  # how far back a node reads
 
@@ -151,7 +151,7 @@ def written(nodes, edges, producers, base):
 
 def built(work):
     """The program over `schedule_flow`, proved and built."""
-    uses = "anyhow cycle_find mx_base schedule_flow schedule_problem"
+    uses = "anyhow cycle_find dual_check mx_base schedule_flow schedule_problem"
     problems = TOP / "crates/schedule_flow_tests/src/problems.rt"
     return library_program.built(work, "schedule_speed", BELOW, uses, [problems])
 
@@ -159,12 +159,12 @@ def built(work):
 def run_ours(program, numbers, nodes, edges, producers, base):
     """The bits, and the seconds."""
     said = subprocess.run([str(program)], input=numbers, capture_output=True, text=True, check=True).stdout.split()
-    sends, microseconds, *times = map(int, said)
+    microseconds, *times = map(int, said)
     for producer, consumer, latency, offset in edges:
         assert times[consumer] - times[producer] >= latency + offset, "times that aren't legal"
         assert times[nodes + producer] - times[consumer] >= -offset, "times that aren't legal"
     bits = sum(width * (times[nodes + node] - times[node]) for node, width, _ in producers) - base
-    print(f"best: {bits} bits, {microseconds / 1e6:.3f} s, flow sent along {sends} paths")
+    print(f"best: {bits} bits, {microseconds / 1e6:.3f} s")
     return bits, microseconds / 1e6
 
 

@@ -4,7 +4,8 @@ ghost use Rattle.cycle_find.specs.Constraints.{numbers_of, need_of, IsLeast, IsS
 ghost use Rattle.cycle_find.specs.Search.{Refutes, so_far};
 
 use crate::arcs::{Arc, Arcs, Cycle};
-use crate::search::{arc_number, sweep, walk_back};
+use crate::order::rising;
+use crate::search::{arc_number, sweep, sweep_along, walk_back};
 use mx_base::NoMemory;
 use std::alloc::{AllocError, Global};
 
@@ -37,10 +38,25 @@ impl From<AllocError> for SolveError {
     }
 }
 
-/// The least numbers, none below 0, that meet all arcs, by sweeps over the arcs that go forwards and
-/// backwards in turn: one per node, and each at most the number of
-/// nodes times the greatest size of a need. `Cycle` comes exactly where no numbers meet all arcs.
+/// The least numbers, none below 0, that meet all arcs: one per node, and each at most the number of
+/// nodes times the greatest size of a need. `Cycle` comes exactly where no numbers meet all arcs. The
+/// time is linear where the arcs have no cycle.
 pub fn solve(alloc: Global, arcs: &Arcs) -> Result<Vec<i64>, SolveError>
+    requires { IsSolvable arcs.now }
+    ensures one_each { IfOk result (λ x. length x.items ≡ arcs.now.nodes) }
+    ensures least { IfOk result (λ x. IsLeast (numbers_of x.items) arcs.now.list) }
+    ensures within { IfOk result (λ x. (size : ℕ) → NeedsWithin size arcs.now.list
+        → (v : ℕ) → numbers_of x.items v ≤ℤ pos (arcs.now.nodes * size)) }
+    ensures cycle { IfErr result (Refutes arcs.now.list) }
+{
+    let order = rising(alloc, arcs)?;
+    solve_along(alloc, arcs, order.as_slice())
+}
+
+/// The same as `solve` answers, by a sweep over the arcs of these numbers in their order, and then
+/// sweeps over all arcs that go forwards and backwards in turn. Whatever the order is, the answer is
+/// the same; after a good one the second sweep is the last.
+pub fn solve_along(alloc: Global, arcs: &Arcs, order: &[u32]) -> Result<Vec<i64>, SolveError>
     requires { IsSolvable arcs.now }
     ensures one_each { IfOk result (λ x. length x.items ≡ arcs.now.nodes) }
     ensures least { IfOk result (λ x. IsLeast (numbers_of x.items) arcs.now.list) }
@@ -56,6 +72,11 @@ pub fn solve(alloc: Global, arcs: &Arcs) -> Result<Vec<i64>, SolveError>
     let mut arcs_of = vec![in alloc; 0u32; nodes]?;
     let x = numbers.as_mut_slice();
     let via = arcs_of.as_mut_slice();
+    if let Some(node) = sweep_along(list, order, x, via, size, limit) {
+        if let Some(cycle) = walk_back(alloc, list, x, via, node)? {
+            return Err(SolveError::Cycle(cycle));
+        }
+    }
     let mut back = false;
     while let Some(node) = sweep(list, x, via, size, limit, back) {
         if let Some(cycle) = walk_back(alloc, list, x, via, node)? {

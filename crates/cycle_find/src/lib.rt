@@ -6,9 +6,10 @@
 mod arcs;
 mod check;
 mod least;
+mod order;
 mod search;
 
 pub use arcs::{Arc, Arcs, Cycle};
 pub use check::solve_ok;
-pub use least::{SolveError, solve};
+pub use least::{SolveError, solve, solve_along};
 pub use search::arc_number;

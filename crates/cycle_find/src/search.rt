@@ -84,6 +84,39 @@ pub fn sweep(
     last
 }
 
+/// Goes over arcs in the order of these numbers, and passes over a number that is none of an arc. It
+/// stops at a node above the limit, and answers it.
+pub fn sweep_along(
+    list: &[Arc],
+    order: &[u32],
+    x: &mut [u64],
+    via: &mut [u32],
+    size: u64,
+    limit: u64,
+) -> Option<usize>
+    requires few { length list.now < 2 ^ 32 }
+    requires ends { EndsInRange (length x.old) list.now }
+    requires size { NeedsWithin size list.now }
+    requires room { size ≤ 2 ^ 60 }
+    requires limit { limit ≤ 2 ^ 60 }
+    requires raised { IsRaised list.now x.old via.old }
+    requires within { (v : ℕ) → slice_index x.old v ≤ limit }
+    ensures raised { IsRaised list.now x.new via.new }
+    ensures within { IfNone result ((v : ℕ) → slice_index x.new v ≤ limit) }
+    ensures above { IfSome result (IsWithinBut x.new limit size) }
+{
+    for number in order {
+        let j = *number as usize;
+        if j < list.len() && raise(list, j, x, via, size) {
+            let node = arc_number(list, j).to as usize;
+            if x[node] > limit {
+                return Some(node);
+            }
+        }
+    }
+    None
+}
+
 /// Walks back from a node along the arcs that raised it: to a node that nothing raised, or round a cycle.
 pub fn walk_back(
     alloc: Global,

@@ -8,5 +8,6 @@ mod checking;
 mod value;
 mod verdict;
 
+pub use balance::first_unbalanced;
 pub use checking::check;
 pub use verdict::Verdict;

@@ -6,7 +6,8 @@ ghost use Rattle.schedule_flow.specs.Network.{IsTight};
 ghost use Rattle.schedule_flow.specs.Earliest.{IsTightened, SizesWithin, turned_arc};
 
 use crate::arcs::{arc_count, arc_of};
-use cycle_find::{Arc, Arcs, SolveError, solve};
+use crate::settling::settling;
+use cycle_find::{Arc, Arcs, SolveError, solve_along};
 use mx_base::{List, NoMemory};
 use schedule_problem::Problem;
 use std::alloc::{AllocError, Global};
@@ -69,13 +70,13 @@ pub fn earliest(
         → IsTight problem.now z (flow_of flow.now) → IsNonNegative z
         → (v : ℕ) → numbers_of y.items v ≤ℤ z v) }
 {
-    let _known = x;
     let list = tightened(alloc, problem, flow)?;
     let arcs = Arcs {
         nodes: problem.arcs.nodes,
         list: List::from_vec(list),
     };
-    match solve(alloc, &arcs) {
+    let order = settling(alloc, &arcs, x)?;
+    match solve_along(alloc, &arcs, order.as_slice()) {
         Ok(times) => Ok(times),
         Err(SolveError::NoMemory) => Err(NoMemory),
         Err(SolveError::Cycle(_)) => unreachable!(),

@@ -7,12 +7,14 @@
 mod adjacency;
 mod arcs;
 mod balance;
+mod certified;
 mod earliest;
 mod follow;
 mod guide;
 mod network;
 mod queue;
 mod search;
+mod settling;
 mod simplex;
 mod solver;
 mod start;

@@ -19,7 +19,8 @@ pub struct Guess {
 }
 
 /// A node of the spanning tree: its parent, the arc between the two, its first child, the children of
-/// its parent beside it, its depth, and its time, by which the arcs of the tree have no slack.
+/// its parent beside it, how many nodes stand below it, with itself, and its time, by which the arcs of
+/// the tree have no slack.
 #[derive(Clone, Copy)]
 struct TreeNode {
     parent: u32,
@@ -27,7 +28,7 @@ struct TreeNode {
     child: u32,
     next: u32,
     before: u32,
-    depth: u32,
+    size: u32,
     time: i64,
 }
 
@@ -199,7 +200,7 @@ fn nowhere() -> TreeNode {
         child: NONE,
         next: NONE,
         before: NONE,
-        depth: 0,
+        size: 1,
         time: 0,
     }
 }
@@ -279,16 +280,23 @@ impl Simplex {
         self.hang(v, arc.from, number, time);
     }
 
-    /// Hangs a node that hangs nowhere.
+    /// Hangs a node for the first time.
     fn hang(&mut self, v: u32, parent: u32, arc: u32, time: i64) {
+        if let Some(node) = self.nodes.get_mut(v as usize) {
+            node.time = time;
+        }
+        self.link(v, parent, arc);
+        self.grow(parent, NONE, 1);
+    }
+
+    /// Hangs a node that hangs nowhere. The sizes above it stay.
+    fn link(&mut self, v: u32, parent: u32, arc: u32) {
         let above = self.node(parent);
         if let Some(node) = self.nodes.get_mut(v as usize) {
             node.parent = parent;
             node.arc = arc;
             node.before = NONE;
             node.next = above.child;
-            node.depth = above.depth.wrapping_add(1);
-            node.time = time;
         }
         if let Some(node) = self.nodes.get_mut(above.child as usize) {
             node.before = v;
@@ -298,7 +306,22 @@ impl Simplex {
         }
     }
 
-    /// Takes a node from its parent.
+    /// Adds to the sizes from a node up, as far as another one, whose size stays.
+    fn grow(&mut self, start: u32, end: u32, by: u32) {
+        let mut v = start;
+        for _ in 0..STEPS {
+            if v == end {
+                break;
+            }
+            let Some(node) = self.nodes.get_mut(v as usize) else {
+                break;
+            };
+            node.size = node.size.wrapping_add(by);
+            v = node.parent;
+        }
+    }
+
+    /// Takes a node from its parent. The sizes above it stay.
     fn cut(&mut self, v: u32) {
         let node = self.node(v);
         if let Some(before) = self.nodes.get_mut(node.before as usize) {
@@ -376,7 +399,7 @@ impl Simplex {
         if leaving.amount > 0 {
             self.send(number, join, leaving.amount);
         }
-        self.exchange(number, &leaving);
+        self.exchange(number, &leaving, join);
         true
     }
 
@@ -390,7 +413,7 @@ impl Simplex {
             }
             let a = self.node(v);
             let b = self.node(u);
-            if a.depth >= b.depth {
+            if a.size <= b.size {
                 v = a.parent;
             } else {
                 u = b.parent;
@@ -472,60 +495,99 @@ impl Simplex {
         }
     }
 
-    /// Hangs what the leaving arc cuts off by the entering arc.
-    fn exchange(&mut self, number: u32, leaving: &Leaving) {
+    /// Hangs what the leaving arc cuts off by the entering arc. The cycle meets the way to the root at
+    /// `join`.
+    fn exchange(&mut self, number: u32, leaving: &Leaving, join: u32) {
         let arc = self.arc(number);
-        let top = if leaving.at_start { arc.from } else { arc.to };
-        let mut parent = if leaving.at_start { arc.to } else { arc.from };
+        let (top, parent) = if leaving.at_start {
+            (arc.from, arc.to)
+        } else {
+            (arc.to, arc.from)
+        };
+        let slack = self.slack(&arc);
+        let by = if leaving.at_start {
+            slack
+        } else {
+            slack.wrapping_neg()
+        };
+        let old = self.node(leaving.node);
+        self.grow(old.parent, join, old.size.wrapping_neg());
+        self.grow(parent, join, old.size);
+        self.turn(top, parent, number, leaving.node, old.size);
+        self.shift(top, old.size, by);
+    }
+
+    /// Turns the way from a node up to the one that was cut off, so that the first is on top.
+    fn turn(&mut self, top: u32, above: u32, number: u32, last: u32, size: u32) {
         let mut v = top;
-        let mut by = number;
+        let mut parent = above;
+        let mut arc = number;
+        let mut less = 0u32;
         for _ in 0..STEPS {
             let node = self.node(v);
             self.cut(v);
-            self.hang(v, parent, by, node.time);
-            if v == leaving.node {
+            self.link(v, parent, arc);
+            if let Some(turned) = self.nodes.get_mut(v as usize) {
+                turned.size = size.wrapping_sub(less);
+            }
+            if v == last {
                 break;
             }
+            less = node.size;
             parent = v;
-            by = node.arc;
+            arc = node.arc;
             v = node.parent;
         }
-        let slack = self.slack(&arc);
-        self.shift(
-            top,
-            if leaving.at_start {
-                slack
-            } else {
-                slack.wrapping_neg()
-            },
-        );
     }
 
-    /// Moves the times of a node and of all below it, and says their depths.
-    fn shift(&mut self, top: u32, by: i64) {
+    /// Moves the times of a node and of all below it, so many nodes, against those of all others: of
+    /// the smaller part, since only their distances count.
+    fn shift(&mut self, top: u32, size: u32, by: i64) {
+        let root = number_of(self.nodes.len()).wrapping_sub(1);
+        if size <= root / 2 {
+            self.shift_below(top, NONE, by);
+        } else {
+            self.shift_below(root, top, by.wrapping_neg());
+        }
+    }
+
+    /// Moves the times of a node and of all below it, but for those of another one and below that.
+    fn shift_below(&mut self, top: u32, but: u32, by: i64) {
         let mut v = top;
-        let mut down = true;
         for _ in 0..STEPS {
-            let node = self.node(v);
-            if down {
-                let depth = self.node(node.parent).depth.wrapping_add(1);
+            let mut child = NONE;
+            if v != but {
                 if let Some(node) = self.nodes.get_mut(v as usize) {
                     node.time = node.time.wrapping_add(by);
-                    node.depth = depth;
+                    child = node.child;
                 }
             }
-            if down && node.child != NONE {
-                v = node.child;
-            } else if v == top {
-                break;
-            } else if node.next != NONE {
-                v = node.next;
-                down = true;
+            if child == NONE {
+                v = self.behind(v, top);
+                if v == NONE {
+                    break;
+                }
             } else {
-                v = node.parent;
-                down = false;
+                v = child;
             }
         }
+    }
+
+    /// The node behind a node and all below it, where nodes stand before those below them; `NONE`
+    /// behind all that are below `top`.
+    fn behind(&self, v: u32, top: u32) -> u32 {
+        let mut v = v;
+        for _ in 0..STEPS {
+            if v == top {
+                return NONE;
+            }
+            let node = self.node(v);
+            if node.next != NONE {
+                return node.next;
+            }
+            v = node.parent;
+        }
+        NONE
     }
 
     /// The times, the earliest of them 0, and the flow.

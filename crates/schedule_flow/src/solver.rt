@@ -9,6 +9,7 @@ ghost use Rattle.schedule_flow.specs.Best.{HasNoTimes};
 
 use crate::adjacency::adjacency_of;
 use crate::balance::send_all;
+use crate::certified::certified;
 use crate::earliest::earliest;
 use crate::follow::take_up;
 use crate::guide::Guide;
@@ -63,6 +64,12 @@ pub fn best(alloc: Global, problem: &Problem) -> Result<Answer, BestError>
         → (v : ℕ) → numbers_of a.times v ≤ℤ pos (problem.now.arcs.nodes * size)) }
     ensures cycle { IfErr result (HasNoTimes problem.now) }
 {
+    let legal = legal_times(alloc, problem)?;
+    let net = Residual::new(alloc, problem, &legal)?;
+    let guess = guessed(alloc, problem, &legal, net.rest())?;
+    if let Some(answer) = certified(alloc, problem, guess)? {
+        return Ok(answer);
+    }
     let (answer, _network) = best_counted(alloc, problem)?;
     Ok(answer)
 }
@@ -145,7 +152,7 @@ fn balance(
 }
 
 /// The same numbers in more bits.
-fn wide(alloc: Global, times: &[i64]) -> Result<Vec<i128>, AllocError>
+pub fn wide(alloc: Global, times: &[i64]) -> Result<Vec<i128>, AllocError>
     ensures len { IfOk result (λ y. length y.items ≡ length times.now) }
     ensures same { IfOk result (λ y. (v : ℕ) → numbers_of y.items v ≡ numbers_of times.now v) }
 {

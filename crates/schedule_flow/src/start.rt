@@ -20,7 +20,8 @@ pub fn first_times(problem: &Problem, guessed: Vec<i64>, legal: Vec<i64>) -> Vec
     }
 }
 
-fn is_start(problem: &Problem, times: &[i64]) -> bool
+/// Whether times are legal and neither below 0 nor too large.
+pub fn is_start(problem: &Problem, times: &[i64]) -> bool
     requires { IsProblem problem.now }
     ensures { IsTrue result → IsStart problem.now times.now }
 {

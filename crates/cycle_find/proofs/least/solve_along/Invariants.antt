@@ -1,6 +1,6 @@
 use Rattle.std.proofs.Common.{◌≡◌, ℕ, ◌+◌, ◌-◌, ◌*◌, ◌≤◌, length, slice_index, sum}
 use Rattle.cycle_find.specs.Search.{IsRaised}
-use Rattle.cycle_find.proofs.least.solve.Given as goal
+use Rattle.cycle_find.proofs.least.solve_along.Given as goal
 
 abbrev pub invariant-loop-node : goal.invariant-loop-node
 invariant-loop-node l = record {
