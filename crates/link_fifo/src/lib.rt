@@ -14,8 +14,6 @@ mod exprs;
 mod frame;
 mod nets;
 mod numbers;
-#[cfg(test)]
-mod tests;
 mod updates;
 mod wires;
 

@@ -24,6 +24,3 @@ pub use joints::Joints;
 pub use links::{Link, LinkEnds, Links, PortAt};
 pub use project::Project;
 pub use starting::starts;
-
-#[cfg(test)]
-mod tests;

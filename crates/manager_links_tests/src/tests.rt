@@ -3,8 +3,8 @@ ghost use Rattle.std.specs.Prelude.{◌≡◌, ◌∷◌, [], map, IfOk};
 ghost use Rattle.kernel_meaning.specs.declared.plan.Made.{Made as OneMade};
 ghost use Rattle.manager_links.specs.Plans.{IsWholePlan};
 
-use crate::{Project, starts};
 use kernel_meaning::{Made, Plan};
+use manager_links::{Project, starts};
 use mx_base::{List, NoMemory, Text};
 use std::alloc::Global;
 use std::test::Fail;

@@ -1,4 +1,4 @@
-use crate::fifo;
+use link_fifo::fifo;
 use mx_base::Text;
 use std::test::Fail;
 
