@@ -19,8 +19,7 @@ pub struct Guess {
 }
 
 /// A node of the spanning tree: its parent, the arc between the two, its first child, the children of
-/// its parent beside it, how many nodes stand below it, with itself, and its time, by which the arcs of
-/// the tree have no slack.
+/// its parent beside it, and how many nodes stand below it, with itself.
 #[derive(Clone, Copy)]
 struct TreeNode {
     parent: u32,
@@ -29,7 +28,6 @@ struct TreeNode {
     next: u32,
     before: u32,
     size: u32,
-    time: i64,
 }
 
 /// An arc, and what it carries.
@@ -49,11 +47,12 @@ struct Leaving {
     at_start: bool,
 }
 
-/// A spanning tree with a root besides the nodes, and the arcs: those of the problem, then one between
-/// each node and the root.
+/// A spanning tree with a root besides the nodes; their times, by which the arcs of the tree have no
+/// slack; and the arcs: those of the problem, then one between each node and the root.
 #[derive(Drop)]
 struct Simplex {
     nodes: Vec<TreeNode>,
+    times: Vec<i64>,
     arcs: Vec<TreeArc>,
     arc_count: u32,
     stride: u32,
@@ -108,9 +107,12 @@ fn begin(
 /// The arcs of the problem, and nodes that hang nowhere.
 fn empty(alloc: Global, problem: &Problem) -> Result<Simplex, AllocError> {
     let mut nodes = Vec::new(alloc);
+    let mut times = Vec::new(alloc);
     nodes.push(nowhere())?;
+    times.push(0)?;
     for _ in 0..problem.arcs.nodes {
         nodes.push(nowhere())?;
+        times.push(0)?;
     }
     let mut arcs = Vec::new(alloc);
     for arc in problem.arcs.list.as_slice() {
@@ -124,6 +126,7 @@ fn empty(alloc: Global, problem: &Problem) -> Result<Simplex, AllocError> {
     let arc_count = number_of(arcs.len());
     Ok(Simplex {
         nodes,
+        times,
         arcs,
         arc_count,
         stride: stride(arc_count),
@@ -201,7 +204,6 @@ fn nowhere() -> TreeNode {
         next: NONE,
         before: NONE,
         size: 1,
-        time: 0,
     }
 }
 
@@ -227,6 +229,10 @@ impl Simplex {
             Some(arc) => *arc,
             None => no_arc(),
         }
+    }
+
+    fn time(&self, v: u32) -> i64 {
+        time(self.times.as_slice(), v)
     }
 
     /// More than any walk over arcs is worth.
@@ -273,7 +279,7 @@ impl Simplex {
 
     fn hang_by(&mut self, v: u32, number: u32, carries: u64) {
         let arc = self.arc(number);
-        let time = self.node(arc.from).time.wrapping_add(arc.need);
+        let time = self.time(arc.from).wrapping_add(arc.need);
         if let Some(arc) = self.arcs.get_mut(number as usize) {
             arc.carries = carries;
         }
@@ -282,8 +288,8 @@ impl Simplex {
 
     /// Hangs a node for the first time.
     fn hang(&mut self, v: u32, parent: u32, arc: u32, time: i64) {
-        if let Some(node) = self.nodes.get_mut(v as usize) {
-            node.time = time;
+        if let Some(own) = self.times.get_mut(v as usize) {
+            *own = time;
         }
         self.link(v, parent, arc);
         self.grow(parent, NONE, 1);
@@ -335,10 +341,7 @@ impl Simplex {
     }
 
     fn slack(&self, arc: &TreeArc) -> i64 {
-        let apart = self
-            .node(arc.to)
-            .time
-            .wrapping_sub(self.node(arc.from).time);
+        let apart = self.time(arc.to).wrapping_sub(self.time(arc.from));
         apart.wrapping_sub(arc.need)
     }
 
@@ -557,10 +560,10 @@ impl Simplex {
         for _ in 0..STEPS {
             let mut child = NONE;
             if v != but {
-                if let Some(node) = self.nodes.get_mut(v as usize) {
-                    node.time = node.time.wrapping_add(by);
-                    child = node.child;
+                if let Some(time) = self.times.get_mut(v as usize) {
+                    *time = time.wrapping_add(by);
                 }
+                child = self.node(v).child;
             }
             if child == NONE {
                 v = self.behind(v, top);
@@ -592,18 +595,14 @@ impl Simplex {
 
     /// The times, the earliest of them 0, and the flow.
     fn said(&self, alloc: Global) -> Result<Guess, AllocError> {
-        let nodes = self.nodes.as_slice();
+        let root = number_of(self.nodes.len()).wrapping_sub(1);
         let mut first = i64::MAX;
-        for node in nodes {
-            if node.parent != NONE {
-                first = first.min(node.time);
-            }
+        for v in 0..root {
+            first = first.min(self.time(v));
         }
         let mut times = Vec::new(alloc);
-        for node in nodes {
-            if node.parent != NONE {
-                times.push(node.time.wrapping_sub(first))?;
-            }
+        for v in 0..root {
+            times.push(self.time(v).wrapping_sub(first))?;
         }
         let mut flow = Vec::new(alloc);
         for arc in &self.arcs {
