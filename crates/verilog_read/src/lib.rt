@@ -44,7 +44,7 @@ pub fn read(alloc: Global, bytes: &[u8]) -> Result<Design, VerilogError>
 {
     one_shape();
     let tokens = tokens(alloc, bytes)?;
-    let design = design(alloc, tokens.as_slice(), bytes.len() as u32)?;
+    let design = design(alloc, tokens, bytes.len() as u32)?;
     keep_rules(alloc, &design)?;
     can_run(alloc, &design)?;
     Ok(design)

@@ -41,16 +41,19 @@ fn refusal(alloc: Global, fault: Fault<'_>) -> VerilogError
     }
 }
 
-/// The design of the tokens of a text of this length.
+/// The design of the tokens of a text of this length. The tokens are gone once they are parsed, so that
+/// what they take is free while the design is made.
 pub(crate) fn design(
     alloc: Global,
-    tokens: &[Placed<'_>],
+    tokens: List<Placed<'_>>,
     size: u32,
 ) -> Result<Design, VerilogError>
-    ensures ok { IfOk result (λ d. IsDesign tokens.now d) }
-    ensures err { IfErr result (λ e. IsTreeFault tokens.now size e) }
+    ensures ok { IfOk result (λ d. IsDesign tokens d) }
+    ensures err { IfErr result (λ e. IsTreeFault tokens size e) }
 {
-    match parse(alloc, tokens, size) {
+    let parsed = parse(alloc, tokens.as_slice(), size);
+    drop(tokens);
+    match parsed {
         Ok(trees) => match resolve(alloc, trees.as_slice()) {
             Ok(design) => Ok(design),
             Err(fault) => Err(refusal(alloc, fault)),
