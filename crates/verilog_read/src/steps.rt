@@ -48,8 +48,8 @@ pub(crate) fn design(
     tokens: List<Placed<'_>>,
     size: u32,
 ) -> Result<Design, VerilogError>
-    ensures ok { IfOk result (λ d. IsDesign tokens d) }
-    ensures err { IfErr result (λ e. IsTreeFault tokens size e) }
+    ensures ok { IfOk result (λ d. IsDesign tokens.entry d) }
+    ensures err { IfErr result (λ e. IsTreeFault tokens.entry size e) }
 {
     let parsed = parse(alloc, tokens.as_slice(), size);
     drop(tokens);
