@@ -1,4 +1,4 @@
-use Rattle.std.proofs.Common.{◌≡◌, ℕ, List, [], map, inl, inr, sym, ap, subst}
+use Rattle.std.proofs.Common.{◌≡◌, ℕ, List, [], map, inl, inr, sym, ap, subst, rules}
 use Rattle.rtl_text.specs.Tree.{ModuleTree}
 use Rattle.verilog_syntax.specs.Trees.{module_view}
 use Rattle.verilog_syntax.specs.Parsed.{IsRefused}
@@ -22,9 +22,9 @@ tree_fault tokens size trees NoMemory e are h m = subst (IsTreeFault tokens size
 
 pub returns-in-Ok-clause-err : goal.returns-in-Ok-clause-err
 returns-in-Ok-clause-err c =
-    let trees = c.as_slice-2.result.now in
+    let trees = c.as_slice-in-Ok.result.now in
     let same : map module_view c.in-Ok.trees ≡ map module_view trees =
-        ap (map module_view) (sym c.as_slice-2.ensures) in
+        ap (map module_view) (sym c.as_slice-in-Ok.ensures) in
     let are : AreTrees c.as_slice.result.now (map module_view c.in-Ok.trees) =
         record { derived = c.in-Ok.ensures.derived; only = c.in-Ok.ensures.only } in
     let own : AreTrees c.args.tokens (map module_view c.in-Ok.trees) =
@@ -35,9 +35,7 @@ returns-in-Ok-clause-err c =
 pub returns-in-Err-Syntax-clause-err : goal.returns-in-Err-Syntax-clause-err
 returns-in-Err-Syntax-clause-err c =
     let size = c.args.size in
-    let refused : IsRefused c.as_slice.result.now size (Syntax c.in-Err-Syntax.place) =
-        subst (IsRefused c.as_slice.result.now size) c.in-Err-Syntax.field-0-is
-        c.in-Err-Syntax.ensures.refused in
+    let refused : IsRefused c.as_slice.result.now size (Syntax c.in-Err-Syntax.place) = search rules in
     let own : IsRefused c.args.tokens size (Syntax c.in-Err-Syntax.place) =
         subst (λ tokens. IsRefused tokens size (Syntax c.in-Err-Syntax.place)) c.as_slice.ensures
         refused in
