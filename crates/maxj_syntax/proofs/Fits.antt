@@ -235,6 +235,7 @@ follows_from on p o (q ∷ rest) e =
 abbrev Fits : Rule → Type 0
 Fits r = (choices_fit (set_of (first r)) (nullable r) (set_of (peek r)) (choices r) ≡ true) × (ordered 0 (set_of (peek r)) (guards r) (choices r) ≡ true) × (lighter (weight r) (choices r) ≡ true)
 
+-- Made by tools/source_grammar.py from tools/source_grammar.txt: each rule passes the test.
 pub rule_fits : (r : Rule) → Fits r
 rule_fits R.File = (refl, refl, refl)
 rule_fits (R.Opening false) = (refl, refl, refl)
@@ -264,6 +265,8 @@ rule_fits (R.GreaterThen _) = (refl, refl, refl)
 rule_fits (R.MemoryName Site.Alone) = (refl, refl, refl)
 rule_fits (R.MemoryName _) = (refl, refl, refl)
 rule_fits _ = (refl, refl, refl)
+
+-- By hand again.
 
 -- and each rule that speaks of names
 abbrev NamedFits : Y.Named → Type 0

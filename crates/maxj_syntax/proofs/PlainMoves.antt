@@ -7,6 +7,7 @@ use Rattle.maxj_syntax.specs.Symbols as Y
 use Rattle.maxj_syntax.specs.Moves.{Move, NamedMove}
 use Rattle.maxj_syntax.specs.Plain.{wants, gives, named_wants, named_gives, after_all}
 
+-- Made by tools/source_grammar.py from tools/source_grammar.txt: what each move leaves known.
 pub moved : {r : Rule} {qs : List Symbol} → Move r qs → (fs : List Bool)
     → after_all qs (Some (wants r ++ fs)) ≡ Some (gives r ++ fs)
 moved Move.file fs = refl
@@ -215,6 +216,8 @@ moved Move.further_index fs = refl
 moved Move.tighter_product fs = refl
 moved Move.tighter_sum fs = refl
 moved Move.tighter_shift fs = refl
+
+-- By hand again.
 
 pub named_moved : {n : Y.Named} {qs : List Symbol} → NamedMove n qs → (fs : List Bool)
     → after_all qs (Some (named_wants n ++ fs)) ≡ Some (named_gives n ++ fs)

@@ -115,6 +115,7 @@ sub_list : (r : Rule) → Listed (Sub r ∷ [])
 sub_list R.File = file_list
 sub_list R.Class = class_list
 sub_list (R.Opening m) = opening_list m
+-- Made by tools/source_grammar.py from tools/source_grammar.txt: the rules that have a rank.
 sub_list R.Package = ranked R.Package refl
 sub_list R.Path = ranked R.Path refl
 sub_list R.MorePath = ranked R.MorePath refl
@@ -219,6 +220,8 @@ sub_list R.NamelessOperand = ranked R.NamelessOperand refl
 sub_list R.Further = ranked R.Further refl
 sub_list R.Tighter = ranked R.Tighter refl
 
+-- By hand again.
+
 call_list : (n : Y.Named) → FineCall n → Listed (Call n ∷ [])
 call_list Y.ClassName f = class_name_list
 call_list (Y.Parent w) f = parent_list w f
@@ -261,6 +264,7 @@ abbrev all_plain : List (List Symbol) → Bool
 all_plain [] = true
 all_plain (c ∷ cs) = plain c && all_plain cs
 
+-- Made by tools/source_grammar.py from tools/source_grammar.txt: the choices speak of no name.
 rules_plain : (r : Rule) → all_plain (choices r) ≡ true
 rules_plain R.File = refl
 rules_plain (R.Opening false) = refl
@@ -290,6 +294,8 @@ rules_plain (R.GreaterThen _) = refl
 rules_plain (R.MemoryName Site.Alone) = refl
 rules_plain (R.MemoryName _) = refl
 rules_plain _ = refl
+
+-- By hand again.
 
 among_plain : (cs : List (List Symbol)) (qs : List Symbol) → all_plain cs ≡ true → Among qs cs → AllFine qs
 among_plain [] qs e a = absurd a

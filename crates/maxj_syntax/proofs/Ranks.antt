@@ -31,6 +31,7 @@ use Rattle.maxj_syntax.specs.Table.{choices}
 use Rattle.maxj_syntax.specs.Choosing.{Among, Is, Choice}
 use Rattle.maxj_syntax.proofs.Fits.{and_left, and_right}
 
+-- Made by tools/source_grammar.py from tools/source_grammar.txt: ranks and lowest choices.
 abbrev pub rank : Rule → ℕ
 rank R.File = 99
 rank R.Package = 1
@@ -223,9 +224,9 @@ lowest R.Stmts = []
 lowest R.Stmt = (Act (Begin N.Empty) ∷ Mark (C.Sign S.Semicolon) Skip ∷ Act End ∷ [])
 lowest (R.NameThen Site.Alone) = (Act (Turn N.Call) ∷ Mark (C.Sign S.Open) Skip ∷ Sub R.Args ∷ Mark (C.Sign S.Close) Skip ∷ Act End ∷ Sub (R.Rest Form.Call) ∷ Mark (C.Sign S.Semicolon) Skip ∷ [])
 lowest (R.NameThen Site.Loop) = (Act (Turn N.Call) ∷ Mark (C.Sign S.Open) Skip ∷ Sub R.Args ∷ Mark (C.Sign S.Close) Skip ∷ Act End ∷ Sub (R.Rest Form.Call) ∷ [])
-lowest (R.BracketThen Site.Alone) = (Act (Turn N.Plain) ∷ Act (Wrap N.ArrayOf)
-    ∷ Mark (C.Sign S.CloseBracket) Skip ∷ Act End ∷ Sub R.Dims ∷ Mark C.Name (Over N.Local)
-    ∷ Sub (R.Declared Site.Alone) ∷ [])
+lowest (R.BracketThen Site.Alone) =
+    (Act (Turn N.Plain) ∷ Act (Wrap N.ArrayOf) ∷ Mark (C.Sign S.CloseBracket) Skip ∷ Act End
+    ∷ Sub R.Dims ∷ Mark C.Name (Over N.Local) ∷ Sub (R.Declared Site.Alone) ∷ [])
 lowest (R.BracketThen Site.Loop) = (Act (Wrap N.Index) ∷ Sub R.Expr ∷ Act Into ∷ Mark (C.Sign S.CloseBracket) Skip ∷ Act End ∷ Sub (R.Rest Form.Place) ∷ [])
 lowest (R.Declared Site.Alone) = (Mark (C.Sign S.Semicolon) Skip ∷ Act End ∷ [])
 lowest (R.Declared Site.Loop) = (Mark (C.Sign S.Assign) Skip ∷ Sub R.Expr ∷ Act Into ∷ Act End ∷ [])
@@ -239,38 +240,46 @@ lowest R.Step = (Act Hole ∷ [])
 lowest (R.MemoryThen Site.Alone) = (Act (Turn N.Plain) ∷ Mark C.Name (Over N.Local) ∷ Sub (R.Declared Site.Alone) ∷ [])
 lowest (R.MemoryThen Site.Loop) = (Act (Turn N.Call) ∷ Mark (C.Sign S.Open) Skip ∷ Sub R.Args ∷ Mark (C.Sign S.Close) Skip ∷ Act End ∷ Sub (R.Rest Form.Call) ∷ [])
 lowest (R.LessThen Site.Alone) = (Mark (C.Word W.DFEVar) (Push N.Name) ∷ Sub (R.DFEVarThen Site.Alone) ∷ [])
-lowest (R.LessThen Site.Loop) = (Sub R.OtherOperand ∷ Sub (R.Tail Level.Products)
-    ∷ Sub (R.Tail Level.Sums) ∷ Sub (R.Tail Level.Shifts) ∷ Act Into ∷ Act End
-    ∷ Sub (R.Tail Level.Orders) ∷ Sub (R.Tail Level.Equalities) ∷ Sub (R.Tail Level.BitAnds)
-    ∷ Sub (R.Tail Level.BitXors) ∷ Sub (R.Tail Level.BitOrs) ∷ Sub (R.Tail Level.Ands)
-    ∷ Sub (R.Tail Level.Ors) ∷ Sub R.CondTail ∷ Act (Wrap N.Connect)
-    ∷ Mark (C.Sign S.Connect) Skip ∷ Sub R.Expr ∷ Act Into ∷ Act End ∷ [])
+lowest (R.LessThen Site.Loop) =
+    (Sub R.OtherOperand ∷ Sub (R.Tail Level.Products) ∷ Sub (R.Tail Level.Sums)
+    ∷ Sub (R.Tail Level.Shifts) ∷ Act Into ∷ Act End ∷ Sub (R.Tail Level.Orders)
+    ∷ Sub (R.Tail Level.Equalities) ∷ Sub (R.Tail Level.BitAnds) ∷ Sub (R.Tail Level.BitXors)
+    ∷ Sub (R.Tail Level.BitOrs) ∷ Sub (R.Tail Level.Ands) ∷ Sub (R.Tail Level.Ors)
+    ∷ Sub R.CondTail ∷ Act (Wrap N.Connect) ∷ Mark (C.Sign S.Connect) Skip ∷ Sub R.Expr
+    ∷ Act Into ∷ Act End ∷ [])
 lowest (R.DFEVarThen Site.Alone) = (Act Into ∷ Act End ∷ Mark (C.Sign S.Greater) (Over N.Binary) ∷ Sub (R.GreaterThen Site.Alone) ∷ [])
-lowest (R.DFEVarThen Site.Loop) = (Sub R.Further ∷ Sub (R.Tail Level.Products)
-    ∷ Sub (R.Tail Level.Sums) ∷ Sub (R.Tail Level.Shifts) ∷ Act Into ∷ Act End
-    ∷ Sub (R.Tail Level.Orders) ∷ Sub (R.Tail Level.Equalities) ∷ Sub (R.Tail Level.BitAnds)
-    ∷ Sub (R.Tail Level.BitXors) ∷ Sub (R.Tail Level.BitOrs) ∷ Sub (R.Tail Level.Ands)
-    ∷ Sub (R.Tail Level.Ors) ∷ Sub R.CondTail ∷ Act (Wrap N.Connect)
-    ∷ Mark (C.Sign S.Connect) Skip ∷ Sub R.Expr ∷ Act Into ∷ Act End ∷ [])
-lowest (R.GreaterThen Site.Alone) = (Act Memory ∷ Act (Wrap N.ArrayOf)
-    ∷ Mark (C.Sign S.OpenBracket) Skip ∷ Mark (C.Sign S.CloseBracket) Skip ∷ Act End
-    ∷ Sub R.Dims ∷ Mark C.Name (Over N.Local) ∷ Sub (R.Declared Site.Alone) ∷ [])
-lowest (R.GreaterThen Site.Loop) = (Act Memory ∷ Act (Wrap N.ArrayOf)
-    ∷ Mark (C.Sign S.OpenBracket) Skip ∷ Mark (C.Sign S.CloseBracket) Skip ∷ Act End
-    ∷ Sub R.Dims ∷ Mark C.Name (Over N.Local) ∷ Sub (R.Declared Site.Loop) ∷ [])
+lowest (R.DFEVarThen Site.Loop) =
+    (Sub R.Further ∷ Sub (R.Tail Level.Products) ∷ Sub (R.Tail Level.Sums)
+    ∷ Sub (R.Tail Level.Shifts) ∷ Act Into ∷ Act End ∷ Sub (R.Tail Level.Orders)
+    ∷ Sub (R.Tail Level.Equalities) ∷ Sub (R.Tail Level.BitAnds) ∷ Sub (R.Tail Level.BitXors)
+    ∷ Sub (R.Tail Level.BitOrs) ∷ Sub (R.Tail Level.Ands) ∷ Sub (R.Tail Level.Ors)
+    ∷ Sub R.CondTail ∷ Act (Wrap N.Connect) ∷ Mark (C.Sign S.Connect) Skip ∷ Sub R.Expr
+    ∷ Act Into ∷ Act End ∷ [])
+lowest (R.GreaterThen Site.Alone) =
+    (Act Memory ∷ Act (Wrap N.ArrayOf) ∷ Mark (C.Sign S.OpenBracket) Skip
+    ∷ Mark (C.Sign S.CloseBracket) Skip ∷ Act End ∷ Sub R.Dims ∷ Mark C.Name (Over N.Local)
+    ∷ Sub (R.Declared Site.Alone) ∷ [])
+lowest (R.GreaterThen Site.Loop) =
+    (Act Memory ∷ Act (Wrap N.ArrayOf) ∷ Mark (C.Sign S.OpenBracket) Skip
+    ∷ Mark (C.Sign S.CloseBracket) Skip ∷ Act End ∷ Sub R.Dims ∷ Mark C.Name (Over N.Local)
+    ∷ Sub (R.Declared Site.Loop) ∷ [])
 lowest (R.MemoryName Site.Alone) = (Act Declare ∷ Sub (R.Declared Site.Alone) ∷ [])
 lowest (R.MemoryName Site.Loop) = (Act Declare ∷ Sub (R.Declared Site.Loop) ∷ [])
 lowest R.MemoryBare = (Mark C.Counting (Over N.Set) ∷ Act End ∷ [])
 lowest R.OtherOperand = (Mark (C.NameBut W.DFEVar) (Push N.Name) ∷ Sub R.Called ∷ Sub R.Post ∷ [])
 lowest R.NamelessOperand = (Mark C.Literal Leaf ∷ Sub R.Post ∷ [])
 lowest R.Further = (Act (Turn N.Call) ∷ Mark (C.Sign S.Open) Skip ∷ Sub R.Args ∷ Mark (C.Sign S.Close) Skip ∷ Act End ∷ Sub R.Post ∷ [])
-lowest R.Tighter = (Mark (C.Operator Level.Products) (Over N.Binary)
-    ∷ Sub (R.Operand Level.Prefixes) ∷ Act Into ∷ Act End ∷ Sub (R.Tail Level.Products)
-    ∷ Sub (R.Tail Level.Sums) ∷ Sub (R.Tail Level.Shifts) ∷ [])
+lowest R.Tighter =
+    (Mark (C.Operator Level.Products) (Over N.Binary) ∷ Sub (R.Operand Level.Prefixes)
+    ∷ Act Into ∷ Act End ∷ Sub (R.Tail Level.Products) ∷ Sub (R.Tail Level.Sums)
+    ∷ Sub (R.Tail Level.Shifts) ∷ [])
+
+-- By hand again.
 
 abbrev pub is_ranked : Rule → Bool
 is_ranked r = nat_lt (rank r) 99
 
+-- Made by tools/source_grammar.py from tools/source_grammar.txt: the lowest choice is a choice.
 pub lowest_among : (r : Rule) → is_ranked r ≡ true → Among (lowest r) (choices r)
 lowest_among R.File e = absurd (cc)
 lowest_among R.Package e = inr (inl refl)
@@ -380,6 +389,8 @@ lowest_among R.NamelessOperand e = inr (inl refl)
 lowest_among R.Further e = inl refl
 lowest_among R.Tighter e = inl refl
 
+-- By hand again.
+
 abbrev pub small : ℕ → List Symbol → Bool
 small n [] = true
 small n (Mark k e ∷ ps) = small n ps
@@ -387,6 +398,7 @@ small n (Act a ∷ ps) = small n ps
 small n (Sub r ∷ ps) = nat_lt (rank r) n && (is_ranked r && small n ps)
 small n _ = false
 
+-- Made by tools/source_grammar.py from tools/source_grammar.txt: its rules have smaller ranks.
 pub lowest_small : (r : Rule) → small (rank r) (lowest r) ≡ true
 lowest_small R.File = refl
 lowest_small (R.Opening false) = refl
@@ -416,6 +428,8 @@ lowest_small (R.GreaterThen _) = refl
 lowest_small (R.MemoryName Site.Alone) = refl
 lowest_small (R.MemoryName _) = refl
 lowest_small _ = refl
+
+-- By hand again.
 
 -- a token of each class
 abbrev pub some_token : TokenClass → Token

@@ -131,8 +131,9 @@ first (R.Declared Site.Alone) = (C.Sign S.Semicolon ∷ C.Sign S.Assign ∷ [])
 first (R.Declared Site.Loop) = (C.Sign S.Assign ∷ [])
 first R.ReturnRest = (C.Sign S.Semicolon ∷ C.Operator Level.Prefixes ∷ C.Literal ∷ C.ValueWord ∷ C.Name ∷ C.Sign S.Open ∷ C.Word W.New ∷ [])
 first R.ElseTail = (C.Word W.Else ∷ [])
-first R.ElseRest = (C.Word W.If ∷ C.Sign S.OpenBrace ∷ C.Word W.Return ∷ C.Name
-    ∷ C.Operator Level.Prefixes ∷ C.Literal ∷ C.ValueWord ∷ C.Sign S.Open ∷ C.Word W.New ∷ [])
+first R.ElseRest =
+    (C.Word W.If ∷ C.Sign S.OpenBrace ∷ C.Word W.Return ∷ C.Name ∷ C.Operator Level.Prefixes ∷ C.Literal ∷ C.ValueWord ∷ C.Sign S.Open ∷ C.Word W.New
+    ∷ [])
 first R.Body = (C.Sign S.OpenBrace ∷ C.Word W.Return ∷ C.Name ∷ C.Operator Level.Prefixes ∷ C.Literal ∷ C.ValueWord ∷ C.Sign S.Open ∷ C.Word W.New ∷ [])
 first R.First = (C.TypeWord ∷ C.Name ∷ C.Operator Level.Prefixes ∷ C.Literal ∷ C.ValueWord ∷ C.Sign S.Open ∷ C.Word W.New ∷ [])
 first R.Test = (C.Operator Level.Prefixes ∷ C.Literal ∷ C.ValueWord ∷ C.Name ∷ C.Sign S.Open ∷ C.Word W.New ∷ [])
@@ -322,10 +323,10 @@ peek R.CondTail =
 peek (R.Operand Level.Prefixes) = (C.Sign S.Dot ∷ C.Sign S.OpenBracket ∷ C.Sign S.Open ∷ [])
 peek (R.Operand Level.Products) = (C.Operator Level.Products ∷ C.Sign S.Dot ∷ C.Sign S.OpenBracket ∷ C.Sign S.Open ∷ [])
 peek (R.Operand Level.Sums) = (C.Operator Level.Products ∷ C.Operator Level.Sums ∷ C.Sign S.Dot ∷ C.Sign S.OpenBracket ∷ C.Sign S.Open ∷ [])
-peek (R.Operand Level.Shifts) = (C.Operator Level.Products ∷ C.Operator Level.Sums
-    ∷ C.Operator Level.Shifts ∷ C.Sign S.Dot ∷ C.Sign S.OpenBracket ∷ C.Sign S.Open ∷ [])
-peek (R.Operand Level.Orders) = (C.Operator Level.Products ∷ C.Operator Level.Sums
-    ∷ C.Operator Level.Shifts ∷ C.Operator Level.Orders ∷ C.Sign S.Dot ∷ C.Sign S.OpenBracket
+peek (R.Operand Level.Shifts) =
+    (C.Operator Level.Products ∷ C.Operator Level.Sums ∷ C.Operator Level.Shifts ∷ C.Sign S.Dot ∷ C.Sign S.OpenBracket ∷ C.Sign S.Open ∷ [])
+peek (R.Operand Level.Orders) =
+    (C.Operator Level.Products ∷ C.Operator Level.Sums ∷ C.Operator Level.Shifts ∷ C.Operator Level.Orders ∷ C.Sign S.Dot ∷ C.Sign S.OpenBracket
     ∷ C.Sign S.Open ∷ [])
 peek (R.Operand Level.Equalities) =
     (C.Operator Level.Products ∷ C.Operator Level.Sums ∷ C.Operator Level.Shifts ∷ C.Operator Level.Orders ∷ C.Operator Level.Equalities ∷ C.Sign S.Dot
@@ -350,10 +351,10 @@ peek (R.Operand Level.Ors) =
 peek (R.Tail Level.Prefixes) = []
 peek (R.Tail Level.Products) = (C.Operator Level.Products ∷ C.Sign S.Dot ∷ C.Sign S.OpenBracket ∷ C.Sign S.Open ∷ [])
 peek (R.Tail Level.Sums) = (C.Operator Level.Sums ∷ C.Operator Level.Products ∷ C.Sign S.Dot ∷ C.Sign S.OpenBracket ∷ C.Sign S.Open ∷ [])
-peek (R.Tail Level.Shifts) = (C.Operator Level.Shifts ∷ C.Operator Level.Products
-    ∷ C.Operator Level.Sums ∷ C.Sign S.Dot ∷ C.Sign S.OpenBracket ∷ C.Sign S.Open ∷ [])
-peek (R.Tail Level.Orders) = (C.Operator Level.Orders ∷ C.Operator Level.Products
-    ∷ C.Operator Level.Sums ∷ C.Operator Level.Shifts ∷ C.Sign S.Dot ∷ C.Sign S.OpenBracket
+peek (R.Tail Level.Shifts) =
+    (C.Operator Level.Shifts ∷ C.Operator Level.Products ∷ C.Operator Level.Sums ∷ C.Sign S.Dot ∷ C.Sign S.OpenBracket ∷ C.Sign S.Open ∷ [])
+peek (R.Tail Level.Orders) =
+    (C.Operator Level.Orders ∷ C.Operator Level.Products ∷ C.Operator Level.Sums ∷ C.Operator Level.Shifts ∷ C.Sign S.Dot ∷ C.Sign S.OpenBracket
     ∷ C.Sign S.Open ∷ [])
 peek (R.Tail Level.Equalities) =
     (C.Operator Level.Equalities ∷ C.Operator Level.Products ∷ C.Operator Level.Sums ∷ C.Operator Level.Shifts ∷ C.Operator Level.Orders ∷ C.Sign S.Dot

@@ -1,4 +1,3 @@
--- Made by tools/source_grammar.py from tools/source_grammar.txt.
 -- The productions in the form that the parser reads: the next token tells the choice. Between the symbols stand the steps that
 -- build the tree, on a stack of trees that aren't whole yet.
 use Rattle.std.specs.Prelude.{◌≡◌, ℕ, Bool, true, false, ◌&&◌, List, [], ◌∷◌, ◌++◌, codes}
@@ -26,6 +25,7 @@ sign s = Mark (C.Sign s) Skip
 abbrev pub word : Word → Symbol
 word w = Mark (C.Word w) Skip
 
+-- Made by tools/source_grammar.py from tools/source_grammar.txt: the choices as a family.
 -- the end of a connection behind its left side
 abbrev pub connecting : List Symbol
 connecting = Act (Wrap N.Connect) ∷ sign S.Connect ∷ Sub R.Expr ∷ Act Into ∷ Act End ∷ []
@@ -35,26 +35,27 @@ abbrev pub looser : List Symbol
 looser =
     Sub (R.Tail Level.Equalities) ∷ Sub (R.Tail Level.BitAnds) ∷ Sub (R.Tail Level.BitXors)
     ∷ Sub (R.Tail Level.BitOrs) ∷ Sub (R.Tail Level.Ands) ∷ Sub (R.Tail Level.Ors)
-    ∷ Sub R.CondTail ∷
-    Act (Wrap N.Connect) ∷ sign S.Connect ∷ Sub R.Expr ∷ Act Into ∷ Act End ∷ []
+    ∷ Sub R.CondTail ∷ Act (Wrap N.Connect) ∷ sign S.Connect ∷ Sub R.Expr ∷ Act Into ∷ Act End
+    ∷ []
 
--- behind a prefix form at the begin of a connection: the tails of all levels, and the right side
+-- the rest of a connection behind the first operand: the tails of all levels, and the right side
 abbrev pub onward : List Symbol
 onward =
     Sub (R.Tail Level.Products) ∷ Sub (R.Tail Level.Sums) ∷ Sub (R.Tail Level.Shifts)
     ∷ Sub (R.Tail Level.Orders) ∷ Sub (R.Tail Level.Equalities) ∷ Sub (R.Tail Level.BitAnds)
     ∷ Sub (R.Tail Level.BitXors) ∷ Sub (R.Tail Level.BitOrs) ∷ Sub (R.Tail Level.Ands)
-    ∷ Sub (R.Tail Level.Ors) ∷ Sub R.CondTail ∷
-    Act (Wrap N.Connect) ∷ sign S.Connect ∷ Sub R.Expr ∷ Act Into ∷ Act End ∷ []
+    ∷ Sub (R.Tail Level.Ors) ∷ Sub R.CondTail ∷ Act (Wrap N.Connect) ∷ sign S.Connect
+    ∷ Sub R.Expr ∷ Act Into ∷ Act End ∷ []
 
 -- behind the right operand of an order at the begin of a connection
 abbrev pub ordered : List Symbol
 ordered =
     Act Into ∷ Act End ∷ Sub (R.Tail Level.Orders) ∷ Sub (R.Tail Level.Equalities)
     ∷ Sub (R.Tail Level.BitAnds) ∷ Sub (R.Tail Level.BitXors) ∷ Sub (R.Tail Level.BitOrs)
-    ∷ Sub (R.Tail Level.Ands) ∷ Sub (R.Tail Level.Ors) ∷ Sub R.CondTail ∷
-    Act (Wrap N.Connect) ∷ sign S.Connect ∷ Sub R.Expr ∷ Act Into ∷ Act End ∷ []
+    ∷ Sub (R.Tail Level.Ands) ∷ Sub (R.Tail Level.Ors) ∷ Sub R.CondTail ∷ Act (Wrap N.Connect)
+    ∷ sign S.Connect ∷ Sub R.Expr ∷ Act Into ∷ Act End ∷ []
 
+-- the end of a statement that stands by itself; in the head of a `for` there is none
 abbrev pub close : Site → List Symbol
 close Site.Alone = sign S.Semicolon ∷ []
 close Site.Loop = []
@@ -92,9 +93,11 @@ pub data Move : Rule → List Symbol → Type 0 where
   final : Move R.MaybeFinal (word W.Final ∷ [])
   not_final : Move R.MaybeFinal []
   kernel_opening : Move (R.Opening false) (Act (Begin N.Param) ∷ Sub R.MaybeFinal
-      ∷ Mark (C.Word W.KernelParameters) (Push N.Plain) ∷ Act Into ∷ Call (Y.FirstParam false) ∷ [])
+      ∷ Mark (C.Word W.KernelParameters) (Push N.Plain) ∷ Act Into ∷ Call (Y.FirstParam false)
+      ∷ [])
   manager_opening : Move (R.Opening true) (Act (Begin N.Param) ∷ Sub R.MaybeFinal
-      ∷ Mark (C.Word W.EngineParameters) (Push N.Plain) ∷ Act Into ∷ Call (Y.FirstParam true) ∷ [])
+      ∷ Mark (C.Word W.EngineParameters) (Push N.Plain) ∷ Act Into ∷ Call (Y.FirstParam true)
+      ∷ [])
   kernel_opened : Move (R.Opened false) (Act End ∷ Act Into ∷ Sub R.MoreParams ∷ [])
   manager_opened : Move (R.Opened true) (Act End ∷ Act Into ∷ [])
   super_rest : Move R.SuperRest (sign S.Close ∷ sign S.Semicolon ∷ Sub R.Stmts ∷ sign S.CloseBrace ∷ Act End ∷ Act Into ∷ Act End ∷ [])
@@ -237,7 +240,7 @@ pub data Move : Rule → List Symbol → Type 0 where
   no_test : Move R.Test (Act Hole ∷ [])
   step : Move R.Step (Sub R.Simple ∷ [])
   no_step : Move R.Step (Act Hole ∷ [])
-  -- statements that begin with `Memory`
+  -- statements that begin with `Memory`, `Memory <`, `Memory < DFEVar`, `Memory < DFEVar >`, and that and a name
   memory_name : {d : Site} → Move (R.MemoryThen d) (Act (Turn N.Plain) ∷ Mark C.Name (Over N.Local) ∷ Sub (R.Declared d) ∷ [])
   memory_bracket : {d : Site} → Move (R.MemoryThen d) (sign S.OpenBracket ∷ Sub (R.BracketThen d) ∷ [])
   memory_called : {d : Site} → Move (R.MemoryThen d) (Act (Turn N.Call) ∷ sign S.Open ∷ Sub R.Args ∷ sign S.Close ∷ Act End ∷ Sub (R.Rest Form.Call) ∷ close d)
@@ -253,8 +256,8 @@ pub data Move : Rule → List Symbol → Type 0 where
       ∷ ordered ++ close d)
   dfevar_tighter : {d : Site} → Move (R.DFEVarThen d) (Sub R.Tighter ∷ ordered ++ close d)
   dfevar_order : {d : Site} → Move (R.DFEVarThen d) (Act Into ∷ Act End
-      ∷ Mark (C.OrderBut S.Greater) (Over N.Binary) ∷ Sub (R.Operand Level.Shifts) ∷ ordered
-      ++ close d)
+      ∷ Mark (C.OrderBut S.Greater) (Over N.Binary) ∷ Sub (R.Operand Level.Shifts)
+      ∷ ordered ++ close d)
   dfevar_looser : {d : Site} → Move (R.DFEVarThen d) (Act Into ∷ Act End ∷ looser ++ close d)
   greater_name : {d : Site} → Move (R.GreaterThen d) (Mark C.Name (Push N.Name) ∷ Sub (R.MemoryName d) ∷ [])
   greater_dims : {d : Site} → Move (R.GreaterThen d) (Act Memory ∷ Act (Wrap N.ArrayOf)
@@ -291,6 +294,8 @@ pub data Move : Rule → List Symbol → Type 0 where
       ∷ Sub (R.Tail Level.Shifts) ∷ [])
   tighter_shift : Move R.Tighter (Mark (C.Operator Level.Shifts) (Over N.Binary)
       ∷ Sub (R.Operand Level.Sums) ∷ Act Into ∷ Act End ∷ Sub (R.Tail Level.Shifts) ∷ [])
+
+-- By hand again.
 
 -- whether a member that begins with this name may be the constructor
 abbrev pub is_own : Inside → List ℕ → Bool

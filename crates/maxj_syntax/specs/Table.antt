@@ -39,12 +39,10 @@ choices R.Params = (Sub R.Param ∷ Act Into ∷ Sub R.MoreParams ∷ []) ∷ []
 choices R.MoreParams = (sign S.Comma ∷ Sub R.Param ∷ Act Into ∷ Sub R.MoreParams ∷ []) ∷ [] ∷ []
 choices R.Param = (Act (Begin N.Param) ∷ Sub R.MaybeFinal ∷ Sub R.TypeName ∷ Act Into ∷ Mark C.Name Text ∷ Act End ∷ []) ∷ []
 choices R.MaybeFinal = (word W.Final ∷ []) ∷ [] ∷ []
-choices (R.Opening false) = (Act (Begin N.Param) ∷ Sub R.MaybeFinal
-    ∷ Mark (C.Word W.KernelParameters) (Push N.Plain) ∷ Act Into ∷ Call (Y.FirstParam false)
-    ∷ []) ∷ []
-choices (R.Opening true) = (Act (Begin N.Param) ∷ Sub R.MaybeFinal
-    ∷ Mark (C.Word W.EngineParameters) (Push N.Plain) ∷ Act Into ∷ Call (Y.FirstParam true)
-    ∷ []) ∷ []
+choices (R.Opening false) =
+    (Act (Begin N.Param) ∷ Sub R.MaybeFinal ∷ Mark (C.Word W.KernelParameters) (Push N.Plain) ∷ Act Into ∷ Call (Y.FirstParam false) ∷ []) ∷ []
+choices (R.Opening true) =
+    (Act (Begin N.Param) ∷ Sub R.MaybeFinal ∷ Mark (C.Word W.EngineParameters) (Push N.Plain) ∷ Act Into ∷ Call (Y.FirstParam true) ∷ []) ∷ []
 choices (R.Opened false) = (Act End ∷ Act Into ∷ Sub R.MoreParams ∷ []) ∷ []
 choices (R.Opened true) = (Act End ∷ Act Into ∷ []) ∷ []
 choices R.SuperRest = (sign S.Close ∷ sign S.Semicolon ∷ Sub R.Stmts ∷ sign S.CloseBrace ∷ Act End ∷ Act Into ∷ Act End ∷ []) ∷ []
@@ -387,9 +385,9 @@ guards R.ReturnRest = (C.Sign S.Semicolon ∷ []) ∷ [] ∷ []
 guards R.ElseTail = (C.Word W.Else ∷ []) ∷ [] ∷ []
 guards R.ElseRest = (C.Word W.If ∷ []) ∷ [] ∷ []
 guards R.Body = (C.Sign S.OpenBrace ∷ []) ∷ (C.Word W.Return ∷ []) ∷ [] ∷ []
-guards R.First = (C.TypeWord ∷ []) ∷ (C.NameBut W.Memory ∷ []) ∷ (C.Word W.Memory ∷ [])
-    ∷ (C.Operator Level.Prefixes ∷ C.Literal ∷ C.ValueWord ∷ C.Sign S.Open ∷ C.Word W.New ∷ [])
-    ∷ [] ∷ []
+guards R.First =
+    (C.TypeWord ∷ []) ∷ (C.NameBut W.Memory ∷ []) ∷ (C.Word W.Memory ∷ []) ∷ (C.Operator Level.Prefixes ∷ C.Literal ∷ C.ValueWord ∷ C.Sign S.Open
+    ∷ C.Word W.New ∷ []) ∷ [] ∷ []
 guards R.Test = (C.Operator Level.Prefixes ∷ C.Literal ∷ C.ValueWord ∷ C.Name ∷ C.Sign S.Open ∷ C.Word W.New ∷ []) ∷ [] ∷ []
 guards R.Step = (C.Name ∷ C.Operator Level.Prefixes ∷ C.Literal ∷ C.ValueWord ∷ C.Sign S.Open ∷ C.Word W.New ∷ []) ∷ [] ∷ []
 guards (R.MemoryThen Site.Alone) = (C.Name ∷ []) ∷ (C.Sign S.OpenBracket ∷ []) ∷ (C.Sign S.Open ∷ []) ∷ (C.Sign S.Less ∷ []) ∷ [] ∷ []

@@ -310,8 +310,10 @@ pub const ANDS: Fixed = Fixed::Sub(Rule::Tail(Level::Ands));
 
 pub const ORS: Fixed = Fixed::Sub(Rule::Tail(Level::Ors));
 
-/// The rest of a connection whose left side begins with a primary: further operands, a choice by a condition, and the right side.
+// Made by tools/source_grammar.py from tools/source_grammar.txt: the lists that have a name.
+/// The rest of a connection behind the first operand: the tails of all levels, and the right side.
 pub const ONWARD: &[Fixed] = &[
     PRODUCTS, SUMS, SHIFTS, ORDERS, EQUALITIES, BIT_ANDS, BIT_XORS, BIT_ORS, ANDS, ORS, COND_TAIL,
     CONNECTION, CONNECT, EXPR, INTO, END,
 ];
+// By hand again.

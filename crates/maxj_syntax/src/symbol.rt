@@ -93,6 +93,7 @@ pub enum Site {
     Loop,
 }
 
+// Made by tools/source_grammar.py from tools/source_grammar.txt: the rules.
 #[derive(Clone, Copy, Debug)]
 pub enum Rule {
     // Files and classes.
@@ -183,6 +184,7 @@ pub enum Rule {
     /// Products, sums or shifts, at least one.
     Tighter,
 }
+// By hand again.
 
 /// Where a member of a class stands.
 #[derive(Clone, Copy, Debug)]
