@@ -6,8 +6,6 @@ mod instance;
 mod module;
 mod printer;
 mod storage;
-#[cfg(test)]
-mod tests;
 
 ghost use Rattle.std.specs.Prelude.{◌≡◌, OnOk, OnErr};
 ghost use Rattle.rtl_ir.specs.Formed.{IsFormed};

@@ -49,6 +49,3 @@ pub fn read(alloc: Global, bytes: &[u8]) -> Result<Design, VerilogError>
     can_run(alloc, &design)?;
     Ok(design)
 }
-
-#[cfg(test)]
-mod tests;

@@ -1,10 +1,7 @@
-use crate::fault::Fault;
-use crate::resolve::resolve;
-use crate::{VerilogError, read};
 use mx_base::{List, Text};
-use rtl_ir::{Assign, Design, Expr, MemId, NetId, RtlError, Target, Update};
+use rtl_ir::{Assign, Design, Expr, MemId, Module, NetId, RtlError, Target, Update};
 use std::alloc::{AllocError, Global};
-use verilog_syntax::{parse, scan};
+use verilog_read::{VerilogError, read};
 
 // What a text should answer.
 #[derive(Clone, Copy)]
@@ -203,43 +200,14 @@ const OUTER: &[u8] =
     b"module top (input wire [0:0] clk, input wire [0:0] reset, input wire [7:0] x, output wire [7:0] y);
 ";
 
-// The design of a cell and a module with these items; else the name that isn't declared, or nothing.
-fn outer_of(alloc: Global, items: &[u8]) -> Result<Design, Option<Text>> {
+// A cell and a module with these items.
+fn outer_text(alloc: Global, items: &[u8]) -> Result<Vec<u8>, AllocError> {
     let mut text = Vec::new(alloc);
     let pieces: [&[u8]; 4] = [CELL, OUTER, items, END];
     for piece in pieces {
-        if text.extend_from_slice(piece).is_err() {
-            return Err(None);
-        }
+        text.extend_from_slice(piece)?;
     }
-    design_of(alloc, text.as_slice())
-}
-
-fn design_of(alloc: Global, text: &[u8]) -> Result<Design, Option<Text>> {
-    if text.len() >= 2000 {
-        return Err(None);
-    }
-    let Ok(tokens) = scan(alloc, text) else {
-        return Err(None);
-    };
-    match parse(alloc, tokens.as_slice(), text.len() as u32) {
-        Ok(trees) => match resolve(alloc, trees.as_slice()) {
-            Ok(design) => Ok(design),
-            Err(Fault::Unknown(name)) => match crate::builder::text(alloc, name) {
-                Ok(name) => Err(Some(name)),
-                Err(_) => Err(None),
-            },
-            Err(Fault::NoMemory) => Err(None),
-        },
-        Err(_) => Err(None),
-    }
-}
-
-fn is_unknown(answer: &Result<Design, Option<Text>>, wanted: &[u8]) -> bool {
-    match answer {
-        Err(Some(name)) => name.is(wanted),
-        _ => false,
-    }
+    Ok(text)
 }
 
 #[test]
@@ -259,7 +227,11 @@ fn names_of_instances(rt: HostRuntime) {
         (b"assign y = ~x; assign y = r;", b"r"),
     ];
     for (items, wanted) in cases {
-        assert!(rt; is_unknown(&outer_of(rt.alloc(), items), wanted));
+        let wanted = Wanted::Unknown(wanted);
+        match outer_text(rt.alloc(), items) {
+            Ok(text) => assert!(rt; answers(rt.alloc(), text.as_slice(), wanted)),
+            Err(_) => assert!(rt; false),
+        }
     }
 }
 
@@ -287,65 +259,69 @@ fn names_of_kinds(rt: HostRuntime) {
         ),
     ];
     for (text, wanted) in cases {
-        assert!(rt; is_unknown(&design_of(rt.alloc(), text), wanted));
+        assert!(rt; answers(rt.alloc(), text, Wanted::Unknown(wanted)));
+    }
+}
+
+// A cell, and a design that can be run, in which it stands once.
+const JOINED: &[u8] =
+    b"module cell (input wire [0:0] clk, input wire [0:0] reset, input wire [7:0] a, output wire [7:0] b);
+reg [7:0] r; reg [7:0] m [0:15]; wire [0:0] en; wire [7:0] at;
+assign en = 1'h1; assign at = m[a]; assign b = r;
+always @(posedge clk) begin if (en) r <= at; if (en) m[a] <= r; end
+endmodule
+module top (input wire [0:0] clk, input wire [0:0] reset, input wire [0:0] hold$K, input wire [47:0] ticks$K, output wire [0:0] done);
+wire [7:0] x; wire [7:0] y; assign x = 8'h2a; assign done = 1'h0;
+cell c (.b(y), .clk(clk), .a(x), .reset(reset));
+endmodule
+";
+
+fn has_cell(rt: &impl Abort, cell: &Module) {
+    assert_eq!(rt; cell.nets.len(), 7);
+    assert_eq!(rt; cell.mems.len(), 1);
+    for (place, net, expr) in [
+        (1, 6, Expr::Cell(MemId::new(0), NetId::new(2))),
+        (2, 3, Expr::Net(NetId::new(4))),
+    ] {
+        let assign = Assign {
+            target: NetId::new(net),
+            expr,
+        };
+        assert!(rt; cell.assigns.as_slice().get(place) == Some(&assign));
+    }
+    for (place, target, value) in [
+        (0, Target::Reg(NetId::new(4)), 6),
+        (1, Target::Cell(MemId::new(0), NetId::new(2)), 4),
+    ] {
+        let update = Update {
+            enable: NetId::new(5),
+            target,
+            value: NetId::new(value),
+        };
+        assert!(rt; cell.updates.as_slice().get(place) == Some(&update));
     }
 }
 
 #[test]
-fn forms_of_a_module(rt: HostRuntime) {
-    match design_of(rt.alloc(), CELL) {
-        Ok(design) => match design.modules.get(0) {
-            Some(cell) => {
-                assert_eq!(rt; cell.nets.len(), 7);
-                assert_eq!(rt; cell.mems.len(), 1);
-                for (place, net, expr) in [
-                    (1, 6, Expr::Cell(MemId::new(0), NetId::new(2))),
-                    (2, 3, Expr::Net(NetId::new(4))),
-                ] {
-                    assert!(rt;
-                        cell.assigns.as_slice().get(place)
-                            == Some(&Assign {
-                                target: NetId::new(net),
-                                expr
-                            })
-                    );
-                }
-                for (place, target, value) in [
-                    (0, Target::Reg(NetId::new(4)), 6),
-                    (1, Target::Cell(MemId::new(0), NetId::new(2)), 4),
-                ] {
-                    let update = Update {
-                        enable: NetId::new(5),
-                        target,
-                        value: NetId::new(value),
-                    };
-                    assert!(rt; cell.updates.as_slice().get(place) == Some(&update));
+fn an_instance_joins_its_ports_in_any_order(rt: HostRuntime) {
+    match read(rt.alloc(), JOINED) {
+        Ok(design) => match (design.modules.get(0), design.modules.get(1)) {
+            (Some(cell), Some(top)) => {
+                has_cell(&rt, cell);
+                match top.instances.get(0) {
+                    Some(instance) => {
+                        assert_eq!(rt; instance.module.index(), 0);
+                        assert!(rt; instance.name.is(b"c"));
+                        for (place, net) in [(0, 0), (1, 1), (2, 5), (3, 6)] {
+                            assert!(rt;
+                                instance.nets.as_slice().get(place) == Some(&NetId::new(net))
+                            );
+                        }
+                    }
+                    None => assert!(rt; false),
                 }
             }
-            None => assert!(rt; false),
-        },
-        Err(_) => assert!(rt; false),
-    }
-}
-
-#[test]
-fn ports_of_an_instance_in_any_order(rt: HostRuntime) {
-    let items = b"cell c (.b(y), .clk(clk), .a(x), .reset(reset));\n";
-    match outer_of(rt.alloc(), items) {
-        Ok(design) => match design.modules.get(1) {
-            Some(outer) => match outer.instances.get(0) {
-                Some(instance) => {
-                    assert_eq!(rt; instance.module.index(), 0);
-                    assert!(rt; instance.name.is(b"c"));
-                    for place in 0..4 {
-                        assert!(rt;
-                            instance.nets.as_slice().get(place) == Some(&NetId::new(place as u32))
-                        );
-                    }
-                }
-                None => assert!(rt; false),
-            },
-            None => assert!(rt; false),
+            _ => assert!(rt; false),
         },
         Err(_) => assert!(rt; false),
     }
