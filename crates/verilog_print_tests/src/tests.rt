@@ -96,7 +96,9 @@ endmodule
 #[test]
 fn a_text_that_was_read_is_printed(rt: HostRuntime) -> Result<(), Fail> {
     let alloc = rt.alloc();
-    let design = read(alloc, TEXT.as_bytes())?;
+    let Ok(design) = read(alloc, TEXT.as_bytes()) else {
+        return Err("the text isn't read".into());
+    };
     let mut text = b"// before\n".to_vec(alloc)?;
     print(alloc, &design, &mut text)?;
     assert!(rt; text.as_slice() == TEXT.as_bytes());

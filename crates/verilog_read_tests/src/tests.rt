@@ -1,6 +1,7 @@
 use mx_base::{List, Text};
 use rtl_ir::{Assign, Design, Expr, MemId, Module, NetId, RtlError, Target, Update};
 use std::alloc::{AllocError, Global};
+use std::process::Abort;
 use verilog_read::{VerilogError, read};
 
 // What a text should answer.
