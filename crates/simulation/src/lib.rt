@@ -21,6 +21,3 @@ pub use plan::Plan;
 pub use planning::{outputs_differ, plan_of};
 pub use run::simulate;
 pub use stop::{Outcome, Stop};
-
-#[cfg(test)]
-mod tests;

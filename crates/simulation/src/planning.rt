@@ -125,6 +125,3 @@ fn by_name<'a, T>(
     }
     Ok(named)
 }
-
-#[cfg(test)]
-mod tests;

@@ -1,8 +1,10 @@
 // The plan of a run file whose lists stand in another order than the ports.
-use super::*;
-use rtl_ir::{NetId, ScalarPort};
-use std::alloc::AllocError;
+use mx_base::{List, NoMemory, Text};
+use rtl_ir::{Interface, KernelPorts, NetId, ScalarPort, StreamPorts};
+use simulation::plan_of;
+use std::alloc::{AllocError, Global};
 use std::test::Fail;
+use word_files::RunFile;
 
 fn text(alloc: Global, bytes: &[u8]) -> Result<Text, AllocError> {
     Ok(Text::from_vec(bytes.to_vec(alloc)?))
