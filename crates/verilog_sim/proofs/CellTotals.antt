@@ -9,8 +9,8 @@ use Rattle.rtl_ir.specs.declared.design.Mem.{Mem}
 use Rattle.rtl_ir.specs.declared.design.Instance.{Instance}
 use Rattle.rtl_ir.specs.Flat.{top_of}
 use Rattle.rtl_ir.specs.Formed.{IsFormed}
-use Rattle.verilog_sim.specs.declared.place.Place.{Place}
-use Rattle.verilog_sim.specs.Moved.{bare_net, bare_mem, moved_instance}
+use Rattle.verilog_sim.specs.declared.scope.Scope.{Scope}
+use Rattle.verilog_sim.specs.Relocation.{bare_net, bare_mem, relocated_instance}
 use Rattle.verilog_sim.specs.Runnable.{IsSizedMem}
 use Rattle.verilog_sim.specs.Flattened.{IsCopied, IsJoined, Joins, start, join}
 use Rattle.verilog_sim.specs.Start.{cells_of, cells_with, cells_after, all_cells}
@@ -23,16 +23,16 @@ bare_depths : (xs : List Mem) → sum_by (λ (x : Mem). x.depth) (map bare_mem x
 bare_depths [] = refl
 bare_depths (x ∷ xs) = omega (arith, sum_cons (λ (x : Mem). x.depth) (bare_mem x) (map bare_mem xs), sum_cons (λ (x : Mem). x.depth) x xs, bare_depths xs)
 
-pub moved_cells : (cells : List ℕ) (b : ℕ) (is : List Instance)
-    → sum_by (λ (i : Instance). get_or cells i.«module» 0) (map (moved_instance b) is) ≡ sum_by
+pub relocated_cells : (cells : List ℕ) (b : ℕ) (is : List Instance)
+    → sum_by (λ (i : Instance). get_or cells i.«module» 0) (map (relocated_instance b) is) ≡ sum_by
     (λ (i : Instance). get_or cells i.«module» 0) is
-moved_cells cells b [] = refl
-moved_cells cells b (i ∷ is) = omega (
+relocated_cells cells b [] = refl
+relocated_cells cells b (i ∷ is) = omega (
   arith,
-  sum_cons (λ (i : Instance). get_or cells i.«module» 0) (moved_instance b i)
-      (map (moved_instance b) is),
+  sum_cons (λ (i : Instance). get_or cells i.«module» 0) (relocated_instance b i)
+      (map (relocated_instance b) is),
   sum_cons (λ (i : Instance). get_or cells i.«module» 0) i is,
-  moved_cells cells b is,
+  relocated_cells cells b is,
 )
 
 pub total_copied : (cells : List ℕ) {m n : Module} → IsCopied m n → cells_with cells n ≡ cells_with cells m
@@ -44,14 +44,14 @@ total_copied cells {m = m} {n = n} j =
       ap (sum_by (λ (x : Mem). x.depth)) j.mems,
       bare_depths m.mems,
       ap (sum_by (λ (i : Instance). get_or cells i.«module» 0)) j.instances,
-      moved_cells cells 0 m.instances,
+      relocated_cells cells 0 m.instances,
     )
 
 -- the cells of the instance that becomes a part
-part_cells : (d : Design) → IsFormed d.modules → {m n : Module} {s : Place} (j : IsJoined d m s n) → get_or (cells_after [] d.modules) j.part.«module» 0 ≡ cells_with (cells_after [] d.modules) j.inner
+part_cells : (d : Design) → IsFormed d.modules → {m n : Module} {s : Scope} (j : IsJoined d m s n) → get_or (cells_after [] d.modules) j.part.«module» 0 ≡ cells_with (cells_after [] d.modules) j.inner
 part_cells d f j = cells_at d f j.part.«module» j.inner j.is
 
-total_joined : (d : Design) → IsFormed d.modules → {m n : Module} {s : Place} (j : IsJoined d m s n) → cells_with (cells_after [] d.modules) n ≡ cells_with (cells_after [] d.modules) m
+total_joined : (d : Design) → IsFormed d.modules → {m n : Module} {s : Scope} (j : IsJoined d m s n) → cells_with (cells_after [] d.modules) n ≡ cells_with (cells_after [] d.modules) m
 total_joined d f {m = m} {n = n} j =
     let cells = cells_after [] d.modules in
     let of : Instance → ℕ = λ i. get_or cells i.«module» 0 in
@@ -64,15 +64,15 @@ total_joined d f {m = m} {n = n} j =
       sum_by-append (λ (x : Mem). x.depth) m.mems (map bare_mem j.inner.mems),
       bare_depths j.inner.mems,
       ap (sum_by of) j.instances,
-      sum_by-append of j.rest (map (moved_instance (length m.nets)) j.inner.instances),
-      moved_cells cells (length m.nets) j.inner.instances,
+      sum_by-append of j.rest (map (relocated_instance (length m.nets)) j.inner.instances),
+      relocated_cells cells (length m.nets) j.inner.instances,
       ap (sum_by of) j.was,
       sum_by-append of j.rest (j.part ∷ []),
       sum_cons of j.part [],
       part_cells d f j,
     )
 
-pub total_joins : (d : Design) → IsFormed d.modules → {m n : Module} {ss : List Place} → Joins d m ss n → cells_with (cells_after [] d.modules) n ≡ cells_with (cells_after [] d.modules) m
+pub total_joins : (d : Design) → IsFormed d.modules → {m n : Module} {ss : List Scope} → Joins d m ss n → cells_with (cells_after [] d.modules) n ≡ cells_with (cells_after [] d.modules) m
 total_joins d f start = refl
 total_joins d f (join js j) = total_joined d f j ∙ total_joins d f js
 

@@ -1,4 +1,4 @@
--- Lines of assignments are safe to evaluate, and one more line keeps those before it.
+-- Instructions of assignments are safe to evaluate, and one more instruction keeps those before it.
 use Rattle.std.proofs.Common.{true, ◌≡◌, ℕ, zero, suc, ◌+◌, ◌-◌, ◌*◌, ◌<◌, ◌≤◌, List, [], ◌∷◌, ◌++◌, length, get_or, Some, refl, sym, ap, ◌∙◌, subst, arith}
 use Rattle.std.specs.Prelude.{slice_get}
 use Rattle.std.specs.List.{All}
@@ -14,18 +14,18 @@ use Rattle.rtl_ir.specs.declared.design.Expr.TheVariants.{Net as Plain, Literal,
 use Rattle.rtl_ir.specs.Value.{width_of, net_width}
 use Rattle.rtl_ir.specs.Typed.{IsTyped}
 use Rattle.rtl_ir.specs.Formed.{IsFormedExpr}
-use Rattle.verilog_sim.specs.declared.line.Step.{Step}
-use Rattle.verilog_sim.specs.declared.line.Step.TheVariants.{Copy, Literal as DoLiteral}
-use Rattle.verilog_sim.specs.declared.line.Step.TheVariants.{Not as DoNot, Add as DoAdd}
-use Rattle.verilog_sim.specs.declared.line.Step.TheVariants.{Sub as DoSub, Mul as DoMul}
-use Rattle.verilog_sim.specs.declared.line.Step.TheVariants.{Div as DoDiv, And as DoAnd, Or as DoOr}
-use Rattle.verilog_sim.specs.declared.line.Step.TheVariants.{Xor as DoXor, Eq as DoEq, Lt as DoLt}
-use Rattle.verilog_sim.specs.declared.line.Step.TheVariants.{Concat as DoConcat, Repeat as DoRepeat}
-use Rattle.verilog_sim.specs.declared.line.Step.TheVariants.{Part as DoPart, Choose as DoChoose}
-use Rattle.verilog_sim.specs.declared.line.Step.TheVariants.{Cell as DoCell}
-use Rattle.verilog_sim.specs.declared.line.Line.{Line}
-use Rattle.verilog_sim.specs.Lines.{IsSafe, IsStepSafe}
-use Rattle.verilog_sim.specs.Compiled.{IsStepOf, IsNarrow, IsLineOf, AreLines, AreLinesOf}
+use Rattle.verilog_sim.specs.declared.instruction.Step.{Step}
+use Rattle.verilog_sim.specs.declared.instruction.Step.TheVariants.{Copy, Literal as DoLiteral}
+use Rattle.verilog_sim.specs.declared.instruction.Step.TheVariants.{Not as DoNot, Add as DoAdd}
+use Rattle.verilog_sim.specs.declared.instruction.Step.TheVariants.{Sub as DoSub, Mul as DoMul}
+use Rattle.verilog_sim.specs.declared.instruction.Step.TheVariants.{Div as DoDiv, And as DoAnd, Or as DoOr}
+use Rattle.verilog_sim.specs.declared.instruction.Step.TheVariants.{Xor as DoXor, Eq as DoEq, Lt as DoLt}
+use Rattle.verilog_sim.specs.declared.instruction.Step.TheVariants.{Concat as DoConcat, Repeat as DoRepeat}
+use Rattle.verilog_sim.specs.declared.instruction.Step.TheVariants.{Part as DoPart, Choose as DoChoose}
+use Rattle.verilog_sim.specs.declared.instruction.Step.TheVariants.{Cell as DoCell}
+use Rattle.verilog_sim.specs.declared.instruction.Instruction.{Instruction}
+use Rattle.verilog_sim.specs.Instructions.{IsSafe, IsStepSafe}
+use Rattle.verilog_sim.specs.Compiled.{IsStepOf, IsNarrow, IsInstructionOf, AreInstructions, AreInstructionsOf}
 use Rattle.verilog_sim.specs.Runnable.{IsSizedNet, IsRunnable, IsPartOf}
 use Rattle.verilog_sim.proofs.Gathering.{PushedAt, pushed_at}
 use Rattle.verilog_sim.proofs.Gathering.PushedAt.{before, last}
@@ -94,15 +94,17 @@ step_safe m w (Cell k n) (DoCell i a) r f t some le h =
     (omega (arith, h.0, u), omega (arith, h.1, q))
 step_safe m w e s r f t some le h = absurd h
 
-pub lines_safe : (m : Module) (order : List Assign) (lines : List Line) → IsRunnable m → IsPartOf m order → AreLinesOf m order lines → All (IsSafe (length m.nets) (length m.mems)) lines
-lines_safe m order lines r o are i d lt = safe (get_or lines i d) (slice_get-get_or lines i d lt)
+pub instructions_safe : (m : Module) (order : List Assign) (instructions : List Instruction)
+    → IsRunnable m → IsPartOf m order → AreInstructionsOf m order instructions
+    → All (IsSafe (length m.nets) (length m.mems)) instructions
+instructions_safe m order instructions r o are i d lt = safe (get_or instructions i d) (slice_get-get_or instructions i d lt)
   where
-    safe : (l : Line) → slice_get lines i ≡ Some l → IsSafe (length m.nets) (length m.mems) l
+    safe : (l : Instruction) → slice_get instructions i ≡ Some l → IsSafe (length m.nets) (length m.mems) l
     safe l at =
         let at' : slice_get order i ≡ Some (get_or order i (record { target = 0; expr = Plain 0 })) = slice_get-get_or order i (record { target = 0; expr = Plain 0 }) (omega (arith, are.size)) in
         by_assign l at (get_or order i (record { target = 0; expr = Plain 0 })) at'
       where
-        by_assign : (l : Line) → slice_get lines i ≡ Some l → (a : Assign) → slice_get order i ≡ Some a → IsSafe (length m.nets) (length m.mems) l
+        by_assign : (l : Instruction) → slice_get instructions i ≡ Some l → (a : Assign) → slice_get order i ≡ Some a → IsSafe (length m.nets) (length m.mems) l
         by_assign l at a at' =
             let is = are.each i a l at' at in
             let from = o.from i a at' in
@@ -117,23 +119,25 @@ lines_safe m order lines r o are i d lt = safe (get_or lines i d) (slice_get-get
               step = step_safe m (width_of m a.target) a.expr l.step r formed.expr typed w.0 w.1 is.step;
             }
 
-pub none_compiled_at : (m : Module) (assigns : List Assign) → AreLines m assigns [] 0
+pub none_compiled_at : (m : Module) (assigns : List Assign) → AreInstructions m assigns [] 0
 none_compiled_at m assigns = record { size = refl; each = λ i a l at e. absurd (cc) }
 
 pub one_compiled :
-    (m : Module) (assigns : List Assign) (lines : List Line) (i : ℕ) (a : Assign) (l : Line)
+    (m : Module) (assigns : List Assign) (instructions : List Instruction) (i : ℕ) (a : Assign) (l : Instruction)
     → slice_get assigns i ≡ Some a → l.target ≡ a.target → l.width ≡ width_of m a.target → (l.narrow ≡ true → IsNarrow m a) → IsStepOf m a.expr l.step
-    → AreLines m assigns lines i → AreLines m assigns (lines ++ l ∷ []) (i + 1)
-one_compiled m assigns lines i a l at target width narrow s are =
-    record { size = length_push lines l ∙ ap (λ n. n + 1) are.size; each = λ j b k bt e. each j b k bt (pushed_at lines l j k e) }
+    → AreInstructions m assigns instructions i → AreInstructions m assigns (instructions ++ l ∷ []) (i + 1)
+one_compiled m assigns instructions i a l at target width narrow s are =
+    record { size = length_push instructions l ∙ ap (λ n. n + 1) are.size; each = λ j b k bt e. each j b k bt (pushed_at instructions l j k e) }
   where
-    each : (j : ℕ) (b : Assign) (k : Line) → slice_get assigns j ≡ Some b → PushedAt lines l j k → IsLineOf m b k
+    each : (j : ℕ) (b : Assign) (k : Instruction) → slice_get assigns j ≡ Some b → PushedAt instructions l j k → IsInstructionOf m b k
     each j b k bt (before lt e) = are.each j b k bt e
     each j b k bt (last q e) =
         let bt' : slice_get assigns i ≡ Some b = subst (λ (x : ℕ). slice_get assigns x ≡ Some b) (q ∙ are.size) bt in
         let r : a ≡ b = cc in
-        subst (IsLineOf m b) e (subst (λ (x : Assign). IsLineOf m x l) r (record { target = target; width = width; narrow = narrow; step = s }))
+        subst (IsInstructionOf m b) e (subst (λ (x : Assign). IsInstructionOf m x l) r (record { target = target; width = width; narrow = narrow; step = s }))
 
--- lines in another list that is the same
-pub lines_at : (m : Module) (assigns : List Assign) (lines lines' : List Line) → lines' ≡ lines → AreLinesOf m assigns lines → AreLinesOf m assigns lines'
-lines_at m assigns lines lines' e = subst (λ (l : List Line). AreLinesOf m assigns l) (sym e)
+-- instructions in another list that is the same
+pub instructions_at : (m : Module) (assigns : List Assign)
+    (instructions instructions' : List Instruction) → instructions' ≡ instructions
+    → AreInstructionsOf m assigns instructions → AreInstructionsOf m assigns instructions'
+instructions_at m assigns instructions instructions' e = subst (λ (l : List Instruction). AreInstructionsOf m assigns l) (sym e)

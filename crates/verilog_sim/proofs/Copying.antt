@@ -18,26 +18,26 @@ use Rattle.rtl_ir.specs.Typed.{is_input, is_given, IsTyped, IsUpdateTyped}
 use Rattle.rtl_ir.specs.Formed.{IsFormedAssign, IsFormedUpdate}
 use Rattle.rtl_ir.specs.Rules.{Connection, Driver, ByAssign, ByPort, Drives}
 use Rattle.rtl_ir.specs.Walks.{FlatFeeds, own, enter, leave, inside, FlatWay, done, then'}
-use Rattle.verilog_sim.specs.Moved.{bare_net, bare_mem, moved_expr, moved_assign, moved_update, moved_instance}
+use Rattle.verilog_sim.specs.Relocation.{bare_net, bare_mem, relocated_expr, relocated_assign, relocated_update, relocated_instance}
 use Rattle.verilog_sim.specs.Runnable.{IsSizedNet, IsSizedMem}
 use Rattle.verilog_sim.specs.Flattened.{IsCopied}
 use Rattle.verilog_sim.proofs.Cutting.{kept_in}
 use Rattle.verilog_sim.proofs.Sitting.{some_of_map, of_map, none, map_same, assign_same, update_same, sits_copied}
 use Rattle.verilog_sim.proofs.Parting.{Standing}
-use Rattle.verilog_sim.proofs.Joining.{formed_moved, typed_moved, ConnectionIn, connection_of, connection_in}
-use Rattle.verilog_sim.proofs.JoinRules.{update_moved, update_typed}
+use Rattle.verilog_sim.proofs.Joining.{formed_relocated, typed_relocated, ConnectionIn, connection_of, connection_in}
+use Rattle.verilog_sim.proofs.JoinRules.{update_relocated, update_typed}
 use Rattle.verilog_sim.proofs.JoinDrivers.{driven_in}
 use Rattle.verilog_sim.proofs.Placed.{IsPlaced}
 
 module _ (d : Design) {m n : Module} (j : IsCopied m n) where
-  pub inst_copied : (k : ℕ) → slice_get n.instances (0 + k) ≡ option_map (moved_instance 0) (slice_get m.instances k)
-  inst_copied k = ap (slice_get n.instances) (none k) ∙ ap (λ (l : List Instance). slice_get l k) j.instances ∙ slice_get-map (moved_instance 0) m.instances k
+  pub inst_copied : (k : ℕ) → slice_get n.instances (0 + k) ≡ option_map (relocated_instance 0) (slice_get m.instances k)
+  inst_copied k = ap (slice_get n.instances) (none k) ∙ ap (λ (l : List Instance). slice_get l k) j.instances ∙ slice_get-map (relocated_instance 0) m.instances k
 
   assigns : n.assigns ≡ m.assigns
-  assigns = j.assigns ∙ map_same (moved_assign 0 0) m.assigns assign_same
+  assigns = j.assigns ∙ map_same (relocated_assign 0 0) m.assigns assign_same
 
   updates : n.updates ≡ m.updates
-  updates = j.updates ∙ map_same (moved_update 0 0) m.updates update_same
+  updates = j.updates ∙ map_same (relocated_update 0 0) m.updates update_same
 
   assign_at : (k : ℕ) (a : Assign) → slice_get n.assigns k ≡ Some a → slice_get m.assigns k ≡ Some a
   assign_at k a at = sym (ap (λ (l : List Assign). slice_get l k) assigns) ∙ at
@@ -66,7 +66,7 @@ module _ (d : Design) {m n : Module} (j : IsCopied m n) where
   feeds_at (enter k i e out) = let c = connection_at k i e in subst (λ (t : ℕ). FlatFeeds d m [] t (k ∷ []) e.port.net) (sym (none c.own) ∙ c.moved) (enter k i (connection_of c) out)
   feeds_at (leave k i e out) = let c = connection_at k i e in subst (λ (t : ℕ). FlatFeeds d m (k ∷ []) e.port.net [] t) (sym (none c.own) ∙ c.moved) (leave k i (connection_of c) out)
   feeds_at (inside k i y p q a b of is f) =
-      let x = some_of_map (moved_instance 0) (slice_get m.instances k) i (sym (inst_copied k) ∙ ap (slice_get n.instances) (none k) ∙ of) in
+      let x = some_of_map (relocated_instance 0) (slice_get m.instances k) i (sym (inst_copied k) ∙ ap (slice_get n.instances) (none k) ∙ of) in
       inside k x.0 y p q a b x.1 (ap (λ (z : Instance). slice_get d.modules z.«module») x.2 ∙ is) f
 
   way_at : {p q : Path} {a b : ℕ} → FlatWay d n p a q b → FlatWay d m p a q b
@@ -80,9 +80,9 @@ module _ (d : Design) {m n : Module} (j : IsCopied m n) where
     reg_at : (t : ℕ) → t < length m.nets → is_reg n t ≡ is_reg m t
     reg_at t lt = ap (is_reg n) (sym (none t)) ∙ (sits_copied j).regs t lt
 
-    each_instance : (P : Instance → Type 0) → ((k : ℕ) (i : Instance) → slice_get m.instances k ≡ Some i → P (moved_instance 0 i)) → (k : ℕ) (i : Instance) → slice_get n.instances k ≡ Some i → P i
+    each_instance : (P : Instance → Type 0) → ((k : ℕ) (i : Instance) → slice_get m.instances k ≡ Some i → P (relocated_instance 0 i)) → (k : ℕ) (i : Instance) → slice_get n.instances k ≡ Some i → P i
     each_instance P f k i at =
-        let q = some_of_map (moved_instance 0) (slice_get m.instances k) i (sym (inst_copied k) ∙ ap (slice_get n.instances) (none k) ∙ at) in
+        let q = some_of_map (relocated_instance 0) (slice_get m.instances k) i (sym (inst_copied k) ∙ ap (slice_get n.instances) (none k) ∙ at) in
         subst P q.2 (f k q.0 q.1)
 
     standing : Standing d n
@@ -90,8 +90,11 @@ module _ (d : Design) {m n : Module} (j : IsCopied m n) where
         record {
           ranged = record {
             assigns = λ k a at. (let f = h.standing.ranged.assigns k a (assign_at k a at) in
-                subst (IsFormedAssign n) (assign_same a) (record { target = omega (arith, f.target, nets); expr = formed_moved 0 0 m n (omega (arith, nets)) (omega (arith, mems)) a.expr f.expr }));
-            updates = λ k u at. subst (IsFormedUpdate n) (update_same u) (update_moved 0 0 m n (omega (arith, nets)) (omega (arith, mems)) u (h.standing.ranged.updates k u (update_at k u at)));
+                subst (IsFormedAssign n) (assign_same a) (record {
+                  target = omega (arith, f.target, nets);
+                  expr = formed_relocated 0 0 m n (omega (arith, nets)) (omega (arith, mems)) a.expr f.expr;
+                }));
+            updates = λ k u at. subst (IsFormedUpdate n) (update_same u) (update_relocated 0 0 m n (omega (arith, nets)) (omega (arith, mems)) u (h.standing.ranged.updates k u (update_at k u at)));
           };
           nets = λ k i l o at is. each_instance (λ i. (l o : ℕ) → slice_get i.nets l ≡ Some o → o < length n.nets)
               (λ k i at l o is. (let q = of_map (λ t. 0 + t) i.nets l o is in omega (arith, h.standing.nets k i l q.0 at q.1, q.2, nets)))
@@ -117,9 +120,9 @@ module _ (d : Design) {m n : Module} (j : IsCopied m n) where
         let at' = assign_at k a at in
         let f = h.standing.ranged.assigns k a at' in
         subst (λ (x : Assign). IsTyped n (width_of n x.target) x.expr) (assign_same a)
-        (subst (λ (w : ℕ). IsTyped n w (moved_expr 0 0 a.expr))
+        (subst (λ (w : ℕ). IsTyped n w (relocated_expr 0 0 a.expr))
         (sym ((sits_copied j).widths a.target f.target))
-        (typed_moved 0 0 m n (sits_copied j) (width_of m a.target) a.expr f.expr
+        (typed_relocated 0 0 m n (sits_copied j) (width_of m a.target) a.expr f.expr
         (h.typed k a at')))
 
     updated_at : (t : ℕ) → is_reg n t ≡ true → (k : ℕ) × (u : Update) × (slice_get n.updates k ≡ Some u) × (u.target ≡ Reg t)

@@ -13,8 +13,8 @@ use Rattle.rtl_ir.specs.Edge.{with_reg, with_cell, written, updated, updated_all
 use Rattle.rtl_ir.specs.Operands.{target_net, target_mem}
 use Rattle.rtl_ir.specs.Typed.{word_width}
 use Rattle.rtl_ir.specs.Formed.{IsFormedUpdate}
-use Rattle.verilog_sim.specs.Moved.{moved_target, moved_update}
-use Rattle.verilog_sim.specs.Parts.{cut_family, cut_contents}
+use Rattle.verilog_sim.specs.Relocation.{relocated_target, relocated_update}
+use Rattle.verilog_sim.specs.ByPath.{cut_family, cut_contents}
 use Rattle.verilog_sim.specs.Start.{filled_part}
 use Rattle.verilog_sim.proofs.Cutting.{IsOutside, AreOutside, Sits, Ranged, cut_at}
 
@@ -84,7 +84,7 @@ module _ (b c : ℕ) (inner n : Module) (s : Sits b c inner n) (v : Family) wher
   written_in : (t : Target) (y : ℕ) (x : Contents) → target_net t < length inner.nets
       → ((k : ℕ) → target_mem t ≡ Some k → k < length inner.mems)
       → cut_contents b (length inner.nets) c (length inner.mems)
-      (written n v (moved_target b c t) y x) ≡ written inner
+      (written n v (relocated_target b c t) y x) ≡ written inner
       (cut_family b (length inner.nets) v) t y (cut_contents b (length inner.nets) c
       (length inner.mems) x)
   written_in (Reg r) y x net mem =
@@ -111,18 +111,18 @@ module _ (b c : ℕ) (inner n : Module) (s : Sits b c inner n) (v : Family) wher
 
   updated_in : (u : Update) (x : Contents) → IsFormedUpdate inner u
       → cut_contents b (length inner.nets) c (length inner.mems)
-      (updated n v (moved_update b c u) x) ≡ updated inner
+      (updated n v (relocated_update b c u) x) ≡ updated inner
       (cut_family b (length inner.nets) v) u (cut_contents b (length inner.nets) c
       (length inner.mems) x)
   updated_in u x f =
-      ap (λ q. cut_contents b (length inner.nets) c (length inner.mems) (cond (eqb q 1) (written n v (moved_target b c u.target) (v (b + u.value)) x) x)) (read_in u.enable f.enable)
+      ap (λ q. cut_contents b (length inner.nets) c (length inner.mems) (cond (eqb q 1) (written n v (relocated_target b c u.target) (v (b + u.value)) x) x)) (read_in u.enable f.enable)
       ∙ ap (λ q. cut_contents b (length inner.nets) c (length inner.mems)
       (cond (eqb (cut_family b (length inner.nets) v u.enable) 1)
-      (written n v (moved_target b c u.target) q x) x)) (read_in u.value f.value)
+      (written n v (relocated_target b c u.target) q x) x)) (read_in u.value f.value)
       ∙ by_enable (cut_family b (length inner.nets) v u.value) (eqb (cut_family b (length inner.nets) v u.enable) 1)
     where
       by_enable : (q : ℕ) (t : Bool) → cut_contents b (length inner.nets) c (length inner.mems)
-          (cond t (written n v (moved_target b c u.target) q x) x) ≡ cond t
+          (cond t (written n v (relocated_target b c u.target) q x) x) ≡ cond t
           (written inner (cut_family b (length inner.nets) v) u.target q
           (cut_contents b (length inner.nets) c (length inner.mems) x))
           (cut_contents b (length inner.nets) c (length inner.mems) x)
@@ -131,12 +131,12 @@ module _ (b c : ℕ) (inner n : Module) (s : Sits b c inner n) (v : Family) wher
 
   all_in : (us : List Update) (x : Contents) → ((k : ℕ) (u : Update) → slice_get us k ≡ Some u
       → IsFormedUpdate inner u) → cut_contents b (length inner.nets) c (length inner.mems)
-      (updated_all n v (map (moved_update b c) us) x) ≡ updated_all inner
+      (updated_all n v (map (relocated_update b c) us) x) ≡ updated_all inner
       (cut_family b (length inner.nets) v) us (cut_contents b (length inner.nets) c
       (length inner.mems) x)
   all_in [] x f = refl
   all_in (u ∷ us) x f =
-      all_in us (updated n v (moved_update b c u) x) (λ k w e. f (suc k) w e)
+      all_in us (updated n v (relocated_update b c u) x) (λ k w e. f (suc k) w e)
       ∙ ap (updated_all inner (cut_family b (length inner.nets) v) us) (updated_in u x (f 0 u refl))
 
   pub edge_cut : Ranged inner → (x : Contents)
@@ -144,7 +144,7 @@ module _ (b c : ℕ) (inner n : Module) (s : Sits b c inner n) (v : Family) wher
       ≡ after_edge inner (cut_contents b (length inner.nets) c (length inner.mems) x)
       (cut_family b (length inner.nets) v)
   edge_cut r x =
-      let moved = map (moved_update b c) inner.updates in
+      let moved = map (relocated_update b c) inner.updates in
       let cut : Contents → Contents = λ y. cut_contents b (length inner.nets) c (length inner.mems) y in
       ap (λ us. cut (updated_all n v us x)) s.updates
       ∙ ap cut (updated_append n v s.before (moved ++ s.behind) x)

@@ -16,8 +16,8 @@ use Rattle.rtl_ir.specs.Edge.{Fits}
 use Rattle.rtl_ir.specs.Typed.{word_width}
 use Rattle.rtl_ir.specs.Formed.{IsFormedExpr, IsFormedAssign, IsFormedUpdate}
 use Rattle.rtl_ir.proofs.Ports.{assigned_at, assigned_of}
-use Rattle.verilog_sim.specs.Moved.{moved_expr, moved_assign, moved_update}
-use Rattle.verilog_sim.specs.Parts.{cut_family, cut_contents}
+use Rattle.verilog_sim.specs.Relocation.{relocated_expr, relocated_assign, relocated_update}
+use Rattle.verilog_sim.specs.ByPath.{cut_family, cut_contents}
 
 -- a target is none of so many nets and memories
 abbrev pub IsOutside : ℕ → ℕ → ℕ → ℕ → Target → Type 0
@@ -33,10 +33,10 @@ pub record Sits (b c : ℕ) (inner n : Module) : Type 0 where
   pub regs : (k : ℕ) → k < length inner.nets → is_reg n (b + k) ≡ is_reg inner k
   pub depths : (k : ℕ) → k < length inner.mems → depth_of n (c + k) ≡ depth_of inner k
   pub word_widths : (k : ℕ) → k < length inner.mems → word_width n (c + k) ≡ word_width inner k
-  pub assigns : (j : ℕ) (a : Assign) → slice_get inner.assigns j ≡ Some a → (i : ℕ) × (slice_get n.assigns i ≡ Some (moved_assign b c a))
+  pub assigns : (j : ℕ) (a : Assign) → slice_get inner.assigns j ≡ Some a → (i : ℕ) × (slice_get n.assigns i ≡ Some (relocated_assign b c a))
   pub before : List Update
   pub behind : List Update
-  pub updates : n.updates ≡ before ++ (map (moved_update b c) inner.updates ++ behind)
+  pub updates : n.updates ≡ before ++ (map (relocated_update b c) inner.updates ++ behind)
   pub apart : AreOutside b (length inner.nets) c (length inner.mems) before
   pub apart_behind : AreOutside b (length inner.nets) c (length inner.mems) behind
 
@@ -64,7 +64,7 @@ module _ (b c : ℕ) (inner n : Module) (s : Sits b c inner n) (x : Contents) (v
   at : (k : ℕ) → k < length inner.nets → v (b + k) ≡ cutv b inner v k
   at k lt = sym (cut_at b (length inner.nets) v k lt)
 
-  pub value_cut : (w : ℕ) (e : Expr) → IsFormedExpr inner e → value n x v w (moved_expr b c e) ≡ value inner (cuts b c inner x) (cutv b inner v) w e
+  pub value_cut : (w : ℕ) (e : Expr) → IsFormedExpr inner e → value n x v w (relocated_expr b c e) ≡ value inner (cuts b c inner x) (cutv b inner v) w e
   value_cut w (Plain k) f = at k (f.nets k (0, refl))
   value_cut w (Literal y) f = refl
   value_cut w (Not k) f = ap (λ y. 2 ^ w - 1 - y) (at k (f.nets k (0, refl)))
@@ -104,6 +104,6 @@ module _ (b c : ℕ) (inner n : Module) (s : Sits b c inner n) (x : Contents) (v
           let q = s.assigns j a h in
           let g = r.assigns j a h in
           sym (at a.target g.target)
-          ∙ assigned_at n x v n.assigns q.0 (moved_assign b c a) f.assigned q.1
-          ∙ ap (λ w. value n x v w (moved_expr b c a.expr)) (s.widths a.target g.target)
+          ∙ assigned_at n x v n.assigns q.0 (relocated_assign b c a) f.assigned q.1
+          ∙ ap (λ w. value n x v w (relocated_expr b c a.expr)) (s.widths a.target g.target)
           ∙ value_cut (width_of inner a.target) a.expr g.expr

@@ -25,9 +25,9 @@ use Rattle.rtl_ir.specs.Value.{Family, width_of}
 use Rattle.verilog_sim.specs.declared.offer.Offer.{Offer}
 use Rattle.verilog_sim.specs.declared.offer.Event.{Event}
 use Rattle.verilog_sim.specs.declared.compile.Program.{Program}
-use Rattle.verilog_sim.specs.declared.place.Place.{Place}
+use Rattle.verilog_sim.specs.declared.scope.Scope.{Scope}
 use Rattle.verilog_sim.specs.Contents.{family_of, contents_of}
-use Rattle.verilog_sim.specs.Parts.{families_of, contents_by_path}
+use Rattle.verilog_sim.specs.ByPath.{families_of, contents_by_path}
 use Rattle.verilog_sim.specs.PartLists.{parts_of}
 use Rattle.verilog_sim.specs.State.{State, contents}
 use Rattle.verilog_sim.specs.Gifts.{Every, gifts, AreGiven, AreNetsOf}
@@ -44,7 +44,7 @@ use Rattle.verilog_sim.proofs.Whole.{whole_fits, whole_after, whole_own}
 use Rattle.verilog_sim.proofs.Fronts.{outer_same_ports, ports_flat, net_in, steady_flat, offered_flat}
 
 -- what a contract sees of a simulator
-abbrev pub state : Design → Interface → List Place → List ℕ → List ℕ → List (List ℕ) → State
+abbrev pub state : Design → Interface → List Scope → List ℕ → List ℕ → List (List ℕ) → State
 state d i ps steady held memories = record { design = d; outer = nets_of i; steady = steady; parts = parts_of (top_of d) ps held memories }
 
 -- a slice that was written is that of its vector
@@ -142,7 +142,7 @@ kept_back m c steady steady' held held' values values' memories memories' k a b 
 pub none_offered : (m : Module) (o : Outer) → AreOffered m o []
 none_offered m o = λ k c at. pow_pos (width_of m c.word)
 
-module _ {d : Design} {c : Interface} {pr : Program} {us : List Update} {ps : List Place} {steady held values : List ℕ}
+module _ {d : Design} {c : Interface} {pr : Program} {us : List Update} {ps : List Scope} {steady held values : List ℕ}
     {memories : List (List ℕ)} (s : Simulates d c pr us ps steady held values memories) where
   -- the module that is run in place of the flat one
   abbrev pub run : Module

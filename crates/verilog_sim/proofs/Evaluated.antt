@@ -125,14 +125,14 @@ evaluated m c reset steady offers accepts holds held new memories order r o inpu
     )
 
 -- what was kept stays so where some assignments give values
-pub kept_on_lines :
+pub kept_on_instructions :
     (m : Module) (assigns : List Assign) (c : Interface) (reset : Bool) (steady : List ℕ) (offers : List Offer)
     (accepts holds : List Bool) (held old new : List ℕ) (memories : List (List ℕ))
     → IsRunnable m → IsPartOf m assigns → ((k : ℕ) (a : Assign) (x : Word) → slice_get m.assigns k ≡ Some a
     → a.expr ≡ Literal x → (i : ℕ) (b : Assign) → slice_get assigns i ≡ Some b → b.target ≢ a.target)
     → AreKept m c steady held old memories
     → IsEvaluatedBy m assigns c reset steady offers accepts holds held memories new → AreKept m c steady held new memories
-kept_on_lines m assigns c reset steady offers accepts holds held old new memories r part free k b =
+kept_on_instructions m assigns c reset steady offers accepts holds held old new memories r part free k b =
     record {
       blocks = k.blocks;
       words = record { nets = b.settles.nets; words = b.settles.words; depths = k.words.depths; cells = k.words.cells };

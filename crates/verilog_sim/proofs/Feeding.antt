@@ -12,8 +12,8 @@ use Rattle.rtl_ir.specs.Flat.{Path}
 use Rattle.rtl_ir.specs.Operands.{IsRead}
 use Rattle.rtl_ir.specs.Rules.{Connection}
 use Rattle.rtl_ir.specs.Walks.{FlatFeeds, own, enter, leave, inside, FlatWay, done, then'}
-use Rattle.verilog_sim.specs.Moved.{moved_instance}
-use Rattle.verilog_sim.specs.declared.place.Place.{Place}
+use Rattle.verilog_sim.specs.Relocation.{relocated_instance}
+use Rattle.verilog_sim.specs.declared.scope.Scope.{Scope}
 use Rattle.verilog_sim.specs.Flattened.{IsJoined}
 use Rattle.verilog_sim.proofs.Sitting.{assign_made, some_of_map}
 use Rattle.verilog_sim.proofs.Parting.{Standing, inst_inner, inst_other, inst_last}
@@ -64,7 +64,7 @@ before {d = d} {m = m} {b = b} {last = last} {p = p} {q = q} {p' = p'} {q' = q'}
     (subst (λ (x : Path). FlatFeeds d m p' a' x (net_before b q c)) (sym t.path)
     (subst (λ (x : ℕ). FlatFeeds d m p' a' q' x) (sym t.net) f)))
 
-module _ {d : Design} {m n : Module} {s : Place} (j : IsJoined d m s n) (h : Standing d m) where
+module _ {d : Design} {m n : Module} {s : Scope} (j : IsJoined d m s n) (h : Standing d m) where
   -- an instance of n is one of m, or one of the part
   by_place : (k : ℕ) {A : Type 0} → (k < length j.rest → A) → ((i : ℕ) → length j.rest + i ≡ k → A) → A
   by_place k f g = ⊎_elim f (λ ge. g (k - length j.rest) (omega (arith, ge))) (cases_lt k (length j.rest))
@@ -145,7 +145,7 @@ module _ {d : Design} {m n : Module} {s : Place} (j : IsJoined d m s n) (h : Sta
       → Before d m (length m.nets) (length j.rest) ((length j.rest + k)
       ∷ p) a ((length j.rest + k) ∷ q) c
   inside_deep k i y p q a c of is f =
-      let x = some_of_map (moved_instance (length m.nets)) (slice_get j.inner.instances k) i (sym (inst_inner j k) ∙ of) in
+      let x = some_of_map (relocated_instance (length m.nets)) (slice_get j.inner.instances k) i (sym (inst_inner j k) ∙ of) in
       before (deep_net (length m.nets) (length j.rest) k p a) (deep_net (length m.nets) (length j.rest) k q c)
       (inside (length j.rest) j.part j.inner (k ∷ p) (k ∷ q) a c (inst_last j) j.is (inside k x.0 y p q a c x.1 (ap (λ (z : Instance). slice_get d.modules z.«module») x.2 ∙ is) f))
 

@@ -12,9 +12,9 @@ use Rattle.rtl_ir.specs.declared.design.Instance.{Instance}
 use Rattle.rtl_ir.specs.Flat.{top_of}
 use Rattle.rtl_ir.specs.Formed.{IsFormedModule, is_bit_input}
 use Rattle.rtl_ir.specs.Rules.{IsAccepted}
-use Rattle.verilog_sim.specs.declared.place.Place.{Place}
+use Rattle.verilog_sim.specs.declared.scope.Scope.{Scope}
 use Rattle.verilog_sim.specs.declared.flatten.Parts.{Parts}
-use Rattle.verilog_sim.specs.Moved.{bare_net, bare_mem, joins_of, moved_assign, moved_update, moved_instance}
+use Rattle.verilog_sim.specs.Relocation.{bare_net, bare_mem, joins_of, relocated_assign, relocated_update, relocated_instance}
 use Rattle.verilog_sim.specs.Flattened.{IsRanged, IsAdded, IsAddedJoined, AreFlattened, module_of, place_of, start, join}
 use Rattle.verilog_sim.specs.Start.{cells_with, cells_after, all_cells}
 use Rattle.verilog_sim.proofs.Sitting.{get_right}
@@ -22,7 +22,7 @@ use Rattle.verilog_sim.proofs.Placed.{IsPlaced, placed_of}
 use Rattle.verilog_sim.proofs.Copying.{placed_copied}
 use Rattle.verilog_sim.proofs.Whole.{placed_joins}
 use Rattle.verilog_sim.proofs.CellNumbers.{cells_at}
-use Rattle.verilog_sim.proofs.CellTotals.{total_copied, total_joins, total_top, own_mems, with_last, moved_cells, sum_cons}
+use Rattle.verilog_sim.proofs.CellTotals.{total_copied, total_joins, total_top, own_mems, with_last, relocated_cells, sum_cons}
 
 pub ranged_of : {d : Design} {m : Module} → IsPlaced d m → IsRanged m
 ranged_of h = record { assigns = h.standing.ranged.assigns; updates = h.standing.ranged.updates; nets = λ k j n i at is. h.standing.nets k i j n at is }
@@ -57,24 +57,24 @@ start_flat d top old new nets mems assigns updates instances a =
         nets = a.nets ∙ ap (λ l. l ++ map bare_net top.nets) nets;
         mems = a.mems ∙ ap (λ l. l ++ map bare_mem top.mems) mems;
         assigns = a.assigns ∙ ap (λ l. l
-            ++ map (moved_assign (length old.nets.items)
+            ++ map (relocated_assign (length old.nets.items)
             (length old.mems.items)) top.assigns) assigns ∙ ap
-            (λ b. map (moved_assign b (length old.mems.items)) top.assigns)
-            (ap length nets) ∙ ap (λ b. map (moved_assign 0 b) top.assigns) (ap length mems);
+            (λ b. map (relocated_assign b (length old.mems.items)) top.assigns)
+            (ap length nets) ∙ ap (λ b. map (relocated_assign 0 b) top.assigns) (ap length mems);
         updates = a.updates ∙ ap (λ l. l
-            ++ map (moved_update (length old.nets.items)
+            ++ map (relocated_update (length old.nets.items)
             (length old.mems.items)) top.updates) updates ∙ ap
-            (λ b. map (moved_update b (length old.mems.items)) top.updates)
-            (ap length nets) ∙ ap (λ b. map (moved_update 0 b) top.updates) (ap length mems);
-        instances = a.instances ∙ ap (λ l. l ++ map (moved_instance (length old.nets.items)) top.instances) instances ∙ ap (λ b. map (moved_instance b) top.instances) (ap length nets);
+            (λ b. map (relocated_update b (length old.mems.items)) top.updates)
+            (ap length nets) ∙ ap (λ b. map (relocated_update 0 b) top.updates) (ap length mems);
+        instances = a.instances ∙ ap (λ l. l ++ map (relocated_instance (length old.nets.items)) top.instances) instances ∙ ap (λ b. map (relocated_instance b) top.instances) (ap length nets);
       };
       joins = start;
     }
 
-abbrev place_made : ℕ → ℕ → ℕ → ℕ → ℕ → Place
+abbrev place_made : ℕ → ℕ → ℕ → ℕ → ℕ → Scope
 place_made i n a m b = record { instance = i; first_net = n; nets = a; first_mem = m; mems = b }
 
-pub place_is : (s : Place) (i n a m b : ℕ) → s.instance ≡ i → s.first_net ≡ n → s.nets ≡ a → s.first_mem ≡ m → s.mems ≡ b → s ≡ place_made i n a m b
+pub place_is : (s : Scope) (i n a m b : ℕ) → s.instance ≡ i → s.first_net ≡ n → s.nets ≡ a → s.first_mem ≡ m → s.mems ≡ b → s ≡ place_made i n a m b
 place_is s i n a m b ei en ea em eb =
     ap (λ x. place_made x s.first_net s.nets s.first_mem s.mems) ei
     ∙ ap (λ x. place_made i x s.nets s.first_mem s.mems) en
@@ -83,7 +83,7 @@ place_is s i n a m b ei en ea em eb =
     ∙ ap (λ x. place_made i n a m x) eb
 
 module _ (d : Design) (h : IsAccepted d) (small : all_cells d ≤ 2 ^ 26) (top : Module)
-    (is_top : top_of d ≡ Some top) (parts : Parts) (ss : List Place)
+    (is_top : top_of d ≡ Some top) (parts : Parts) (ss : List Scope)
     (a : AreFlattened d top parts ss) (rest : List Instance) (part : Instance)
     (was : parts.instances.items ≡ rest ++ part ∷ []) where
   placed : IsPlaced d (module_of top.ports parts)
@@ -120,7 +120,7 @@ module _ (d : Design) (h : IsAccepted d) (small : all_cells d ≤ 2 ^ 26) (top :
           mems_fit = omega (arith, small, whole, both, own_mems [] (module_of top.ports parts) placed.mems, own_mems [] inner inner_placed.mems);
         }
 
-    module _ (new : Parts) (s : Place) (place : s ≡ place_of (length rest)
+    module _ (new : Parts) (s : Scope) (place : s ≡ place_of (length rest)
         (module_of top.ports parts) inner) (old : Parts) (ns : List ℕ) (same : ns ≡ part.nets)
         (added : IsAddedJoined old new inner ns) (nets : old.nets.items ≡ parts.nets.items)
         (mems : old.mems.items ≡ parts.mems.items) (assigns : old.assigns.items
@@ -144,16 +144,16 @@ module _ (d : Design) (h : IsAccepted d) (small : all_cells d ≤ 2 ^ 26) (top :
               nets = b.more_nets ∙ ap (λ l. l ++ map bare_net inner.nets) nets;
               mems = b.mems ∙ ap (λ l. l ++ map bare_mem inner.mems) mems;
               assigns = b.assigns
-                  ∙ ap (λ l. (l ++ map (moved_assign (length old.nets.items) (length old.mems.items)) inner.assigns) ++ joins_of (length old.nets.items) inner.ports part.nets) assigns
-                  ∙ ap (λ x. (parts.assigns.items ++ map (moved_assign x (length old.mems.items)) inner.assigns) ++ joins_of x inner.ports part.nets) (ap length nets)
-                  ∙ ap (λ x. (parts.assigns.items ++ map (moved_assign (length parts.nets.items) x) inner.assigns) ++ joins_of (length parts.nets.items) inner.ports part.nets) (ap length mems);
+                  ∙ ap (λ l. (l ++ map (relocated_assign (length old.nets.items) (length old.mems.items)) inner.assigns) ++ joins_of (length old.nets.items) inner.ports part.nets) assigns
+                  ∙ ap (λ x. (parts.assigns.items ++ map (relocated_assign x (length old.mems.items)) inner.assigns) ++ joins_of x inner.ports part.nets) (ap length nets)
+                  ∙ ap (λ x. (parts.assigns.items ++ map (relocated_assign (length parts.nets.items) x) inner.assigns) ++ joins_of (length parts.nets.items) inner.ports part.nets) (ap length mems);
               updates = b.updates
-                  ∙ ap (λ l. l ++ map (moved_update (length old.nets.items) (length old.mems.items)) inner.updates) updates
-                  ∙ ap (λ x. parts.updates.items ++ map (moved_update x (length old.mems.items)) inner.updates) (ap length nets)
-                  ∙ ap (λ x. parts.updates.items ++ map (moved_update (length parts.nets.items) x) inner.updates) (ap length mems);
+                  ∙ ap (λ l. l ++ map (relocated_update (length old.nets.items) (length old.mems.items)) inner.updates) updates
+                  ∙ ap (λ x. parts.updates.items ++ map (relocated_update x (length old.mems.items)) inner.updates) (ap length nets)
+                  ∙ ap (λ x. parts.updates.items ++ map (relocated_update (length parts.nets.items) x) inner.updates) (ap length mems);
               instances = b.instances
-                  ∙ ap (λ l. l ++ map (moved_instance (length old.nets.items)) inner.instances) instances
-                  ∙ ap (λ x. rest ++ map (moved_instance x) inner.instances) (ap length nets);
+                  ∙ ap (λ l. l ++ map (relocated_instance (length old.nets.items)) inner.instances) instances
+                  ∙ ap (λ x. rest ++ map (relocated_instance x) inner.instances) (ap length nets);
               place = place;
             });
           }
@@ -166,9 +166,9 @@ module _ (d : Design) (h : IsAccepted d) (small : all_cells d ≤ 2 ^ 26) (top :
           omega (
             arith,
             ap (sum_by of) b.instances,
-            ap (λ l. sum_by of (l ++ map (moved_instance (length old.nets.items)) inner.instances)) instances,
-            sum_by-append of rest (map (moved_instance (length old.nets.items)) inner.instances),
-            moved_cells (cells_after [] d.modules) (length old.nets.items) inner.instances,
+            ap (λ l. sum_by of (l ++ map (relocated_instance (length old.nets.items)) inner.instances)) instances,
+            sum_by-append of rest (map (relocated_instance (length old.nets.items)) inner.instances),
+            relocated_cells (cells_after [] d.modules) (length old.nets.items) inner.instances,
             ap (sum_by of) was,
             sum_by-append of rest (part ∷ []),
             sum_cons of part [],

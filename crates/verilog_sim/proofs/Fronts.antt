@@ -8,7 +8,7 @@ use Rattle.rtl_ir.specs.Value.{width_of}
 use Rattle.rtl_ir.specs.Rules.{IsAccepted}
 use Rattle.rtl_ir.specs.Run.{Outer, Channel}
 use Rattle.rtl_ir.specs.Ports.{Shape, port_net, net_at, nets_from, second_nets_from, channels_from, first_scalar, first_input, first_output, done_port, outer_of}
-use Rattle.verilog_sim.specs.declared.place.Place.{Place}
+use Rattle.verilog_sim.specs.declared.scope.Scope.{Scope}
 use Rattle.verilog_sim.specs.declared.offer.Offer.{Offer}
 use Rattle.verilog_sim.specs.Calls.{nothing}
 use Rattle.verilog_sim.specs.Flattened.{IsFlat, Joins, start, join}
@@ -20,9 +20,9 @@ use Rattle.verilog_sim.proofs.Whole.{nets_joins}
 use Rattle.verilog_sim.proofs.Flattening.{some_net}
 use Rattle.verilog_sim.proofs.CellTotals.{total_copied, total_joins, total_top}
 use Rattle.std.proofs.lemmas.List.{length-map}
-use Rattle.verilog_sim.specs.Moved.{bare_net}
+use Rattle.verilog_sim.specs.Relocation.{bare_net}
 
-ports_joins : {d : Design} {m n : Module} {ss : List Place} → Joins d m ss n → n.ports ≡ m.ports
+ports_joins : {d : Design} {m n : Module} {ss : List Scope} → Joins d m ss n → n.ports ≡ m.ports
 ports_joins start = refl
 ports_joins (join js j) = j.ports ∙ ports_joins js
 
@@ -102,14 +102,14 @@ words_below m b h k [] i c e = absurd (cc)
 words_below m b h k (x ∷ xs) zero c e = let q : channel_in m.ports k ≡ c = cc in subst (λ (n : ℕ). n < b) (ap (λ (y : Channel). y.word) q) (h k)
 words_below m b h k (x ∷ xs) (suc i) c e = words_below m b h (k + 3) xs i c e
 
-module _ (d : Design) (h : IsAccepted d) {ss : List Place} {n : Module} (f : IsFlat d ss n) where
+module _ (d : Design) (h : IsAccepted d) {ss : List Scope} {n : Module} (f : IsFlat d ss n) where
   placed_top : IsPlaced d f.top
   placed_top = placed_of d h (length d.modules - 1) f.top f.is_top
 
   pub ports_flat : n.ports ≡ f.top.ports
   ports_flat = ports_joins f.joins ∙ f.copied.ports
 
-  width_joins : {m o : Module} {rs : List Place} → Joins d m rs o → (k : ℕ) → k < length m.nets → width_of o k ≡ width_of m k
+  width_joins : {m o : Module} {rs : List Scope} → Joins d m rs o → (k : ℕ) → k < length m.nets → width_of o k ≡ width_of m k
   width_joins start k lt = refl
   width_joins (join {n = p} {o = o} js j) k lt = ap (width_of o) (sym (none k)) ∙ (sits_outer j).widths k (omega (arith, lt, nets_joins d h js)) ∙ width_joins js k lt
 

@@ -245,12 +245,12 @@ module _ (m : Module) (i : Interface) (p : IsSimulable m i) (reset : Bool) (stea
       }
 
   -- what some assignments give, from the registers and inputs on
-  pub by_lines :
+  pub by_instructions :
       (assigns : List Assign) (held old new : List ℕ) (memories : List (List ℕ))
       → ((n : ℕ) → is_reg m n ≡ true → get_or old n 0 ≡ get_or held n 0) → AreConstant m old → length old ≡ length m.nets
       → AreWords m (written old all) memories → Settles m assigns memories (written old all) new
       → IsEvaluatedBy m assigns i reset steady offers accepts holds held memories new
-  by_lines assigns held old new memories l constant size w s =
+  by_instructions assigns held old new memories l constant size w s =
       record {
         driven = written old all;
         words = w;

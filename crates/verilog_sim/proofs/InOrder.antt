@@ -1,4 +1,4 @@
--- One line after another, the assignments come to hold.
+-- One instruction after another, the assignments come to hold.
 use Rattle.std.proofs.Common.{◌≡◌, ◌≢◌, Bool, true, false, ℕ, ◌+◌, ◌^◌, ◌<◌, ◌≤◌, ◌⊎◌, inl, inr}
 use Rattle.std.proofs.Common.{List, [], ◌++◌, length, length-append, get_or, set, Some, refl, sym}
 use Rattle.std.proofs.Common.{ap, ◌∙◌, subst, ⊎_elim, arith, get_or-set_other, get_or-set_same}
@@ -14,10 +14,10 @@ use Rattle.rtl_ir.specs.Value.{width_of, value}
 use Rattle.rtl_ir.specs.Operands.{IsRead}
 use Rattle.rtl_ir.proofs.Ports.{value_agrees}
 use Rattle.rtl_ir.proofs.Words.{value_fits}
-use Rattle.verilog_sim.specs.declared.line.Line.{Line}
-use Rattle.verilog_sim.specs.Lines.{read_by, step_value}
+use Rattle.verilog_sim.specs.declared.instruction.Instruction.{Instruction}
+use Rattle.verilog_sim.specs.Instructions.{read_by, step_value}
 use Rattle.verilog_sim.specs.Contents.{family_of, contents_of}
-use Rattle.verilog_sim.specs.Compiled.{IsLineOf, AreLinesOf}
+use Rattle.verilog_sim.specs.Compiled.{IsInstructionOf, AreInstructionsOf}
 use Rattle.verilog_sim.specs.Settled.{IsInOrder, AreWords, Settles, Progress}
 use Rattle.verilog_sim.proofs.Step.{step_is}
 
@@ -95,36 +95,36 @@ read_same m values words true n small =
     mod-eq_of_lt less
 read_same m values words false n small = refl
 
--- the value of a line is that of its assignment, also from the low 64 bits of narrow nets
-line_value :
-    (m : Module) (assigns : List Assign) (memories : List (List ℕ)) (old new : List ℕ) (i : ℕ) (a : Assign) (l : Line) (half : Bool)
+-- the value of an instruction is that of its assignment, also from the low 64 bits of narrow nets
+instruction_value :
+    (m : Module) (assigns : List Assign) (memories : List (List ℕ)) (old new : List ℕ) (i : ℕ) (a : Assign) (l : Instruction) (half : Bool)
     → (half ≡ true → l.narrow ≡ true)
-    → IsInOrder m assigns → AreWords m old memories → ((n : ℕ) → get_or new n 0 < 2 ^ width_of m n) → slice_get assigns i ≡ Some a → IsLineOf m a l → 1 ≤ l.width → l.width ≤ 128
+    → IsInOrder m assigns → AreWords m old memories → ((n : ℕ) → get_or new n 0 < 2 ^ width_of m n) → slice_get assigns i ≡ Some a → IsInstructionOf m a l → 1 ≤ l.width → l.width ≤ 128
     → step_value memories (read_by half new) l.width l.step ≡ value m (contents_of [] memories) (family_of new) (width_of m a.target) a.expr
-line_value m assigns memories old new i a l half by o h words at r some most =
+instruction_value m assigns memories old new i a l half by o h words at r some most =
     ap (λ k. step_value memories (read_by half new) k l.step) r.width
     ∙ step_is m memories (read_by half new) (width_of m a.target) a.expr l.step (o.typed i a at) r.step (omega (arith, r.width)) (omega (arith, r.width)) (read_fits m new words half) h.depths
     ∙ value_agrees m (contents_of [] memories) (read_by half new) (family_of new) (width_of m a.target) a.expr (λ n read. read_same m new words half n (λ e. (r.narrow (by e)).reads n read))
 
-pub one_line :
-    (m : Module) (assigns : List Assign) (memories : List (List ℕ)) (lines : List Line) (old new : List ℕ) (i : ℕ) (l : Line) (x : ℕ) (half : Bool)
+pub one_instruction :
+    (m : Module) (assigns : List Assign) (memories : List (List ℕ)) (instructions : List Instruction) (old new : List ℕ) (i : ℕ) (l : Instruction) (x : ℕ) (half : Bool)
     → (half ≡ true → l.narrow ≡ true)
-    → AreLinesOf m assigns lines → IsInOrder m assigns → AreWords m old memories → slice_get lines i ≡ Some l
+    → AreInstructionsOf m assigns instructions → IsInOrder m assigns → AreWords m old memories → slice_get instructions i ≡ Some l
     → l.target < length new → 1 ≤ l.width → l.width ≤ 128
     → ((half ≡ true → step_value memories (read_by half new) l.width l.step < 2 ^ 64) → x ≡ step_value memories (read_by half new) l.width l.step)
     → Progress m assigns memories old new i → Progress m assigns memories old (set new l.target x) (i + 1)
-one_line m assigns memories lines old new i l x half by are o h at lt some most is p =
-    let within : i < length assigns = omega (arith, slice_get_within lines i l at, are.size) in
+one_instruction m assigns memories instructions old new i l x half by are o h at lt some most is p =
+    let within : i < length assigns = omega (arith, slice_get_within instructions i l at, are.size) in
     let none : Assign = record { target = 0; expr = Rattle.rtl_ir.specs.declared.design.Expr.TheVariants.Net 0 } in
     let a = get_or assigns i none in
     let at' : slice_get assigns i ≡ Some a = slice_get-get_or assigns i none within in
-    let r : IsLineOf m a l = are.each i a l at' at in
-    let same = line_value m assigns memories old new i a l half by o h p.words at' r some most in
+    let r : IsInstructionOf m a l = are.each i a l at' at in
+    let same = instruction_value m assigns memories old new i a l half by o h p.words at' r some most in
     let lt' : a.target < length new = omega (arith, r.target) in
     subst (λ (t : ℕ). Progress m assigns memories old (set new t x) (i + 1)) (sym r.target) (one_more m assigns memories old new i a x o h at' lt' (is (fits r same at') ∙ same) p)
   where
     fits :
-        {a : Assign} → IsLineOf m a l → step_value memories (read_by half new) l.width l.step ≡ value m (contents_of [] memories) (family_of new) (width_of m a.target) a.expr
+        {a : Assign} → IsInstructionOf m a l → step_value memories (read_by half new) l.width l.step ≡ value m (contents_of [] memories) (family_of new) (width_of m a.target) a.expr
         → slice_get assigns i ≡ Some a → half ≡ true → step_value memories (read_by half new) l.width l.step < 2 ^ 64
     fits {a} r same at' e =
         let below = value_fits m (contents_of [] memories) (family_of new) (width_of m a.target) a.expr (o.typed i a at') p.words h.cells in
@@ -139,45 +139,45 @@ item_at before items rest i x e =
     slice_get-get_or ((before ++ items) ++ rest) (length before + i) x (omega (arith, length-append (before ++ items) rest))
     ∙ ap (λ y. Some y) (get_or_append_left (before ++ items) rest x (length before + i) within ∙ get_or-append-add before items i x ∙ get_or_from_slice_get items i x x e)
 
--- one line more of those that stand between others
-pub line_between :
-    (m : Module) (assigns : List Assign) (memories : List (List ℕ)) (before lines rest : List Line) (old new : List ℕ) (i : ℕ) (l : Line) (x : ℕ) (half : Bool)
+-- one instruction more of those that stand between others
+pub instruction_between :
+    (m : Module) (assigns : List Assign) (memories : List (List ℕ)) (before instructions rest : List Instruction) (old new : List ℕ) (i : ℕ) (l : Instruction) (x : ℕ) (half : Bool)
     → (half ≡ true → l.narrow ≡ true)
-    → AreLinesOf m assigns ((before ++ lines) ++ rest) → IsInOrder m assigns → AreWords m old memories → slice_get lines i ≡ Some l
+    → AreInstructionsOf m assigns ((before ++ instructions) ++ rest) → IsInOrder m assigns → AreWords m old memories → slice_get instructions i ≡ Some l
     → l.target < length new → 1 ≤ l.width → l.width ≤ 128
     → ((half ≡ true → step_value memories (read_by half new) l.width l.step < 2 ^ 64) → x ≡ step_value memories (read_by half new) l.width l.step)
     → Progress m assigns memories old new (length before + i) → Progress m assigns memories old (set new l.target x) (length before + (i + 1))
-line_between m assigns memories before lines rest old new i l x half by are o h at lt some most is p =
+instruction_between m assigns memories before instructions rest old new i l x half by are o h at lt some most is p =
     let next : length before + i + 1 ≡ length before + (i + 1) = omega arith in
     subst (Progress m assigns memories old (set new l.target x)) next
-    (one_line m assigns memories ((before ++ lines) ++ rest) old new (length before + i) l x half by are o h (item_at before lines rest i l at) lt some most is p)
+    (one_instruction m assigns memories ((before ++ instructions) ++ rest) old new (length before + i) l x half by are o h (item_at before instructions rest i l at) lt some most is p)
 
--- the target of a narrow line has a value below 2^64
+-- the target of a narrow instruction has a value below 2^64
 pub target_below :
-    (m : Module) (assigns : List Assign) (memories : List (List ℕ)) (before lines rest : List Line) (old new : List ℕ) (i k : ℕ) (l : Line)
-    → AreLinesOf m assigns ((before ++ lines) ++ rest) → slice_get lines i ≡ Some l → l.narrow ≡ true → Progress m assigns memories old new k → get_or new l.target 0 < 2 ^ 64
-target_below m assigns memories before lines rest old new i k l are at narrow p =
-    let all = item_at before lines rest i l at in
-    let within : length before + i < length assigns = omega (arith, slice_get_within ((before ++ lines) ++ rest) (length before + i) l all, are.size) in
+    (m : Module) (assigns : List Assign) (memories : List (List ℕ)) (before instructions rest : List Instruction) (old new : List ℕ) (i k : ℕ) (l : Instruction)
+    → AreInstructionsOf m assigns ((before ++ instructions) ++ rest) → slice_get instructions i ≡ Some l → l.narrow ≡ true → Progress m assigns memories old new k → get_or new l.target 0 < 2 ^ 64
+target_below m assigns memories before instructions rest old new i k l are at narrow p =
+    let all = item_at before instructions rest i l at in
+    let within : length before + i < length assigns = omega (arith, slice_get_within ((before ++ instructions) ++ rest) (length before + i) l all, are.size) in
     let none : Assign = record { target = 0; expr = Rattle.rtl_ir.specs.declared.design.Expr.TheVariants.Net 0 } in
     let a = get_or assigns (length before + i) none in
-    let r : IsLineOf m a l = are.each (length before + i) a l (slice_get-get_or assigns (length before + i) none within) all in
+    let r : IsInstructionOf m a l = are.each (length before + i) a l (slice_get-get_or assigns (length before + i) none within) all in
     let most : 2 ^ width_of m a.target ≤ 2 ^ 64 = pow_mono ((r.narrow narrow).target) in
     let below = p.words a.target in
     subst (λ (t : ℕ). get_or new t 0 < 2 ^ 64) (sym r.target) (omega (arith, below, most))
 
--- the lines that stand between others are done
-pub lines_between :
-    (m : Module) (assigns : List Assign) (memories : List (List ℕ)) (before lines : List Line) (old new : List ℕ) (i : ℕ)
-    → i ≡ length lines → Progress m assigns memories old new (length before + i) → Progress m assigns memories old new (length (before ++ lines))
-lines_between m assigns memories before lines old new i e p =
-    let all : length before + i ≡ length (before ++ lines) = omega (arith, length-append before lines) in
+-- the instructions that stand between others are done
+pub instructions_between :
+    (m : Module) (assigns : List Assign) (memories : List (List ℕ)) (before instructions : List Instruction) (old new : List ℕ) (i : ℕ)
+    → i ≡ length instructions → Progress m assigns memories old new (length before + i) → Progress m assigns memories old new (length (before ++ instructions))
+instructions_between m assigns memories before instructions old new i e p =
+    let all : length before + i ≡ length (before ++ instructions) = omega (arith, length-append before instructions) in
     subst (Progress m assigns memories old new) all p
 
 pub at_last : (m : Module) (assigns : List Assign) (memories : List (List ℕ))
-    (lines : List Line) (old new : List ℕ) (i : ℕ) → AreLinesOf m assigns lines
-    → length lines ≤ i → Progress m assigns memories old new i → Settles m assigns memories old new
-at_last m assigns memories lines old new i are past p =
+    (instructions : List Instruction) (old new : List ℕ) (i : ℕ) → AreInstructionsOf m assigns instructions
+    → length instructions ≤ i → Progress m assigns memories old new i → Settles m assigns memories old new
+at_last m assigns memories instructions old new i are past p =
     record {
       nets = p.nets;
       words = p.words;

@@ -11,7 +11,7 @@ use Rattle.rtl_ir.specs.Value.{is_reg}
 use Rattle.rtl_ir.specs.Typed.{is_input, is_given}
 use Rattle.rtl_ir.specs.Rules.{Connection, Driver, ByAssign, ByPort, Drives}
 use Rattle.rtl_ir.proofs.Ports.{input_at}
-use Rattle.verilog_sim.specs.declared.place.Place.{Place}
+use Rattle.verilog_sim.specs.declared.scope.Scope.{Scope}
 use Rattle.verilog_sim.specs.Flattened.{IsJoined}
 use Rattle.verilog_sim.proofs.Sitting.{assign_made, none, sits_inner, sits_outer}
 use Rattle.verilog_sim.proofs.Parting.{Standing, inst_inner, inst_other, inst_last}
@@ -44,12 +44,12 @@ abbrev as_inner : ℕ → ℕ → Driver → Driver
 as_inner last assigns (ByAssign k) = ByAssign (assigns + k)
 as_inner last assigns (ByPort k i) = ByPort (last + k) i
 
-data Origin {d : Design} {m n : Module} {s : Place} (j : IsJoined d m s n) (x : Driver) (t : ℕ) : Type 0 where
+data Origin {d : Design} {m n : Module} {s : Scope} (j : IsJoined d m s n) (x : Driver) (t : ℕ) : Type 0 where
   low : (y : Driver) → Drives d m y t → as_outer (length j.rest) (length (own_assigns m j.inner)) y ≡ x → Origin j x t
   high : (u : ℕ) (y : Driver) → length m.nets + u ≡ t → Drives d j.inner y u → as_inner (length j.rest) (length m.assigns) y ≡ x → Origin j x t
   port : (i : ℕ) (p : Port) → length m.nets + p.net ≡ t → slice_get j.inner.ports i ≡ Some p → p.output ≡ false → ByAssign (length (own_assigns m j.inner) + i) ≡ x → Origin j x t
 
-module _ {d : Design} {m n : Module} {s : Place} (j : IsJoined d m s n) (h : IsPlaced d m) (g : IsPlaced d j.inner) where
+module _ {d : Design} {m n : Module} {s : Scope} (j : IsJoined d m s n) (h : IsPlaced d m) (g : IsPlaced d j.inner) where
   of_assign : (k t : ℕ) (a : Assign) → a.target ≡ t → Assigning j k a → Origin j (ByAssign k) t
   of_assign k t a is (by_outer at) = low (ByAssign k) (a, at, is) refl
   of_assign k t a is (by_inner i x place at same) = high x.target (ByAssign i) (ap (λ (y : Assign). y.target) same ∙ is) (x, at, refl) (ap ByAssign (sym place))

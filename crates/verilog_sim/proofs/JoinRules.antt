@@ -11,7 +11,7 @@ use Rattle.rtl_ir.specs.declared.design.Port.{Port}
 use Rattle.rtl_ir.specs.declared.design.Assign.{Assign}
 use Rattle.rtl_ir.specs.declared.design.Update.{Update}
 use Rattle.rtl_ir.specs.declared.design.Target.{Target}
-use Rattle.rtl_ir.specs.declared.design.Target.TheVariants.{Reg, Cell as Place'}
+use Rattle.rtl_ir.specs.declared.design.Target.TheVariants.{Reg, Cell as Scope'}
 use Rattle.rtl_ir.specs.declared.design.Instance.{Instance}
 use Rattle.rtl_ir.specs.declared.design.Expr.TheVariants.{Net as Plain}
 use Rattle.rtl_ir.specs.Value.{width_of, is_reg}
@@ -19,31 +19,31 @@ use Rattle.rtl_ir.specs.Operands.{target_net, target_mem}
 use Rattle.rtl_ir.specs.Formed.{IsFormedAssign, IsFormedUpdate}
 use Rattle.rtl_ir.specs.Typed.{IsTyped, IsUpdateTyped, target_width}
 use Rattle.rtl_ir.specs.Rules.{Connection}
-use Rattle.verilog_sim.specs.Moved.{bare_net, bare_mem, moved_expr, moved_assign, moved_target, moved_update, moved_instance}
-use Rattle.verilog_sim.specs.declared.place.Place.{Place}
+use Rattle.verilog_sim.specs.Relocation.{bare_net, bare_mem, relocated_expr, relocated_assign, relocated_target, relocated_update, relocated_instance}
+use Rattle.verilog_sim.specs.declared.scope.Scope.{Scope}
 use Rattle.verilog_sim.specs.Runnable.{IsSizedNet, IsSizedMem}
 use Rattle.verilog_sim.specs.Flattened.{IsJoined}
 use Rattle.verilog_sim.proofs.Cutting.{Sits, kept_in}
 use Rattle.verilog_sim.proofs.Sitting.{assign_made, Side, left, right, side_of, some_left, get_right, of_map, to_map, none, assign_same, update_same, sits_inner, sits_outer}
 use Rattle.verilog_sim.proofs.Parting.{Standing, inst_inner, inst_other, inst_last}
-use Rattle.verilog_sim.proofs.Joining.{JoinAt, Assigning, by_outer, by_inner, by_join, assigning, formed_moved, formed_wider, typed_moved, connection_of, connection_in}
+use Rattle.verilog_sim.proofs.Joining.{JoinAt, Assigning, by_outer, by_inner, by_join, assigning, formed_relocated, formed_wider, typed_relocated, connection_of, connection_in}
 use Rattle.verilog_sim.proofs.Placed.{IsPlaced}
 use Rattle.verilog_sim.proofs.Feeding.{free_before}
 use Rattle.verilog_sim.proofs.JoinDrivers.{one_joined, given_joined, reg_outer}
 
 -- updates under moved numbers
-target_formed : (b nets : ℕ) (c : ℕ) (t : Target) → target_net t < nets → target_net (moved_target b c t) < b + nets
+target_formed : (b nets : ℕ) (c : ℕ) (t : Target) → target_net t < nets → target_net (relocated_target b c t) < b + nets
 target_formed b nets c (Reg r) lt = omega (arith, lt)
-target_formed b nets c (Place' k a) lt = omega (arith, lt)
+target_formed b nets c (Scope' k a) lt = omega (arith, lt)
 
-mem_formed : (b c mems : ℕ) (t : Target) → ((k : ℕ) → target_mem t ≡ Some k → k < mems) → (k : ℕ) → target_mem (moved_target b c t) ≡ Some k → k < c + mems
+mem_formed : (b c mems : ℕ) (t : Target) → ((k : ℕ) → target_mem t ≡ Some k → k < mems) → (k : ℕ) → target_mem (relocated_target b c t) ≡ Some k → k < c + mems
 mem_formed b c mems (Reg r) h k e = absurd (cc)
-mem_formed b c mems (Place' i a) h k e = let f : c + i ≡ k = cc in omega (arith, h i refl, f)
+mem_formed b c mems (Scope' i a) h k e = let f : c + i ≡ k = cc in omega (arith, h i refl, f)
 
-pub update_moved : (b c : ℕ) (inner n : Module) → b + length inner.nets ≤ length n.nets
+pub update_relocated : (b c : ℕ) (inner n : Module) → b + length inner.nets ≤ length n.nets
     → c + length inner.mems ≤ length n.mems → (u : Update) → IsFormedUpdate inner u
-    → IsFormedUpdate n (moved_update b c u)
-update_moved b c inner n nets mems u f =
+    → IsFormedUpdate n (relocated_update b c u)
+update_relocated b c inner n nets mems u f =
     record {
       enable = omega (arith, f.enable);
       value = omega (arith, f.value);
@@ -53,22 +53,22 @@ update_moved b c inner n nets mems u f =
 
 target_typed : (b c : ℕ) (inner n : Module) → Sits b c inner n → (t : Target)
     → target_net t < length inner.nets → ((k : ℕ) → target_mem t ≡ Some k
-    → k < length inner.mems) → target_width n (moved_target b c t) ≡ target_width inner t
+    → k < length inner.mems) → target_width n (relocated_target b c t) ≡ target_width inner t
 target_typed b c inner n s (Reg r) net mem = s.widths r net
-target_typed b c inner n s (Place' k a) net mem = s.word_widths k (mem k refl)
+target_typed b c inner n s (Scope' k a) net mem = s.word_widths k (mem k refl)
 
-pub update_typed : (b c : ℕ) (inner n : Module) → Sits b c inner n → (u : Update) → IsFormedUpdate inner u → IsUpdateTyped inner u → IsUpdateTyped n (moved_update b c u)
+pub update_typed : (b c : ℕ) (inner n : Module) → Sits b c inner n → (u : Update) → IsFormedUpdate inner u → IsUpdateTyped inner u → IsUpdateTyped n (relocated_update b c u)
 update_typed b c inner n s u f t =
     record {
       enable = s.widths u.enable f.enable ∙ t.enable;
       value = s.widths u.value f.value ∙ t.value ∙ sym (target_typed b c inner n s u.target f.net f.mem);
     }
 
-pub of_moved_reg : (b c t : ℕ) (x : Target) → moved_target b c x ≡ Reg t → (r : ℕ) × (x ≡ Reg r) × (b + r ≡ t)
+pub of_moved_reg : (b c t : ℕ) (x : Target) → relocated_target b c x ≡ Reg t → (r : ℕ) × (x ≡ Reg r) × (b + r ≡ t)
 of_moved_reg b c t (Reg r) e = (r, refl, cc)
-of_moved_reg b c t (Place' k a) e = absurd (cc)
+of_moved_reg b c t (Scope' k a) e = absurd (cc)
 
-module _ {d : Design} {m n : Module} {s : Place} (j : IsJoined d m s n) (h : IsPlaced d m) (g : IsPlaced d j.inner) where
+module _ {d : Design} {m n : Module} {s : Scope} (j : IsJoined d m s n) (h : IsPlaced d m) (g : IsPlaced d j.inner) where
   nets : length n.nets ≡ length m.nets + length j.inner.nets
   nets = omega (arith, ap length j.nets, length-append m.nets (map bare_net j.inner.nets), length-map j.inner.nets bare_net)
 
@@ -95,7 +95,7 @@ module _ {d : Design} {m n : Module} {s : Place} (j : IsJoined d m s n) (h : IsP
   each_assign :
       (P : Assign → Type 0)
       → ((k : ℕ) (a : Assign) → slice_get m.assigns k ≡ Some a → P a)
-      → ((k : ℕ) (a : Assign) → slice_get j.inner.assigns k ≡ Some a → P (moved_assign (length m.nets) (length m.mems) a))
+      → ((k : ℕ) (a : Assign) → slice_get j.inner.assigns k ≡ Some a → P (relocated_assign (length m.nets) (length m.mems) a))
       → ((i : ℕ) (p : Port) (o : ℕ) → slice_get j.inner.ports i ≡ Some p
       → slice_get j.part.nets i ≡ Some o → P (assign_made o (Plain (length m.nets + p.net)))
       × P (assign_made (length m.nets + p.net) (Plain o)))
@@ -122,7 +122,7 @@ module _ {d : Design} {m n : Module} {s : Place} (j : IsJoined d m s n) (h : IsP
       (λ k a at. (let f = h.standing.ranged.assigns k a at in record { target = omega (arith, f.target, nets); expr = formed_wider m n (omega (arith, nets)) (omega (arith, mems)) a.expr f.expr }))
       (λ k a at. (let f = g.standing.ranged.assigns k a at in record {
         target = omega (arith, f.target, nets);
-        expr = formed_moved (length m.nets) (length m.mems) j.inner n (omega (arith, nets)) (omega (arith, mems)) a.expr f.expr;
+        expr = formed_relocated (length m.nets) (length m.mems) j.inner n (omega (arith, nets)) (omega (arith, mems)) a.expr f.expr;
       }))
       (λ i p o at joins. (let lt = net_of i o joins in let less =
       (g.ports i p at).net in let x : o < length n.nets = omega (
@@ -140,13 +140,13 @@ module _ {d : Design} {m n : Module} {s : Place} (j : IsJoined d m s n) (h : IsP
       each_assign (λ a. IsTyped n (width_of n a.target) a.expr)
       (λ k a at. (let f = h.standing.ranged.assigns k a at in
       subst (λ (x : Assign). IsTyped n (width_of n x.target) x.expr) (assign_same a)
-      (subst (λ (w : ℕ). IsTyped n w (moved_expr 0 0 a.expr))
+      (subst (λ (w : ℕ). IsTyped n w (relocated_expr 0 0 a.expr))
       (sym ((sits_outer j).widths a.target f.target))
-      (typed_moved 0 0 m n (sits_outer j) (width_of m a.target) a.expr f.expr
+      (typed_relocated 0 0 m n (sits_outer j) (width_of m a.target) a.expr f.expr
       (h.typed k a at)))))
       (λ k a at. (let f = g.standing.ranged.assigns k a at in
-      subst (λ (w : ℕ). IsTyped n w (moved_expr (length m.nets) (length m.mems) a.expr))
-      (sym (inner_sits.widths a.target f.target)) (typed_moved (length m.nets)
+      subst (λ (w : ℕ). IsTyped n w (relocated_expr (length m.nets) (length m.mems) a.expr))
+      (sym (inner_sits.widths a.target f.target)) (typed_relocated (length m.nets)
       (length m.mems) j.inner n inner_sits (width_of j.inner a.target) a.expr f.expr
       (g.typed k a at))))
       (λ i p o at joins. (let e : width_of n (length m.nets + p.net) ≡ width_of n o = inner_sits.widths p.net ((g.ports i p at).net) ∙ h.joined (length j.rest) i (record {
@@ -164,19 +164,21 @@ module _ {d : Design} {m n : Module} {s : Place} (j : IsJoined d m s n) (h : IsP
   each_update :
       (P : Update → Type 0)
       → ((k : ℕ) (u : Update) → slice_get m.updates k ≡ Some u → P u)
-      → ((k : ℕ) (u : Update) → slice_get j.inner.updates k ≡ Some u → P (moved_update (length m.nets) (length m.mems) u))
+      → ((k : ℕ) (u : Update) → slice_get j.inner.updates k ≡ Some u → P (relocated_update (length m.nets) (length m.mems) u))
       → (k : ℕ) (u : Update) → slice_get n.updates k ≡ Some u → P u
-  each_update P outer inner k u at = by_side (side_of m.updates (map (moved_update (length m.nets) (length m.mems)) j.inner.updates) k u (sym (ap (λ (l : List Update). slice_get l k) j.updates) ∙ at))
+  each_update P outer inner k u at = by_side (side_of m.updates
+      (map (relocated_update (length m.nets) (length m.mems)) j.inner.updates) k u
+      (sym (ap (λ (l : List Update). slice_get l k) j.updates) ∙ at))
     where
-      by_side : Side m.updates (map (moved_update (length m.nets) (length m.mems)) j.inner.updates) k u → P u
+      by_side : Side m.updates (map (relocated_update (length m.nets) (length m.mems)) j.inner.updates) k u → P u
       by_side (left lt e) = outer k u e
-      by_side (right i place e) = let q = of_map (moved_update (length m.nets) (length m.mems)) j.inner.updates i u e in subst P q.2 (inner i q.0 q.1)
+      by_side (right i place e) = let q = of_map (relocated_update (length m.nets) (length m.mems)) j.inner.updates i u e in subst P q.2 (inner i q.0 q.1)
 
   updates_formed : (k : ℕ) (u : Update) → slice_get n.updates k ≡ Some u → IsFormedUpdate n u
   updates_formed =
       each_update (IsFormedUpdate n)
-      (λ k u at. subst (IsFormedUpdate n) (update_same u) (update_moved 0 0 m n (omega (arith, nets)) (omega (arith, mems)) u (h.standing.ranged.updates k u at)))
-      (λ k u at. update_moved (length m.nets) (length m.mems) j.inner n (omega (arith, nets)) (omega (arith, mems)) u (g.standing.ranged.updates k u at))
+      (λ k u at. subst (IsFormedUpdate n) (update_same u) (update_relocated 0 0 m n (omega (arith, nets)) (omega (arith, mems)) u (h.standing.ranged.updates k u at)))
+      (λ k u at. update_relocated (length m.nets) (length m.mems) j.inner n (omega (arith, nets)) (omega (arith, mems)) u (g.standing.ranged.updates k u at))
 
   updates_typed : (k : ℕ) (u : Update) → slice_get n.updates k ≡ Some u → IsUpdateTyped n u
   updates_typed =
@@ -197,7 +199,7 @@ module _ {d : Design} {m n : Module} {s : Place} (j : IsJoined d m s n) (h : IsP
       low : t < length m.nets → (k : ℕ) × (u : Update) × (slice_get n.updates k ≡ Some u) × (u.target ≡ Reg t)
       low lt =
           let q = h.updated t (sym (reg_outer j h g t lt) ∙ reg) in
-          (q.0, q.1, ap (λ (l : List Update). slice_get l q.0) j.updates ∙ some_left m.updates (map (moved_update (length m.nets) (length m.mems)) j.inner.updates) q.0 q.1 q.2, q.3)
+          (q.0, q.1, ap (λ (l : List Update). slice_get l q.0) j.updates ∙ some_left m.updates (map (relocated_update (length m.nets) (length m.mems)) j.inner.updates) q.0 q.1 q.2, q.3)
 
       high : length m.nets ≤ t → (k : ℕ) × (u : Update) × (slice_get n.updates k ≡ Some u) × (u.target ≡ Reg t)
       high ge =
@@ -205,26 +207,26 @@ module _ {d : Design} {m n : Module} {s : Place} (j : IsJoined d m s n) (h : IsP
           let lt : t - length m.nets < length j.inner.nets = omega (arith, kept_in n t reg, nets, ge) in
           let q = g.updated (t - length m.nets) (sym (inner_sits.regs (t - length m.nets) lt) ∙ ap (is_reg n) e ∙ reg) in (
             length m.updates + q.0,
-            moved_update (length m.nets) (length m.mems) q.1,
+            relocated_update (length m.nets) (length m.mems) q.1,
             ap (λ (l : List Update). slice_get l
                 (length m.updates + q.0)) j.updates ∙ get_right m.updates
-                (map (moved_update (length m.nets)
+                (map (relocated_update (length m.nets)
                 (length m.mems)) j.inner.updates) q.0 ∙ to_map
-                (moved_update (length m.nets) (length m.mems)) j.inner.updates q.0 q.1 q.2,
-            ap (moved_target (length m.nets) (length m.mems)) q.3 ∙ ap Reg e,
+                (relocated_update (length m.nets) (length m.mems)) j.inner.updates q.0 q.1 q.2,
+            ap (relocated_target (length m.nets) (length m.mems)) q.3 ∙ ap Reg e,
           )
 
   -- a property of the instances of n
   each_instance :
       (P : Instance → Type 0)
       → ((k : ℕ) (i : Instance) → slice_get m.instances k ≡ Some i → P i)
-      → ((k : ℕ) (i : Instance) → slice_get j.inner.instances k ≡ Some i → P (moved_instance (length m.nets) i))
+      → ((k : ℕ) (i : Instance) → slice_get j.inner.instances k ≡ Some i → P (relocated_instance (length m.nets) i))
       → (k : ℕ) (i : Instance) → slice_get n.instances k ≡ Some i → P i
-  each_instance P outer inner k i at = by_side (side_of j.rest (map (moved_instance (length m.nets)) j.inner.instances) k i (sym (ap (λ (l : List Instance). slice_get l k) j.instances) ∙ at))
+  each_instance P outer inner k i at = by_side (side_of j.rest (map (relocated_instance (length m.nets)) j.inner.instances) k i (sym (ap (λ (l : List Instance). slice_get l k) j.instances) ∙ at))
     where
-      by_side : Side j.rest (map (moved_instance (length m.nets)) j.inner.instances) k i → P i
+      by_side : Side j.rest (map (relocated_instance (length m.nets)) j.inner.instances) k i → P i
       by_side (left lt e) = outer k i (sym (inst_other j k lt) ∙ at)
-      by_side (right l place e) = let q = of_map (moved_instance (length m.nets)) j.inner.instances l i e in subst P q.2 (inner l q.0 q.1)
+      by_side (right l place e) = let q = of_map (relocated_instance (length m.nets)) j.inner.instances l i e in subst P q.2 (inner l q.0 q.1)
 
   standing : Standing d n
   standing =

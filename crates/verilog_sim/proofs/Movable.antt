@@ -9,7 +9,7 @@ use Rattle.rtl_ir.specs.declared.design.Expr.{Expr}
 use Rattle.rtl_ir.specs.declared.design.Expr.TheVariants.{Net as Plain, Literal, Not, Binary, Concat, Repeat, Part, Choose, Cell}
 use Rattle.rtl_ir.specs.Operands.{target_net, target_mem}
 use Rattle.rtl_ir.specs.Formed.{IsFormedExpr, IsFormedAssign, IsFormedUpdate}
-use Rattle.verilog_sim.specs.Moved.{IsExprMovable, IsAssignMovable, IsTargetMovable, IsUpdateMovable}
+use Rattle.verilog_sim.specs.Relocation.{IsExprMovable, IsAssignMovable, IsTargetMovable, IsUpdateMovable}
 
 module _ (b c : ℕ) (m : Module) (nets : b + length m.nets < 2 ^ 32) (mems : c + length m.mems < 2 ^ 32) where
   expr_movable : (e : Expr) → IsFormedExpr m e → IsExprMovable b c e

@@ -8,9 +8,9 @@ use Rattle.std.proofs.lemmas.List.{get_or-take, get_or-drop, get_or_past, length
 use Rattle.rtl_ir.specs.declared.design.Module.{Module}
 use Rattle.rtl_ir.specs.Value.{Contents}
 use Rattle.rtl_ir.specs.Flat.{Path, AllContents}
-use Rattle.verilog_sim.specs.declared.place.Place.{Place}
+use Rattle.verilog_sim.specs.declared.scope.Scope.{Scope}
 use Rattle.verilog_sim.specs.Contents.{contents_of}
-use Rattle.verilog_sim.specs.Parts.{cut_contents, no_contents, within_part, contents_before, contents_first, alone_contents, contents_by_path}
+use Rattle.verilog_sim.specs.ByPath.{cut_contents, no_contents, within_part, contents_before, contents_first, alone_contents, contents_by_path}
 use Rattle.verilog_sim.specs.State.{PartContents, is_path, held_at}
 use Rattle.verilog_sim.specs.PartLists.{cut_list, path_before, split_at, parts_before, parts_first, top_at, tops_at, parts_of}
 
@@ -102,7 +102,7 @@ module _ (last : ℕ) where
 chosen : (b d : Bool) (c x y : Contents) → b ≡ d → x ≡ y → cond b c x ≡ cond d c y
 chosen b d c x y e f = ap (λ t. cond t c x) e ∙ ap (cond d c) f
 
-module _ (s : Place) where
+module _ (s : Scope) where
   abbrev front_cut : Contents → Contents
   front_cut = cut_contents 0 s.first_net 0 s.first_mem
 
@@ -204,7 +204,7 @@ module _ (s : Place) where
 abbrev by_path : List PartContents → AllContents
 by_path xs = λ p. held_at xs p
 
-first_at : (ss : List Place) (xs : List PartContents) → by_path (parts_first ss xs) ≡ contents_first ss (by_path xs)
+first_at : (ss : List Scope) (xs : List PartContents) → by_path (parts_first ss xs) ≡ contents_first ss (by_path xs)
 first_at [] xs = refl
 first_at (s ∷ ss) xs = fun_ext (before_at s (parts_first ss xs)) ∙ ap (contents_before s) (first_at ss xs)
 
@@ -242,7 +242,7 @@ module _ (nets mems : ℕ) where
   tops_say xs (k ∷ q) = inner_is k q xs ∙ ap (λ i. held_at xs (i ∷ q)) (let e : k ≡ 0 + k = omega arith in e)
 
 -- the parts of a design say what its flat module says of them
-pub parts_say : (m : Option Module) (ss : List Place) (held : List ℕ) (memories : List (List ℕ))
+pub parts_say : (m : Option Module) (ss : List Scope) (held : List ℕ) (memories : List (List ℕ))
     → by_path (parts_of m ss held memories) ≡ contents_by_path m ss (contents_of held memories)
 parts_say None ss held memories = refl
 parts_say (Some m) ss held memories =

@@ -13,13 +13,13 @@ use Rattle.rtl_ir.specs.declared.design.Expr.TheVariants.{Net as Plain}
 use Rattle.rtl_ir.specs.Value.{Family, Contents, value, width_of}
 use Rattle.rtl_ir.specs.Edge.{Fits}
 use Rattle.rtl_ir.specs.Flat.{Path, AllContents, Families, Joined, FitsFlat, below, module_at, after_part, after_flat}
-use Rattle.rtl_ir.specs.Parts.{ByParts}
+use Rattle.rtl_ir.specs.ByPath.{ByParts}
 use Rattle.rtl_ir.proofs.Parts.{apart, together}
 use Rattle.rtl_ir.proofs.Ports.{joined_at, joined_of, assigned_at}
-use Rattle.verilog_sim.specs.Moved.{moved_assign, moved_instance, join_of, joins_of}
-use Rattle.verilog_sim.specs.declared.place.Place.{Place}
+use Rattle.verilog_sim.specs.Relocation.{relocated_assign, relocated_instance, join_of, joins_of}
+use Rattle.verilog_sim.specs.declared.scope.Scope.{Scope}
 use Rattle.verilog_sim.specs.Flattened.{IsJoined, place_of}
-use Rattle.verilog_sim.specs.Parts.{cut_family, cut_contents, no_family, no_contents, within_part, with_part, families_before, contents_before}
+use Rattle.verilog_sim.specs.ByPath.{cut_family, cut_contents, no_family, no_contents, within_part, with_part, families_before, contents_before}
 use Rattle.verilog_sim.specs.Start.{filled_part, filled}
 use Rattle.verilog_sim.proofs.Cutting.{Sits, Ranged, cut_at, fits_cut}
 use Rattle.verilog_sim.proofs.CutEdges.{edge_cut, filled_cut}
@@ -33,11 +33,11 @@ pub record Standing (d : Design) (m : Module) : Type 0 where
 
 module _ (d : Design) (b c last : ℕ) (inner n : Module) (s : Sits b c inner n)
     (st : Standing d inner) (inst : (k : ℕ)
-    → slice_get n.instances (last + k) ≡ option_map (moved_instance b)
+    → slice_get n.instances (last + k) ≡ option_map (relocated_instance b)
     (slice_get inner.instances k)) where
   same_module : (o : Option Instance)
       → option_and_then (λ (i : Instance). slice_get d.modules i.«module»)
-      (option_map (moved_instance b) o) ≡ option_and_then
+      (option_map (relocated_instance b) o) ≡ option_and_then
       (λ (i : Instance). slice_get d.modules i.«module») o
   same_module None = refl
   same_module (Some i) = refl
@@ -63,7 +63,7 @@ module _ (d : Design) (b c last : ℕ) (inner n : Module) (s : Sits b c inner n)
           → slice_get d.modules i.«module» ≡ Some y
           → Joined (cut_family b (length inner.nets) (v [])) (v ((last + k) ∷ [])) y.ports i.nets × FitsFlat d y (below (last + k) x) (below (last + k) v)
       parts k i y at is =
-          let g = h.parts (last + k) (moved_instance b i) y (inst k ∙ ap (option_map (moved_instance b)) at) is in (
+          let g = h.parts (last + k) (relocated_instance b i) y (inst k ∙ ap (option_map (relocated_instance b)) at) is in (
             joined_of (cut_family b (length inner.nets) (v [])) (v ((last + k) ∷ [])) y.ports i.nets (st.sizes k i y at is)
                 (λ j p o e f. joined_at (v []) (v ((last + k)
                 ∷ [])) y.ports (map (λ t. b + t) i.nets) j p (b + o) g.0 e
@@ -122,17 +122,17 @@ PartFits d m rest inner x v k i y =
     Joined (cut_family 0 (length m.nets) (v [])) (families_before (place_of (length rest) m inner) v (k ∷ [])) y.ports i.nets
     × FitsFlat d y (below k (contents_before (place_of (length rest) m inner) x)) (below k (families_before (place_of (length rest) m inner) v))
 
-module _ {d : Design} {m n : Module} {s : Place} (j : IsJoined d m s n) where
-  pub inst_inner : (k : ℕ) → slice_get n.instances (length j.rest + k) ≡ option_map (moved_instance (length m.nets)) (slice_get j.inner.instances k)
+module _ {d : Design} {m n : Module} {s : Scope} (j : IsJoined d m s n) where
+  pub inst_inner : (k : ℕ) → slice_get n.instances (length j.rest + k) ≡ option_map (relocated_instance (length m.nets)) (slice_get j.inner.instances k)
   inst_inner k =
       ap (λ (l : List Instance). slice_get l (length j.rest + k)) j.instances
-      ∙ get_right j.rest (map (moved_instance (length m.nets)) j.inner.instances) k
-      ∙ slice_get-map (moved_instance (length m.nets)) j.inner.instances k
+      ∙ get_right j.rest (map (relocated_instance (length m.nets)) j.inner.instances) k
+      ∙ slice_get-map (relocated_instance (length m.nets)) j.inner.instances k
 
   pub inst_other : (k : ℕ) → k < length j.rest → slice_get n.instances k ≡ slice_get m.instances k
   inst_other k lt =
       ap (λ (l : List Instance). slice_get l k) j.instances
-      ∙ get_left j.rest (map (moved_instance (length m.nets)) j.inner.instances) k lt
+      ∙ get_left j.rest (map (relocated_instance (length m.nets)) j.inner.instances) k lt
       ∙ sym (get_left j.rest (j.part ∷ []) k lt)
       ∙ sym (ap (λ (l : List Instance). slice_get l k) j.was)
 
@@ -154,14 +154,14 @@ module _ {d : Design} {m n : Module} {s : Place} (j : IsJoined d m s n) where
       (length m.nets) j.inner.ports j.part.nets i p o e g))
     where
       own : List Assign
-      own = m.assigns ++ map (moved_assign (length m.nets) (length m.mems)) j.inner.assigns
+      own = m.assigns ++ map (relocated_assign (length m.nets) (length m.mems)) j.inner.assigns
 
       by_output : (t : Bool) → Says n x v (cond t (assign_made o (Plain (length m.nets + p.net))) (assign_made (length m.nets + p.net) (Plain o))) → v (length m.nets + p.net) ≡ v o
       by_output true h = sym h
       by_output false h = h
 
 -- what a module with one more part says of the module with the instance
-module _ {d : Design} {m n : Module} {s : Place} (j : IsJoined d m s n) (a : Standing d m)
+module _ {d : Design} {m n : Module} {s : Scope} (j : IsJoined d m s n) (a : Standing d m)
     (b : Standing d j.inner) (ports : (i : ℕ) (p : Port) → slice_get j.inner.ports i ≡ Some p
     → p.net < length j.inner.nets) where
   sits : Sits (length m.nets) (length m.mems) j.inner n
@@ -233,7 +233,7 @@ module _ {d : Design} {m n : Module} {s : Place} (j : IsJoined d m s n) (a : Sta
           (subst (λ (t : Module). PartFits d m j.rest j.inner x v (length j.rest) j.part t) g last))
 
   pub fits_before : (x : AllContents) (v : Families) → FitsFlat d n x v → FitsFlat d m (contents_before s x) (families_before s v)
-  fits_before x v f = subst (λ (t : Place). FitsFlat d m (contents_before t x) (families_before t v)) (sym j.place) (fits_at x v f)
+  fits_before x v f = subst (λ (t : Scope). FitsFlat d m (contents_before t x) (families_before t v)) (sym j.place) (fits_at x v f)
 
   abbrev before_x : AllContents → AllContents
   before_x = contents_before (place_of (length j.rest) m j.inner)
@@ -296,7 +296,7 @@ module _ {d : Design} {m n : Module} {s : Place} (j : IsJoined d m s n) (a : Sta
       by_order (same e) = subst (λ (t : ℕ). before_x (after_flat d n x v) (t ∷ p) ≡ after_flat d m (before_x x) (before_v v) (t ∷ p)) (sym e) last
 
   pub after_before : (x : AllContents) (v : Families) → contents_before s (after_flat d n x v) ≡ after_flat d m (contents_before s x) (families_before s v)
-  after_before x v = subst (λ (t : Place). contents_before t (after_flat d n x v) ≡ after_flat d m (contents_before t x) (families_before t v)) (sym j.place) (fun_ext (after_at x v))
+  after_before x v = subst (λ (t : Scope). contents_before t (after_flat d n x v) ≡ after_flat d m (contents_before t x) (families_before t v)) (sym j.place) (fun_ext (after_at x v))
 
   filled_at : (fill : ℕ) (p : Path) → before_x (filled d n fill) p ≡ filled d m fill p
   filled_at fill [] = filled_cut 0 0 m n (sits_outer j) fill
@@ -314,4 +314,4 @@ module _ {d : Design} {m n : Module} {s : Place} (j : IsJoined d m s n) (a : Sta
       by_order (same e) = subst (λ (t : ℕ). before_x (filled d n fill) (t ∷ p) ≡ filled d m fill (t ∷ p)) (sym e) last
 
   pub filled_before : (fill : ℕ) → contents_before s (filled d n fill) ≡ filled d m fill
-  filled_before fill = subst (λ (t : Place). contents_before t (filled d n fill) ≡ filled d m fill) (sym j.place) (fun_ext (filled_at fill))
+  filled_before fill = subst (λ (t : Scope). contents_before t (filled d n fill) ≡ filled d m fill) (sym j.place) (fun_ext (filled_at fill))

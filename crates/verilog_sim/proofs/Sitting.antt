@@ -16,7 +16,7 @@ use Rattle.rtl_ir.specs.declared.design.Expr.TheVariants.{Net as Plain, Literal,
 use Rattle.rtl_ir.specs.Value.{net_width, net_kept, mem_depth}
 use Rattle.rtl_ir.specs.Operands.{target_net, target_mem}
 use Rattle.rtl_ir.specs.Typed.{mem_width}
-use Rattle.verilog_sim.specs.Moved.{bare_net, bare_mem, moved_expr, moved_assign, moved_target, moved_update, joins_of}
+use Rattle.verilog_sim.specs.Relocation.{bare_net, bare_mem, relocated_expr, relocated_assign, relocated_target, relocated_update, joins_of}
 use Rattle.verilog_sim.specs.Flattened.{IsCopied, IsJoined}
 use Rattle.verilog_sim.proofs.Cutting.{IsOutside, AreOutside, Sits, Ranged}
 
@@ -64,7 +64,7 @@ append_nil (x ∷ xs) = ap (λ l. x ∷ l) (append_nil xs)
 pub none : (n : ℕ) → 0 + n ≡ n
 none n = omega arith
 
-pub expr_same : (e : Expr) → moved_expr 0 0 e ≡ e
+pub expr_same : (e : Expr) → relocated_expr 0 0 e ≡ e
 expr_same (Plain n) = ap Plain (none n)
 expr_same (Literal x) = refl
 expr_same (Not n) = ap Not (none n)
@@ -78,18 +78,18 @@ expr_same (Cell k n) = ap (λ i. Cell i (0 + n)) (none k) ∙ ap (Cell k) (none 
 abbrev pub assign_made : ℕ → Expr → Assign
 assign_made t e = record { target = t; expr = e }
 
-pub assign_same : (a : Assign) → moved_assign 0 0 a ≡ a
-assign_same a = ap (λ t. assign_made t (moved_expr 0 0 a.expr)) (none a.target) ∙ ap (assign_made a.target) (expr_same a.expr)
+pub assign_same : (a : Assign) → relocated_assign 0 0 a ≡ a
+assign_same a = ap (λ t. assign_made t (relocated_expr 0 0 a.expr)) (none a.target) ∙ ap (assign_made a.target) (expr_same a.expr)
 
-target_same : (t : Target) → moved_target 0 0 t ≡ t
+target_same : (t : Target) → relocated_target 0 0 t ≡ t
 target_same (Reg n) = ap Reg (none n)
 target_same (Place k a) = ap (λ i. Place i (0 + a)) (none k) ∙ ap (Place k) (none a)
 
 abbrev update_made : ℕ → Target → ℕ → Update
 update_made e t x = record { enable = e; target = t; value = x }
 
-pub update_same : (u : Update) → moved_update 0 0 u ≡ u
-update_same u = ap (λ i. update_made i (moved_target 0 0 u.target) (0 + u.value))
+pub update_same : (u : Update) → relocated_update 0 0 u ≡ u
+update_same u = ap (λ i. update_made i (relocated_target 0 0 u.target) (0 + u.value))
     (none u.enable) ∙ ap (λ t. update_made u.enable t (0 + u.value)) (target_same u.target) ∙ ap
     (update_made u.enable u.target) (none u.value)
 
@@ -123,12 +123,12 @@ outside_below m r nets mems j u at = by_target u.target (r.updates j u at).net (
     by_target (Reg r) net mem = λ k lt e. omega (arith, net, e)
     by_target (Place i a) net mem = λ k lt e. omega (arith, mem i refl, e)
 
-outside_above : (b c : ℕ) (us : List Update) → AreOutside 0 b 0 c (map (moved_update b c) us)
+outside_above : (b c : ℕ) (us : List Update) → AreOutside 0 b 0 c (map (relocated_update b c) us)
 outside_above b c us j w at =
-    let q = of_map (moved_update b c) us j w at in
+    let q = of_map (relocated_update b c) us j w at in
     subst (λ (u : Update). IsOutside 0 b 0 c u.target) q.2 (by_target q.0.target)
   where
-    by_target : (t : Target) → IsOutside 0 b 0 c (moved_target b c t)
+    by_target : (t : Target) → IsOutside 0 b 0 c (relocated_target b c t)
     by_target (Reg r) = λ k lt e. omega (arith, lt, e)
     by_target (Place i a) = λ k lt e. omega (arith, lt, e)
 
@@ -145,19 +145,19 @@ sits_inner {m = m} {n = n} j r =
         ap (λ (l : List Assign). slice_get l (length m.assigns + k)) j.assigns
             ∙ some_left (m.assigns ++ moved) (joins_of
             (length m.nets) j.inner.ports j.part.nets) (length m.assigns + k)
-            (moved_assign (length m.nets) (length m.mems) a)
-            (get_right m.assigns moved k ∙ to_map (moved_assign (length m.nets)
+            (relocated_assign (length m.nets) (length m.mems) a)
+            (get_right m.assigns moved k ∙ to_map (relocated_assign (length m.nets)
             (length m.mems)) j.inner.assigns k a at),
       );
       before = m.updates;
       behind = [];
-      updates = j.updates ∙ ap (λ l. m.updates ++ l) (sym (append_nil (map (moved_update (length m.nets) (length m.mems)) j.inner.updates)));
+      updates = j.updates ∙ ap (λ l. m.updates ++ l) (sym (append_nil (map (relocated_update (length m.nets) (length m.mems)) j.inner.updates)));
       apart = outside_below m r (length j.inner.nets) (length j.inner.mems);
       apart_behind = λ k u at. absurd (cc);
     }
   where
     moved : List Assign
-    moved = map (moved_assign (length m.nets) (length m.mems)) j.inner.assigns
+    moved = map (relocated_assign (length m.nets) (length m.mems)) j.inner.assigns
 
 -- the module that had the instance
 pub sits_outer : {d : Design} {m n : Module} {s : _} (j : IsJoined d m s n) → Sits 0 0 m n
@@ -171,19 +171,19 @@ sits_outer {m = m} {n = n} j =
         k,
         ap (λ (l : List Assign). slice_get l k) j.assigns
             ∙ some_left (m.assigns ++ moved) (joins_of
-            (length m.nets) j.inner.ports j.part.nets) k (moved_assign 0 0 a)
-            (some_left m.assigns moved k (moved_assign 0 0 a)
+            (length m.nets) j.inner.ports j.part.nets) k (relocated_assign 0 0 a)
+            (some_left m.assigns moved k (relocated_assign 0 0 a)
             (at ∙ ap Some (sym (assign_same a)))),
       );
       before = [];
-      behind = map (moved_update (length m.nets) (length m.mems)) j.inner.updates;
-      updates = j.updates ∙ ap (λ l. l ++ map (moved_update (length m.nets) (length m.mems)) j.inner.updates) (sym (map_same (moved_update 0 0) m.updates update_same));
+      behind = map (relocated_update (length m.nets) (length m.mems)) j.inner.updates;
+      updates = j.updates ∙ ap (λ l. l ++ map (relocated_update (length m.nets) (length m.mems)) j.inner.updates) (sym (map_same (relocated_update 0 0) m.updates update_same));
       apart = λ k u at. absurd (cc);
       apart_behind = outside_above (length m.nets) (length m.mems) j.inner.updates;
     }
   where
     moved : List Assign
-    moved = map (moved_assign (length m.nets) (length m.mems)) j.inner.assigns
+    moved = map (relocated_assign (length m.nets) (length m.mems)) j.inner.assigns
 
     net_at : (k : ℕ) → k < length m.nets → slice_get n.nets (0 + k) ≡ slice_get m.nets k
     net_at k lt = ap (slice_get n.nets) (none k) ∙ ap (λ (l : List Net). slice_get l k) j.nets ∙ get_left m.nets (map bare_net j.inner.nets) k lt
@@ -199,10 +199,10 @@ sits_copied {m = m} {n = n} j =
       regs = λ k lt. ap net_kept (net_right m n [] j.nets k) ∙ kept_bare (slice_get m.nets k);
       depths = λ k lt. ap mem_depth (mem_right m n [] j.mems k) ∙ depth_bare (slice_get m.mems k);
       word_widths = λ k lt. ap mem_width (mem_right m n [] j.mems k) ∙ words_bare (slice_get m.mems k);
-      assigns = λ k a at. (k, ap (λ (l : List Assign). slice_get l k) j.assigns ∙ to_map (moved_assign 0 0) m.assigns k a at);
+      assigns = λ k a at. (k, ap (λ (l : List Assign). slice_get l k) j.assigns ∙ to_map (relocated_assign 0 0) m.assigns k a at);
       before = [];
       behind = [];
-      updates = j.updates ∙ sym (append_nil (map (moved_update 0 0) m.updates));
+      updates = j.updates ∙ sym (append_nil (map (relocated_update 0 0) m.updates));
       apart = λ k u at. absurd (cc);
       apart_behind = λ k u at. absurd (cc);
     }

@@ -24,8 +24,8 @@ use Rattle.verilog_sim.specs.Contents.{contents_of}
 use Rattle.rtl_ir.specs.Value.{Contents}
 use Rattle.rtl_ir.specs.Flat.{top_of}
 use Rattle.rtl_ir.specs.declared.design.Design.{Design}
-use Rattle.verilog_sim.specs.declared.place.Place.{Place}
-use Rattle.verilog_sim.specs.Parts.{contents_by_path}
+use Rattle.verilog_sim.specs.declared.scope.Scope.{Scope}
+use Rattle.verilog_sim.specs.ByPath.{contents_by_path}
 use Rattle.verilog_sim.specs.Flattened.{IsFlat}
 use Rattle.verilog_sim.specs.Start.{held_at_start, words_at_start, IsFilled, filled_part}
 use Rattle.verilog_sim.specs.Start as start
@@ -229,7 +229,7 @@ filled_alone m fill held memories eh em =
 
 -- a simulator holds at first what the whole design holds at first
 pub contents_filled :
-    (d : Design) (h : IsAccepted d) (ps : List Place) (n : Module) (f : IsFlat d ps n) (fill : ℕ) (held : List ℕ) (memories : List (List ℕ))
+    (d : Design) (h : IsAccepted d) (ps : List Scope) (n : Module) (f : IsFlat d ps n) (fill : ℕ) (held : List ℕ) (memories : List (List ℕ))
     → held ≡ map (held_at_start fill) n.nets → memories ≡ map (words_at_start fill) n.mems
     → contents_by_path (top_of d) ps (contents_of held memories) ≡ start.filled d f.top fill
 contents_filled d h ps n f fill held memories eh em =

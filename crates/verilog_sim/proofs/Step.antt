@@ -11,16 +11,16 @@ use Rattle.rtl_ir.specs.declared.design.Expr.{Expr}
 use Rattle.rtl_ir.specs.declared.design.Expr.TheVariants.{Net as Plain, Literal, Not, Binary, Concat, Repeat, Part, Choose, Cell}
 use Rattle.rtl_ir.specs.Value.{Family, value, width_of, depth_of, quotient, repeated}
 use Rattle.rtl_ir.specs.Typed.{IsTyped}
-use Rattle.verilog_sim.specs.declared.line.Step.{Step}
-use Rattle.verilog_sim.specs.declared.line.Step.TheVariants.{Copy, Literal as DoLiteral}
-use Rattle.verilog_sim.specs.declared.line.Step.TheVariants.{Not as DoNot, Add as DoAdd}
-use Rattle.verilog_sim.specs.declared.line.Step.TheVariants.{Sub as DoSub, Mul as DoMul}
-use Rattle.verilog_sim.specs.declared.line.Step.TheVariants.{Div as DoDiv, And as DoAnd, Or as DoOr}
-use Rattle.verilog_sim.specs.declared.line.Step.TheVariants.{Xor as DoXor, Eq as DoEq, Lt as DoLt}
-use Rattle.verilog_sim.specs.declared.line.Step.TheVariants.{Concat as DoConcat, Repeat as DoRepeat}
-use Rattle.verilog_sim.specs.declared.line.Step.TheVariants.{Part as DoPart, Choose as DoChoose}
-use Rattle.verilog_sim.specs.declared.line.Step.TheVariants.{Cell as DoCell}
-use Rattle.verilog_sim.specs.Lines.{step_value, joined, again}
+use Rattle.verilog_sim.specs.declared.instruction.Step.{Step}
+use Rattle.verilog_sim.specs.declared.instruction.Step.TheVariants.{Copy, Literal as DoLiteral}
+use Rattle.verilog_sim.specs.declared.instruction.Step.TheVariants.{Not as DoNot, Add as DoAdd}
+use Rattle.verilog_sim.specs.declared.instruction.Step.TheVariants.{Sub as DoSub, Mul as DoMul}
+use Rattle.verilog_sim.specs.declared.instruction.Step.TheVariants.{Div as DoDiv, And as DoAnd, Or as DoOr}
+use Rattle.verilog_sim.specs.declared.instruction.Step.TheVariants.{Xor as DoXor, Eq as DoEq, Lt as DoLt}
+use Rattle.verilog_sim.specs.declared.instruction.Step.TheVariants.{Concat as DoConcat, Repeat as DoRepeat}
+use Rattle.verilog_sim.specs.declared.instruction.Step.TheVariants.{Part as DoPart, Choose as DoChoose}
+use Rattle.verilog_sim.specs.declared.instruction.Step.TheVariants.{Cell as DoCell}
+use Rattle.verilog_sim.specs.Instructions.{step_value, joined, again}
 use Rattle.verilog_sim.specs.Contents.{contents_of, HasDepths}
 use Rattle.verilog_sim.specs.Compiled.{IsStepOf}
 use Rattle.mx_bits.proofs.Reducing.{low_not, low_difference, joined as joined_is, joined_fits}

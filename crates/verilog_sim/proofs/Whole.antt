@@ -8,9 +8,9 @@ use Rattle.rtl_ir.specs.Value.{Family, Contents}
 use Rattle.rtl_ir.specs.Edge.{Fits, after_edge}
 use Rattle.rtl_ir.specs.Flat.{Path, AllContents, Families, FitsFlat, after_flat}
 use Rattle.rtl_ir.specs.Rules.{IsAccepted}
-use Rattle.verilog_sim.specs.declared.place.Place.{Place}
-use Rattle.verilog_sim.specs.Moved.{bare_net}
-use Rattle.verilog_sim.specs.Parts.{cut_contents, within_part, families_before, contents_before, families_first, contents_first, alone, alone_contents, families_of, contents_by_path}
+use Rattle.verilog_sim.specs.declared.scope.Scope.{Scope}
+use Rattle.verilog_sim.specs.Relocation.{bare_net}
+use Rattle.verilog_sim.specs.ByPath.{cut_contents, within_part, families_before, contents_before, families_first, contents_first, alone, alone_contents, families_of, contents_by_path}
 use Rattle.verilog_sim.specs.Flattened.{IsJoined, Joins, start, join, IsFlat}
 use Rattle.verilog_sim.specs.Start.{filled_part, filled}
 use Rattle.verilog_sim.proofs.Cutting.{cut_at}
@@ -21,23 +21,23 @@ use Rattle.verilog_sim.proofs.JoinRules.{placed_joined}
 use Rattle.verilog_sim.proofs.Copying.{inst_copied, placed_copied}
 use Rattle.verilog_sim.proofs.Alone.{no_part, fits_alone, after_alone}
 
-contents_last : (ss : List Place) (s : Place) (x : AllContents) → contents_first (ss ++ s ∷ []) x ≡ contents_first ss (contents_before s x)
+contents_last : (ss : List Scope) (s : Scope) (x : AllContents) → contents_first (ss ++ s ∷ []) x ≡ contents_first ss (contents_before s x)
 contents_last [] s x = refl
 contents_last (t ∷ ss) s x = ap (contents_before t) (contents_last ss s x)
 
-families_last : (ss : List Place) (s : Place) (v : Families) → families_first (ss ++ s ∷ []) v ≡ families_first ss (families_before s v)
+families_last : (ss : List Scope) (s : Scope) (v : Families) → families_first (ss ++ s ∷ []) v ≡ families_first ss (families_before s v)
 families_last [] s v = refl
 families_last (t ∷ ss) s v = ap (families_before t) (families_last ss s v)
 
 module _ (d : Design) (h : IsAccepted d) where
-  inner_placed : {m n : Module} {s : Place} (j : IsJoined d m s n) → IsPlaced d j.inner
+  inner_placed : {m n : Module} {s : Scope} (j : IsJoined d m s n) → IsPlaced d j.inner
   inner_placed j = placed_of d h j.part.«module» j.inner j.is
 
-  pub placed_joins : {m n : Module} {ss : List Place} → Joins d m ss n → IsPlaced d m → IsPlaced d n
+  pub placed_joins : {m n : Module} {ss : List Scope} → Joins d m ss n → IsPlaced d m → IsPlaced d n
   placed_joins start g = g
   placed_joins (join js j) g = placed_joined j (placed_joins js g) (inner_placed j)
 
-  fits_joins : {m n : Module} {ss : List Place} → Joins d m ss n → IsPlaced d m → (x : AllContents) (v : Families) → FitsFlat d n x v → FitsFlat d m (contents_first ss x) (families_first ss v)
+  fits_joins : {m n : Module} {ss : List Scope} → Joins d m ss n → IsPlaced d m → (x : AllContents) (v : Families) → FitsFlat d n x v → FitsFlat d m (contents_first ss x) (families_first ss v)
   fits_joins start g x v f = f
   fits_joins {m = m} (join {ss = ss} {s = s} js j) g x v f =
       let i = inner_placed j in
@@ -45,7 +45,7 @@ module _ (d : Design) (h : IsAccepted d) where
       (subst (λ (u : Families). FitsFlat d m (contents_first ss (contents_before s x)) u) (sym (families_last ss s v))
       (fits_joins js g (contents_before s x) (families_before s v) (fits_before j (placed_joins js g).standing i.standing (λ k p at. (i.ports k p at).net) x v f)))
 
-  after_joins : {m n : Module} {ss : List Place} → Joins d m ss n → IsPlaced d m
+  after_joins : {m n : Module} {ss : List Scope} → Joins d m ss n → IsPlaced d m
       → (x : AllContents) (v : Families)
       → contents_first ss (after_flat d n x v) ≡ after_flat d m (contents_first ss x)
       (families_first ss v)
@@ -58,7 +58,7 @@ module _ (d : Design) (h : IsAccepted d) where
       ∙ ap (λ u. after_flat d m u (families_first ss (families_before s v))) (sym (contents_last ss s x))
       ∙ ap (λ u. after_flat d m (contents_first (ss ++ s ∷ []) x) u) (sym (families_last ss s v))
 
-  filled_joins : {m n : Module} {ss : List Place} → Joins d m ss n → IsPlaced d m → (fill : ℕ) → contents_first ss (filled d n fill) ≡ filled d m fill
+  filled_joins : {m n : Module} {ss : List Scope} → Joins d m ss n → IsPlaced d m → (fill : ℕ) → contents_first ss (filled d n fill) ≡ filled d m fill
   filled_joins start g fill = refl
   filled_joins {n = n} (join {ss = ss} {s = s} js j) g fill =
       let i = inner_placed j in
@@ -66,20 +66,20 @@ module _ (d : Design) (h : IsAccepted d) where
       ∙ ap (contents_first ss) (filled_before j (placed_joins js g).standing i.standing (λ k p at. (i.ports k p at).net) fill)
       ∙ filled_joins js g fill
 
-  pub nets_joins : {m n : Module} {ss : List Place} → Joins d m ss n → length m.nets ≤ length n.nets
+  pub nets_joins : {m n : Module} {ss : List Scope} → Joins d m ss n → length m.nets ≤ length n.nets
   nets_joins start = omega arith
   nets_joins (join {n = n} js j) = omega (arith, nets_joins js, ap length j.nets, length-append n.nets (map bare_net j.inner.nets))
 
-  own_joins : {m n : Module} {ss : List Place} → Joins d m ss n → (v : Families) (k : ℕ) → k < length m.nets → families_first ss v [] k ≡ v [] k
+  own_joins : {m n : Module} {ss : List Scope} → Joins d m ss n → (v : Families) (k : ℕ) → k < length m.nets → families_first ss v [] k ≡ v [] k
   own_joins start v k lt = refl
   own_joins (join {n = n} {ss = ss} {s = s} js j) v k lt =
-      let first : s.first_net ≡ length n.nets = ap (λ (t : Place). t.first_net) j.place in
+      let first : s.first_net ≡ length n.nets = ap (λ (t : Scope). t.first_net) j.place in
       ap (λ (u : Families). u [] k) (families_last ss s v)
       ∙ own_joins js (families_before s v) k lt
       ∙ cut_at 0 s.first_net (v []) k (omega (arith, lt, first, nets_joins js))
       ∙ ap (v []) (none k)
 
-  module _ {ss : List Place} {n : Module} (f : IsFlat d ss n) where
+  module _ {ss : List Scope} {n : Module} (f : IsFlat d ss n) where
     top_placed : IsPlaced d f.top
     top_placed = placed_of d h (length d.modules - 1) f.top f.is_top
 

@@ -1,4 +1,4 @@
--- The lines of assignments.
+-- The instructions of assignments.
 use Rattle.std.specs.Prelude.{◌≡◌, ◌≤◌, ℕ, true, List, length, Some, slice_get}
 use Rattle.rtl_ir.specs.declared.design.Module.{Module}
 use Rattle.rtl_ir.specs.declared.design.Assign.{Assign}
@@ -8,16 +8,16 @@ use Rattle.rtl_ir.specs.declared.design.Expr.{Expr}
 use Rattle.rtl_ir.specs.declared.design.Expr.TheVariants.{Net as Plain, Literal, Not, Binary, Concat, Repeat, Part, Choose, Cell}
 use Rattle.rtl_ir.specs.Value.{width_of}
 use Rattle.rtl_ir.specs.Operands.{IsRead}
-use Rattle.verilog_sim.specs.declared.line.Step.{Step}
-use Rattle.verilog_sim.specs.declared.line.Step.TheVariants.{Copy, Literal as DoLiteral}
-use Rattle.verilog_sim.specs.declared.line.Step.TheVariants.{Not as DoNot, Add as DoAdd}
-use Rattle.verilog_sim.specs.declared.line.Step.TheVariants.{Sub as DoSub, Mul as DoMul}
-use Rattle.verilog_sim.specs.declared.line.Step.TheVariants.{Div as DoDiv, And as DoAnd, Or as DoOr}
-use Rattle.verilog_sim.specs.declared.line.Step.TheVariants.{Xor as DoXor, Eq as DoEq, Lt as DoLt}
-use Rattle.verilog_sim.specs.declared.line.Step.TheVariants.{Concat as DoConcat, Repeat as DoRepeat}
-use Rattle.verilog_sim.specs.declared.line.Step.TheVariants.{Part as DoPart, Choose as DoChoose}
-use Rattle.verilog_sim.specs.declared.line.Step.TheVariants.{Cell as DoCell}
-use Rattle.verilog_sim.specs.declared.line.Line.{Line}
+use Rattle.verilog_sim.specs.declared.instruction.Step.{Step}
+use Rattle.verilog_sim.specs.declared.instruction.Step.TheVariants.{Copy, Literal as DoLiteral}
+use Rattle.verilog_sim.specs.declared.instruction.Step.TheVariants.{Not as DoNot, Add as DoAdd}
+use Rattle.verilog_sim.specs.declared.instruction.Step.TheVariants.{Sub as DoSub, Mul as DoMul}
+use Rattle.verilog_sim.specs.declared.instruction.Step.TheVariants.{Div as DoDiv, And as DoAnd, Or as DoOr}
+use Rattle.verilog_sim.specs.declared.instruction.Step.TheVariants.{Xor as DoXor, Eq as DoEq, Lt as DoLt}
+use Rattle.verilog_sim.specs.declared.instruction.Step.TheVariants.{Concat as DoConcat, Repeat as DoRepeat}
+use Rattle.verilog_sim.specs.declared.instruction.Step.TheVariants.{Part as DoPart, Choose as DoChoose}
+use Rattle.verilog_sim.specs.declared.instruction.Step.TheVariants.{Cell as DoCell}
+use Rattle.verilog_sim.specs.declared.instruction.Instruction.{Instruction}
 
 -- a step is that of an operator on two nets
 abbrev pub IsBinary : Sign → ℕ → ℕ → Step → Type 0
@@ -50,17 +50,17 @@ pub record IsNarrow (m : Module) (a : Assign) : Type 0 where
   pub target : width_of m a.target ≤ 64
   pub reads : (n : ℕ) → IsRead a.expr n → width_of m n ≤ 64
 
-pub record IsLineOf (m : Module) (a : Assign) (line : Line) : Type 0 where
-  pub target : line.target ≡ a.target
-  pub width : line.width ≡ width_of m a.target
-  pub step : IsStepOf m a.expr line.step
-  pub narrow : line.narrow ≡ true → IsNarrow m a
+pub record IsInstructionOf (m : Module) (a : Assign) (instruction : Instruction) : Type 0 where
+  pub target : instruction.target ≡ a.target
+  pub width : instruction.width ≡ width_of m a.target
+  pub step : IsStepOf m a.expr instruction.step
+  pub narrow : instruction.narrow ≡ true → IsNarrow m a
 
--- the lines of the first so many assignments, in their order
-pub record AreLines (m : Module) (assigns : List Assign) (lines : List Line) (count : ℕ) : Type 0 where
-  pub size : length lines ≡ count
-  pub each : (i : ℕ) (a : Assign) (l : Line) → slice_get assigns i ≡ Some a → slice_get lines i ≡ Some l → IsLineOf m a l
+-- the instructions of the first so many assignments, in their order
+pub record AreInstructions (m : Module) (assigns : List Assign) (instructions : List Instruction) (count : ℕ) : Type 0 where
+  pub size : length instructions ≡ count
+  pub each : (i : ℕ) (a : Assign) (l : Instruction) → slice_get assigns i ≡ Some a → slice_get instructions i ≡ Some l → IsInstructionOf m a l
 
--- the lines of these assignments
-abbrev pub AreLinesOf : Module → List Assign → List Line → Type 0
-AreLinesOf m assigns lines = AreLines m assigns lines (length assigns)
+-- the instructions of these assignments
+abbrev pub AreInstructionsOf : Module → List Assign → List Instruction → Type 0
+AreInstructionsOf m assigns instructions = AreInstructions m assigns instructions (length assigns)

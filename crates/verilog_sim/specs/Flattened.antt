@@ -9,20 +9,20 @@ use Rattle.rtl_ir.specs.Formed.{IsFormedAssign, IsFormedUpdate}
 use Rattle.rtl_ir.specs.declared.design.Instance.{Instance}
 use Rattle.rtl_ir.specs.Flat.{top_of}
 use Rattle.verilog_sim.specs.declared.flatten.Parts.{Parts}
-use Rattle.verilog_sim.specs.declared.place.Place.{Place}
-use Rattle.verilog_sim.specs.Moved.{bare_net, bare_mem, moved_assign, moved_update, moved_instance, joins_of}
+use Rattle.verilog_sim.specs.declared.scope.Scope.{Scope}
+use Rattle.verilog_sim.specs.Relocation.{bare_net, bare_mem, relocated_assign, relocated_update, relocated_instance, joins_of}
 
 -- a module with no names, of which n is to be made
 pub record IsCopied (m n : Module) : Type 0 where
   pub ports : n.ports ≡ m.ports
   pub nets : n.nets ≡ map bare_net m.nets
   pub mems : n.mems ≡ map bare_mem m.mems
-  pub assigns : n.assigns ≡ map (moved_assign 0 0) m.assigns
-  pub updates : n.updates ≡ map (moved_update 0 0) m.updates
-  pub instances : n.instances ≡ map (moved_instance 0) m.instances
+  pub assigns : n.assigns ≡ map (relocated_assign 0 0) m.assigns
+  pub updates : n.updates ≡ map (relocated_update 0 0) m.updates
+  pub instances : n.instances ≡ map (relocated_instance 0) m.instances
 
 -- where a module stands after it became a part of m in place of the instance with this number
-abbrev pub place_of : ℕ → Module → Module → Place
+abbrev pub place_of : ℕ → Module → Module → Scope
 place_of instance m inner = record {
   instance = instance;
   first_net = length m.nets;
@@ -32,7 +32,7 @@ place_of instance m inner = record {
 }
 
 -- the last instance of m, which is of this module, became a part of n
-pub record IsJoined (d : Design) (m : Module) (s : Place) (n : Module) : Type 0 where
+pub record IsJoined (d : Design) (m : Module) (s : Scope) (n : Module) : Type 0 where
   pub rest : List Instance
   pub part : Instance
   pub was : m.instances ≡ rest ++ part ∷ []
@@ -43,18 +43,18 @@ pub record IsJoined (d : Design) (m : Module) (s : Place) (n : Module) : Type 0 
   pub mems : n.mems ≡ m.mems ++ map bare_mem inner.mems
   pub assigns :
       n.assigns
-      ≡ (m.assigns ++ map (moved_assign (length m.nets) (length m.mems)) inner.assigns) ++ joins_of (length m.nets) inner.ports part.nets
-  pub updates : n.updates ≡ m.updates ++ map (moved_update (length m.nets) (length m.mems)) inner.updates
-  pub instances : n.instances ≡ rest ++ map (moved_instance (length m.nets)) inner.instances
+      ≡ (m.assigns ++ map (relocated_assign (length m.nets) (length m.mems)) inner.assigns) ++ joins_of (length m.nets) inner.ports part.nets
+  pub updates : n.updates ≡ m.updates ++ map (relocated_update (length m.nets) (length m.mems)) inner.updates
+  pub instances : n.instances ≡ rest ++ map (relocated_instance (length m.nets)) inner.instances
   pub place : s ≡ place_of (length rest) m inner
 
 -- a module, and what it is after these instances became parts of it
-pub data Joins (d : Design) : Module → List Place → Module → Type 0 where
+pub data Joins (d : Design) : Module → List Scope → Module → Type 0 where
   start : {m : Module} → Joins d m [] m
-  join : {m n o : Module} {ss : List Place} {s : Place} → Joins d m ss n → IsJoined d n s o → Joins d m (ss ++ s ∷ []) o
+  join : {m n o : Module} {ss : List Scope} {s : Scope} → Joins d m ss n → IsJoined d n s o → Joins d m (ss ++ s ∷ []) o
 
 -- the flat module of a design
-pub record IsFlat (d : Design) (ss : List Place) (n : Module) : Type 0 where
+pub record IsFlat (d : Design) (ss : List Scope) (n : Module) : Type 0 where
   pub top : Module
   pub is_top : top_of d ≡ Some top
   pub copy : Module
@@ -72,9 +72,9 @@ pub record IsRanged (m : Module) : Type 0 where
 pub record IsAdded (old new : Parts) (m : Module) : Type 0 where
   pub nets : new.nets.items ≡ old.nets.items ++ map bare_net m.nets
   pub mems : new.mems.items ≡ old.mems.items ++ map bare_mem m.mems
-  pub assigns : new.assigns.items ≡ old.assigns.items ++ map (moved_assign (length old.nets.items) (length old.mems.items)) m.assigns
-  pub updates : new.updates.items ≡ old.updates.items ++ map (moved_update (length old.nets.items) (length old.mems.items)) m.updates
-  pub instances : new.instances.items ≡ old.instances.items ++ map (moved_instance (length old.nets.items)) m.instances
+  pub assigns : new.assigns.items ≡ old.assigns.items ++ map (relocated_assign (length old.nets.items) (length old.mems.items)) m.assigns
+  pub updates : new.updates.items ≡ old.updates.items ++ map (relocated_update (length old.nets.items) (length old.mems.items)) m.updates
+  pub instances : new.instances.items ≡ old.instances.items ++ map (relocated_instance (length old.nets.items)) m.instances
 
 -- the same with the ports of the module joined to these nets
 pub record IsAddedJoined (old new : Parts) (m : Module) (nets : List ℕ) : Type 0 where
@@ -82,10 +82,10 @@ pub record IsAddedJoined (old new : Parts) (m : Module) (nets : List ℕ) : Type
   pub mems : new.mems.items ≡ old.mems.items ++ map bare_mem m.mems
   pub assigns :
       new.assigns.items
-      ≡ (old.assigns.items ++ map (moved_assign (length old.nets.items) (length old.mems.items)) m.assigns)
+      ≡ (old.assigns.items ++ map (relocated_assign (length old.nets.items) (length old.mems.items)) m.assigns)
       ++ joins_of (length old.nets.items) m.ports nets
-  pub updates : new.updates.items ≡ old.updates.items ++ map (moved_update (length old.nets.items) (length old.mems.items)) m.updates
-  pub instances : new.instances.items ≡ old.instances.items ++ map (moved_instance (length old.nets.items)) m.instances
+  pub updates : new.updates.items ≡ old.updates.items ++ map (relocated_update (length old.nets.items) (length old.mems.items)) m.updates
+  pub instances : new.instances.items ≡ old.instances.items ++ map (relocated_instance (length old.nets.items)) m.instances
 
 -- the module of these lists
 abbrev pub module_of : List Port → Parts → Module
@@ -100,7 +100,7 @@ module_of ports p = record {
 }
 
 -- the lists so far are those of the top module, of which these instances became parts
-pub record AreFlattened (d : Design) (top : Module) (parts : Parts) (ss : List Place) : Type 0 where
+pub record AreFlattened (d : Design) (top : Module) (parts : Parts) (ss : List Scope) : Type 0 where
   pub copy : Module
   pub copied : IsCopied top copy
   pub joins : Joins d copy ss (module_of top.ports parts)

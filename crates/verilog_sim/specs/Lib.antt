@@ -1,4 +1,4 @@
-pub mod Lines
+pub mod Instructions
 pub mod Compiled
 pub mod Batches
 pub mod Halves
@@ -13,8 +13,8 @@ pub mod State
 pub mod Calls
 pub mod Simulates
 pub mod Start
-pub mod Moved
-pub mod Parts
+pub mod Relocation
+pub mod ByPath
 pub mod PartLists
 pub mod Flattened
 pub mod Gifts

@@ -2,7 +2,7 @@
 use Rattle.std.specs.Prelude.{ℕ, ◌-◌, List, [], ◌∷◌, ◌++◌, length, take, drop, Option, Some, None, if◌then◌else◌, nat_lt}
 use Rattle.rtl_ir.specs.declared.design.Module.{Module}
 use Rattle.rtl_ir.specs.Flat.{Path}
-use Rattle.verilog_sim.specs.declared.place.Place.{Place}
+use Rattle.verilog_sim.specs.declared.scope.Scope.{Scope}
 use Rattle.verilog_sim.specs.State.{PartContents}
 
 -- so many items from a first one on
@@ -23,7 +23,7 @@ abbrev pub path_before : ℕ → ℕ → Path → Path
 path_before last k p = if nat_lt k last then k ∷ p else last ∷ (k - last) ∷ p
 
 -- the part at a path, before an instance became a part of the module: of the module itself the two that it then was
-abbrev pub split_at : Place → Path → List ℕ → List (List ℕ) → List PartContents
+abbrev pub split_at : Scope → Path → List ℕ → List (List ℕ) → List PartContents
 split_at s [] regs cells =
     cut_part [] 0 s.first_net 0 s.first_mem regs cells
     ∷ cut_part (s.instance ∷ []) s.first_net s.nets s.first_mem s.mems regs cells
@@ -31,12 +31,12 @@ split_at s [] regs cells =
 split_at s (k ∷ p) regs cells = record { path = path_before s.instance k p; regs = regs; cells = cells } ∷ []
 
 -- the same of all parts
-abbrev pub parts_before : Place → List PartContents → List PartContents
+abbrev pub parts_before : Scope → List PartContents → List PartContents
 parts_before s [] = []
 parts_before s (x ∷ xs) = split_at s x.path x.regs x.cells ++ parts_before s xs
 
 -- the parts before all these instances became parts of the module, the first one first
-abbrev pub parts_first : List Place → List PartContents → List PartContents
+abbrev pub parts_first : List Scope → List PartContents → List PartContents
 parts_first [] xs = xs
 parts_first (s ∷ ss) xs = parts_before s (parts_first ss xs)
 
@@ -50,7 +50,7 @@ tops_at nets mems [] = []
 tops_at nets mems (x ∷ xs) = top_at nets mems x.path x.regs x.cells ∷ tops_at nets mems xs
 
 -- the parts of a design with this top module, whose flat module holds these words
-abbrev pub parts_of : Option Module → List Place → List ℕ → List (List ℕ) → List PartContents
+abbrev pub parts_of : Option Module → List Scope → List ℕ → List (List ℕ) → List PartContents
 parts_of None ss held memories = []
 parts_of (Some m) ss held memories =
     tops_at (length m.nets) (length m.mems) (parts_first ss (record { path = []; regs = held; cells = memories } ∷ []))

@@ -17,8 +17,8 @@ use Rattle.rtl_ir.specs.Run.{Outer, Channel}
 use Rattle.verilog_sim.specs.declared.offer.Offer.{Offer}
 use Rattle.verilog_sim.specs.declared.compile.Program.{Program}
 use Rattle.verilog_sim.specs.Contents.{family_of, contents_of}
-use Rattle.verilog_sim.specs.Compiled.{AreLinesOf}
-use Rattle.verilog_sim.specs.Batches.{lines_of_all}
+use Rattle.verilog_sim.specs.Compiled.{AreInstructionsOf}
+use Rattle.verilog_sim.specs.Batches.{instructions_of_all}
 use Rattle.verilog_sim.specs.Runnable.{IsRunnable, IsOrderOf}
 use Rattle.verilog_sim.specs.Feeding.{IsFeeding, IsSeen}
 use Rattle.verilog_sim.specs.Settled.{AreWords, Settles}
@@ -26,7 +26,7 @@ use Rattle.verilog_sim.specs.Updates.{AreNarrow}
 use Rattle.verilog_sim.specs.Gifts.{AreGiven, AreApart}
 use Rattle.verilog_sim.specs.Origins.{with_lists, StandFor}
 use Rattle.verilog_sim.specs.Flattened.{IsFlat}
-use Rattle.verilog_sim.specs.declared.place.Place.{Place}
+use Rattle.verilog_sim.specs.declared.scope.Scope.{Scope}
 use Rattle.verilog_sim.specs.Calls.{nothing}
 
 -- a module without instances that can be simulated with the ports of a top module. Its nets need no names
@@ -38,17 +38,17 @@ pub record IsSimulable (m : Module) (i : Interface) : Type 0 where
   pub apart : AreApart m.ports
   pub formed : (k : ℕ) (p : Port) → slice_get m.ports k ≡ Some p → IsFormedPort m p
 
--- in an order in which the assignments of a module can be evaluated, the lines of those that feed the nets seen in an edge,
+-- in an order in which the assignments of a module can be evaluated, the instructions of those that feed the nets seen in an edge,
 -- and of those that feed one net; and no update writes more than 64 bits where that is told
 pub record IsProgramOf (m : Module) (net : ℕ) (p : Program) : Type 0 where
   pub order : List Assign
   pub ordered : IsOrderOf m order
   pub edge : List Assign
   pub sees : IsFeeding order edge (IsSeen m)
-  pub edge_are : AreLinesOf m edge (lines_of_all p.edge.items)
+  pub edge_are : AreInstructionsOf m edge (instructions_of_all p.edge.items)
   pub feeding : List Assign
   pub feeds : IsFeeding order feeding (λ n. n ≡ net)
-  pub feeding_are : AreLinesOf m feeding (lines_of_all p.feeding.items)
+  pub feeding_are : AreInstructionsOf m feeding (instructions_of_all p.feeding.items)
   pub narrow : p.narrow ≡ true → AreNarrow m
 
 -- each net that is assigned a literal has its word
@@ -123,14 +123,14 @@ pub record IsReady
   pub kept : AreKept m i steady held values memories
   pub offered : AreOffered m (nets_of i) offers
 
--- a simulator between two calls: it has the updates, and the lines of the assignments, of a module that does the same as the
+-- a simulator between two calls: it has the updates, and the instructions of the assignments, of a module that does the same as the
 -- flat module of an accepted design
 pub record Simulates
-    (d : Design) (i : Interface) (p : Program) (updates : List Update) (places : List Place)
+    (d : Design) (i : Interface) (p : Program) (updates : List Update) (scopes : List Scope)
     (steady held values : List ℕ) (memories : List (List ℕ)) : Type 0 where
   pub accepted : IsAccepted d
   pub flat : Module
-  pub is_flat : IsFlat d places flat
+  pub is_flat : IsFlat d scopes flat
   pub assigns : List Assign
   pub stand : StandFor flat assigns updates
   pub simulable : IsSimulable (with_lists flat assigns updates) i

@@ -1,8 +1,8 @@
-// Lines of one operation after another.
+// Instructions of one operation after another.
 ghost use Rattle.std.specs.Prelude.{◌≡◌, true, false, List, [], ◌∷◌, ◌++◌, OnOk, IfOk};
-ghost use Rattle.verilog_sim.specs.Batches.{lines_in, lines_of_all, IsAddedLine};
+ghost use Rattle.verilog_sim.specs.Batches.{instructions_in, instructions_of_all, IsAddedInstruction};
 
-use crate::line::{Line, Step};
+use crate::instruction::{Instruction, Step};
 use crate::operations::{
     Alias, Choice, Complement, Concatenation, Conjunction, Difference, Disjunction, Equality,
     ExclusiveOr, Less, MemoryRead, PartSelect, Product, Sum,
@@ -19,10 +19,10 @@ pub(crate) struct Entry<R> {
     pub(crate) reads: R,
 }
 
-/// Lines of one operation, or of any.
+/// Instructions of one operation, or of any.
 #[derive(Drop)]
 pub(crate) enum Batch {
-    General(Vec<Line>),
+    General(Vec<Instruction>),
     Aliases(Vec<Entry<Alias>>),
     Complements(Vec<Entry<Complement>>),
     Sums(Vec<Entry<Sum>>),
@@ -39,7 +39,7 @@ pub(crate) enum Batch {
     MemoryReads(Vec<Entry<MemoryRead>>),
 }
 
-impl Line {
+impl Instruction {
     /// Whether it is of no operation that has batches of its own.
     fn is_general(&self) -> bool
         ensures { result ≡ false → self.now.narrow ≡ true }
@@ -51,7 +51,7 @@ impl Line {
         steps || !self.narrow
     }
 
-    /// The line as one of an operation that reads this.
+    /// The instruction as one of an operation that reads this.
     fn entry<R: Copy>(&self, reads: R) -> Entry<R>
         ensures { result ≡ record { target = self.now.target; width = self.now.width; reads = reads } }
     {
@@ -64,48 +64,54 @@ impl Line {
 }
 
 impl Batch {
-    /// A batch of this line alone.
-    fn of(alloc: Global, line: &Line) -> Result<Self, NoMemory>
-        ensures { IfOk result (λ batch. lines_in batch ≡ line.now ∷ []) }
+    /// A batch of this instruction alone.
+    fn of(alloc: Global, instruction: &Instruction) -> Result<Self, NoMemory>
+        ensures { IfOk result (λ batch. instructions_in batch ≡ instruction.now ∷ []) }
     {
-        if !line.narrow {
-            return Ok(Batch::General(single(alloc, *line)?));
+        if !instruction.narrow {
+            return Ok(Batch::General(single(alloc, *instruction)?));
         }
-        Ok(match line.step {
-            Step::Copy(net) => Batch::Aliases(single(alloc, line.entry(Alias { net }))?),
-            Step::Not(net) => Batch::Complements(single(alloc, line.entry(Complement { net }))?),
-            Step::Add(left, right) => Batch::Sums(single(alloc, line.entry(Sum { left, right }))?),
+        Ok(match instruction.step {
+            Step::Copy(net) => Batch::Aliases(single(alloc, instruction.entry(Alias { net }))?),
+            Step::Not(net) => Batch::Complements(single(
+                alloc,
+                instruction.entry(Complement { net }),
+            )?),
+            Step::Add(left, right) => Batch::Sums(single(
+                alloc,
+                instruction.entry(Sum { left, right }),
+            )?),
             Step::Sub(left, right) => Batch::Differences(single(
                 alloc,
-                line.entry(Difference { left, right }),
+                instruction.entry(Difference { left, right }),
             )?),
             Step::Mul(left, right) => Batch::Products(single(
                 alloc,
-                line.entry(Product { left, right }),
+                instruction.entry(Product { left, right }),
             )?),
             Step::And(left, right) => Batch::Conjunctions(single(
                 alloc,
-                line.entry(Conjunction { left, right }),
+                instruction.entry(Conjunction { left, right }),
             )?),
             Step::Or(left, right) => Batch::Disjunctions(single(
                 alloc,
-                line.entry(Disjunction { left, right }),
+                instruction.entry(Disjunction { left, right }),
             )?),
             Step::Xor(left, right) => Batch::ExclusiveOrs(single(
                 alloc,
-                line.entry(ExclusiveOr { left, right }),
+                instruction.entry(ExclusiveOr { left, right }),
             )?),
             Step::Eq(left, right) => Batch::Equalities(single(
                 alloc,
-                line.entry(Equality { left, right }),
+                instruction.entry(Equality { left, right }),
             )?),
             Step::Lt(left, right) => Batch::Orders(single(
                 alloc,
-                line.entry(Less { left, right }),
+                instruction.entry(Less { left, right }),
             )?),
             Step::Concat(high, low, low_width) => Batch::Concatenations(single(
                 alloc,
-                line.entry(Concatenation {
+                instruction.entry(Concatenation {
                     high,
                     low,
                     low_width,
@@ -113,87 +119,102 @@ impl Batch {
             )?),
             Step::Part(net, low_bit) => Batch::PartSelects(single(
                 alloc,
-                line.entry(PartSelect { net, low_bit }),
+                instruction.entry(PartSelect { net, low_bit }),
             )?),
             Step::Choose(test, one, zero) => Batch::Choices(single(
                 alloc,
-                line.entry(Choice { test, one, zero }),
+                instruction.entry(Choice { test, one, zero }),
             )?),
             Step::Cell(memory, address) => Batch::MemoryReads(single(
                 alloc,
-                line.entry(MemoryRead { memory, address }),
+                instruction.entry(MemoryRead { memory, address }),
             )?),
             Step::Literal(_) | Step::Div(_, _) | Step::Repeat(_, _, _) => {
-                Batch::General(single(alloc, *line)?)
+                Batch::General(single(alloc, *instruction)?)
             }
         })
     }
 
-    /// The batch with a line more, where the line is of its operation, else as it is.
-    fn add(self, line: &Line) -> Result<(Self, bool), NoMemory>
-        ensures { IfOk result (λ r. IsAddedLine line.now self r.0 r.1) }
+    /// The batch with an instruction more, where the instruction is of its operation, else as it is.
+    fn add(self, instruction: &Instruction) -> Result<(Self, bool), NoMemory>
+        ensures { IfOk result (λ r. IsAddedInstruction instruction.now self r.0 r.1) }
     {
-        match (self, line.is_general(), line.step) {
-            (Batch::General(lines), true, _) => {
-                Ok((Batch::General(pushed(lines, *line)?), true))
+        match (self, instruction.is_general(), instruction.step) {
+            (Batch::General(instructions), true, _) => {
+                Ok((Batch::General(pushed(instructions, *instruction)?), true))
             }
             (Batch::Aliases(entries), false, Step::Copy(net)) => {
                 Ok((
-                    Batch::Aliases(pushed(entries, line.entry(Alias { net }))?),
+                    Batch::Aliases(pushed(entries, instruction.entry(Alias { net }))?),
                     true,
                 ))
             }
             (Batch::Complements(entries), false, Step::Not(net)) => {
                 Ok((
-                    Batch::Complements(pushed(entries, line.entry(Complement { net }))?),
+                    Batch::Complements(pushed(entries, instruction.entry(Complement { net }))?),
                     true,
                 ))
             }
             (Batch::Sums(entries), false, Step::Add(left, right)) => {
                 Ok((
-                    Batch::Sums(pushed(entries, line.entry(Sum { left, right }))?),
+                    Batch::Sums(pushed(entries, instruction.entry(Sum { left, right }))?),
                     true,
                 ))
             }
             (Batch::Differences(entries), false, Step::Sub(left, right)) => {
                 Ok((
-                    Batch::Differences(pushed(entries, line.entry(Difference { left, right }))?),
+                    Batch::Differences(pushed(
+                        entries,
+                        instruction.entry(Difference { left, right }),
+                    )?),
                     true,
                 ))
             }
             (Batch::Products(entries), false, Step::Mul(left, right)) => {
                 Ok((
-                    Batch::Products(pushed(entries, line.entry(Product { left, right }))?),
+                    Batch::Products(pushed(entries, instruction.entry(Product { left, right }))?),
                     true,
                 ))
             }
             (Batch::Conjunctions(entries), false, Step::And(left, right)) => {
                 Ok((
-                    Batch::Conjunctions(pushed(entries, line.entry(Conjunction { left, right }))?),
+                    Batch::Conjunctions(pushed(
+                        entries,
+                        instruction.entry(Conjunction { left, right }),
+                    )?),
                     true,
                 ))
             }
             (Batch::Disjunctions(entries), false, Step::Or(left, right)) => {
                 Ok((
-                    Batch::Disjunctions(pushed(entries, line.entry(Disjunction { left, right }))?),
+                    Batch::Disjunctions(pushed(
+                        entries,
+                        instruction.entry(Disjunction { left, right }),
+                    )?),
                     true,
                 ))
             }
             (Batch::ExclusiveOrs(entries), false, Step::Xor(left, right)) => {
                 Ok((
-                    Batch::ExclusiveOrs(pushed(entries, line.entry(ExclusiveOr { left, right }))?),
+                    Batch::ExclusiveOrs(pushed(
+                        entries,
+                        instruction.entry(ExclusiveOr { left, right }),
+                    )?),
                     true,
                 ))
             }
             (Batch::Equalities(entries), false, Step::Eq(left, right)) => {
                 Ok((
-                    Batch::Equalities(pushed(entries, line.entry(Equality { left, right }))?),
+                    Batch::Equalities(pushed(
+                        entries,
+                        instruction.entry(Equality { left, right }),
+                    )?),
                     true,
                 ))
             }
             (Batch::Orders(entries), false, Step::Lt(left, right)) => {
                 Ok((
-                    Batch::Orders(pushed(entries, line.entry(Less { left, right }))?),
+                    Batch::Orders(pushed(entries, instruction.entry(Less { left, right }))?),
                     true,
                 ))
             }
@@ -201,7 +222,7 @@ impl Batch {
                 Ok((
                     Batch::Concatenations(pushed(
                         entries,
-                        line.entry(Concatenation {
+                        instruction.entry(Concatenation {
                             high,
                             low,
                             low_width,
@@ -212,13 +233,16 @@ impl Batch {
             }
             (Batch::PartSelects(entries), false, Step::Part(net, low_bit)) => {
                 Ok((
-                    Batch::PartSelects(pushed(entries, line.entry(PartSelect { net, low_bit }))?),
+                    Batch::PartSelects(pushed(
+                        entries,
+                        instruction.entry(PartSelect { net, low_bit }),
+                    )?),
                     true,
                 ))
             }
             (Batch::Choices(entries), false, Step::Choose(test, one, zero)) => {
                 Ok((
-                    Batch::Choices(pushed(entries, line.entry(Choice { test, one, zero }))?),
+                    Batch::Choices(pushed(entries, instruction.entry(Choice { test, one, zero }))?),
                     true,
                 ))
             }
@@ -226,7 +250,7 @@ impl Batch {
                 Ok((
                     Batch::MemoryReads(pushed(
                         entries,
-                        line.entry(MemoryRead { memory, address }),
+                        instruction.entry(MemoryRead { memory, address }),
                     )?),
                     true,
                 ))
@@ -250,19 +274,22 @@ fn single<T: Drop>(alloc: Global, item: T) -> Result<Vec<T>, NoMemory>
     pushed(Vec::new(alloc), item)
 }
 
-/// The batches of these lines, which keep their order.
-pub(crate) fn batches_of(alloc: Global, lines: &[Line]) -> Result<Vec<Batch>, NoMemory>
-    ensures { IfOk result (λ batches. lines_of_all batches.items ≡ lines.now) }
+/// The batches of these instructions, which keep their order.
+pub(crate) fn batches_of(
+    alloc: Global,
+    instructions: &[Instruction],
+) -> Result<Vec<Batch>, NoMemory>
+    ensures { IfOk result (λ batches. instructions_of_all batches.items ≡ instructions.now) }
 {
     let mut batches = Vec::new(alloc);
     let mut last = Batch::General(Vec::new(alloc));
-    for line in lines {
-        let (batch, added) = last.add(line)?;
+    for instruction in instructions {
+        let (batch, added) = last.add(instruction)?;
         last = if added {
             batch
         } else {
             batches.push(batch)?;
-            Batch::of(alloc, line)?
+            Batch::of(alloc, instruction)?
         };
     }
     batches.push(last)?;

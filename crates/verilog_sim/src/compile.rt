@@ -1,22 +1,22 @@
-// Lines from assignments.
+// Instructions from assignments.
 ghost use Rattle.std.specs.Prelude.{◌≡◌, true, ◌<◌, ◌≤◌, length, All, IfOk};
 ghost use Rattle.rtl_ir.specs.Typed.{IsTyped};
 ghost use Rattle.rtl_ir.specs.Formed.{IsFormedExpr};
 ghost use Rattle.rtl_ir.specs.Value.{width_of};
-ghost use Rattle.verilog_sim.specs.Lines.{IsSafe};
-ghost use Rattle.verilog_sim.specs.Compiled.{IsBinary, IsStepOf, AreLinesOf, IsNarrow};
-ghost use Rattle.verilog_sim.specs.Batches.{lines_of_all};
+ghost use Rattle.verilog_sim.specs.Instructions.{IsSafe};
+ghost use Rattle.verilog_sim.specs.Compiled.{IsBinary, IsStepOf, AreInstructionsOf, IsNarrow};
+ghost use Rattle.verilog_sim.specs.Batches.{instructions_of_all};
 ghost use Rattle.verilog_sim.specs.Updates.{AreNarrow};
 ghost use Rattle.verilog_sim.specs.Runnable.{IsRunnable, IsPartOf};
 
 use crate::batch::{Batch, batches_of};
-use crate::line::{Line, Step};
+use crate::instruction::{Instruction, Step};
 use crate::order::Orders;
 use mx_base::NoMemory;
 use rtl_ir::{Assign, Expr, Module, NetId, Sign};
 use std::alloc::Global;
 
-/// The lines of a module that are evaluated in an edge, in this order, those of them that feed a net,
+/// The instructions of a module that are evaluated in an edge, in this order, those of them that feed a net,
 /// and whether its updates write words of at most 64 bits alone.
 #[derive(Drop)]
 pub(crate) struct Program {
@@ -25,41 +25,45 @@ pub(crate) struct Program {
     pub(crate) narrow: bool,
 }
 
-/// The lines of both orders of a module.
+/// The instructions of both orders of a module.
 pub(crate) fn compile(alloc: Global, module: &Module, orders: &Orders) -> Result<Program, NoMemory>
     requires edge { IsPartOf module.now orders.now.edge.items }
     requires feeding { IsPartOf module.now orders.now.feeding.items }
     requires runnable { IsRunnable module.now }
-    ensures edge { IfOk result (λ p. AreLinesOf module.now orders.now.edge.items (lines_of_all p.edge.items)) }
-    ensures feeding { IfOk result (λ p. AreLinesOf module.now orders.now.feeding.items (lines_of_all p.feeding.items)) }
+    ensures edge { IfOk result (λ p. AreInstructionsOf module.now orders.now.edge.items (instructions_of_all p.edge.items)) }
+    ensures feeding { IfOk result (λ p. AreInstructionsOf module.now orders.now.feeding.items (instructions_of_all p.feeding.items)) }
     ensures narrow { IfOk result (λ p. p.narrow ≡ true → AreNarrow module.now) }
 {
-    let lines = lines_of(alloc, module, orders.edge.as_slice())?;
-    let feeding = lines_of(alloc, module, orders.feeding.as_slice())?;
+    let instructions = instructions_of(alloc, module, orders.edge.as_slice())?;
+    let feeding = instructions_of(alloc, module, orders.feeding.as_slice())?;
     Ok(Program {
-        edge: batches_of(alloc, lines.as_slice())?,
+        edge: batches_of(alloc, instructions.as_slice())?,
         feeding: batches_of(alloc, feeding.as_slice())?,
         narrow: are_narrow(module),
     })
 }
 
-/// The lines of these assignments.
-fn lines_of(alloc: Global, module: &Module, order: &[Assign]) -> Result<Vec<Line>, NoMemory>
+/// The instructions of these assignments.
+fn instructions_of(
+    alloc: Global,
+    module: &Module,
+    order: &[Assign],
+) -> Result<Vec<Instruction>, NoMemory>
     requires runnable { IsRunnable module.now }
     requires order { IsPartOf module.now order.now }
-    ensures { IfOk result (λ lines. AreLinesOf module.now order.now lines.items) }
+    ensures { IfOk result (λ instructions. AreInstructionsOf module.now order.now instructions.items) }
 {
-    let mut lines = Vec::new(alloc);
+    let mut instructions = Vec::new(alloc);
     for assign in order {
         let width = module.width(assign.target);
-        lines.push(Line {
+        instructions.push(Instruction {
             target: assign.target,
             width,
             narrow: is_narrow(alloc, module, assign),
             step: step_of(module, &assign.expr),
         })?;
     }
-    Ok(lines)
+    Ok(instructions)
 }
 
 /// Whether an assignment gives a net of at most 64 bits its value, and reads such nets alone.

@@ -8,8 +8,8 @@ ghost use Rattle.rtl_ir.specs.Interfaces.{stream_channel};
 ghost use Rattle.verilog_sim.specs.declared.offer.Event.{Event};
 ghost use Rattle.verilog_sim.specs.Calls.{event_of};
 ghost use Rattle.verilog_sim.specs.Contents.{family_of};
-ghost use Rattle.verilog_sim.specs.Compiled.{AreLinesOf};
-ghost use Rattle.verilog_sim.specs.Batches.{lines_of_all};
+ghost use Rattle.verilog_sim.specs.Compiled.{AreInstructionsOf};
+ghost use Rattle.verilog_sim.specs.Batches.{instructions_of_all};
 ghost use Rattle.verilog_sim.specs.Runnable.{IsPartOf};
 ghost use Rattle.verilog_sim.specs.Gifts.{AreNetsOf};
 ghost use Rattle.verilog_sim.specs.Simulates.{AreKept, IsReady, IsProgramOf, IsEvaluatedBy, IsStepped, IsAnswered};
@@ -19,9 +19,9 @@ use crate::batch::Batch;
 use crate::clock::{clock, load};
 use crate::compile::Program;
 use crate::drive::drive;
-use crate::given::Given;
 use crate::memory::Memory;
 use crate::settle::settle;
+use crate::stimulus::Stimulus;
 use crate::values::Values;
 use rtl_ir::{Interface, StreamPorts, Update};
 
@@ -30,24 +30,24 @@ use rtl_ir::{Interface, StreamPorts, Update};
 pub(crate) fn evaluate(
     interface: &Interface,
     batches: &[Batch],
-    given: &Given<'_>,
+    stimulus: &Stimulus<'_>,
     memories: &[Memory],
     values: &mut Values,
 )
     requires { (m : Module) × (assigns : List Assign) × (updates : List Update) × (held : List ℕ)
-        × IsReady m updates interface.now given.now.steady.now given.now.offers.now
+        × IsReady m updates interface.now stimulus.now.steady.now stimulus.now.offers.now
         held values.old memories.now
-        × IsPartOf m assigns × AreLinesOf m assigns (lines_of_all batches.now) }
+        × IsPartOf m assigns × AreInstructionsOf m assigns (instructions_of_all batches.now) }
     // each module for which all is there
     ensures { (m : Module) (assigns : List Assign) (updates : List Update) (held : List ℕ)
-        → IsReady m updates interface.now given.now.steady.now given.now.offers.now
+        → IsReady m updates interface.now stimulus.now.steady.now stimulus.now.offers.now
         held values.old memories.now
-        → IsPartOf m assigns → AreLinesOf m assigns (lines_of_all batches.now)
-        → IsEvaluatedBy m assigns interface.now given.now.reset given.now.steady.now
-        given.now.offers.now given.now.accepts.now given.now.holds.now held memories.now
+        → IsPartOf m assigns → AreInstructionsOf m assigns (instructions_of_all batches.now)
+        → IsEvaluatedBy m assigns interface.now stimulus.now.reset stimulus.now.steady.now
+        stimulus.now.offers.now stimulus.now.accepts.now stimulus.now.holds.now held memories.now
         values.new }
 {
-    drive(interface, given, values);
+    drive(interface, stimulus, values);
     settle(batches, memories, values);
 }
 
@@ -57,27 +57,27 @@ pub(crate) fn step(
     updates: &[Update],
     interface: &Interface,
     program: &Program,
-    given: &Given<'_>,
+    stimulus: &Stimulus<'_>,
     held: &mut [u128],
     memories: &mut [Memory],
     values: &mut Values,
 )
     requires { (m : Module) × (net : ℕ)
-        × IsReady m updates.now interface.now given.now.steady.now given.now.offers.now
+        × IsReady m updates.now interface.now stimulus.now.steady.now stimulus.now.offers.now
         held.old values.old memories.old
         × IsProgramOf m net program.now }
     // each module for which all is there
     ensures { (m : Module) (net : ℕ)
-        → IsReady m updates.now interface.now given.now.steady.now given.now.offers.now
+        → IsReady m updates.now interface.now stimulus.now.steady.now stimulus.now.offers.now
         held.old values.old memories.old
         → IsProgramOf m net program.now
-        → AreKept m interface.now given.now.steady.now held.new values.new memories.new
-        × IsStepped m interface.now given.now.reset given.now.steady.now given.now.offers.now
-        given.now.accepts.now given.now.holds.now held.old memories.old
+        → AreKept m interface.now stimulus.now.steady.now held.new values.new memories.new
+        × IsStepped m interface.now stimulus.now.reset stimulus.now.steady.now stimulus.now.offers.now
+        stimulus.now.accepts.now stimulus.now.holds.now held.old memories.old
         values.new held.new memories.new }
 {
     let batches = program.edge.as_slice();
-    evaluate(interface, batches, given, memories, values);
+    evaluate(interface, batches, stimulus, memories, values);
     clock(updates, program.narrow, values, held, memories);
     load(updates, program.narrow, held, values);
 }
@@ -86,25 +86,25 @@ pub(crate) fn step(
 pub(crate) fn is_done(
     interface: &Interface,
     program: &Program,
-    given: &Given<'_>,
+    stimulus: &Stimulus<'_>,
     memories: &[Memory],
     values: &mut Values,
 ) -> bool
     requires { (m : Module) × (updates : List Update) × (held : List ℕ)
-        × IsReady m updates interface.now given.now.steady.now given.now.offers.now
+        × IsReady m updates interface.now stimulus.now.steady.now stimulus.now.offers.now
         held values.old memories.now
         × IsProgramOf m interface.now.done program.now }
     // each module for which all is there
     ensures { (m : Module) (updates : List Update) (held : List ℕ)
-        → IsReady m updates interface.now given.now.steady.now given.now.offers.now
+        → IsReady m updates interface.now stimulus.now.steady.now stimulus.now.offers.now
         held values.old memories.now
         → IsProgramOf m interface.now.done program.now
-        → IsAnswered m interface.now.done interface.now given.now.reset given.now.steady.now
-        given.now.offers.now given.now.accepts.now given.now.holds.now held memories.now
+        → IsAnswered m interface.now.done interface.now stimulus.now.reset stimulus.now.steady.now
+        stimulus.now.offers.now stimulus.now.accepts.now stimulus.now.holds.now held memories.now
         values.new result }
 {
     let batches = program.feeding.as_slice();
-    evaluate(interface, batches, given, memories, values);
+    evaluate(interface, batches, stimulus, memories, values);
     values.get(interface.done) == 1
 }
 

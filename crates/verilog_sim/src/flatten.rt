@@ -5,9 +5,9 @@ ghost use Rattle.rtl_ir.specs.Rules.{IsAccepted};
 ghost use Rattle.verilog_sim.specs.Flattened.{IsRanged, IsAdded, IsAddedJoined, IsFlat, module_of};
 ghost use Rattle.verilog_sim.specs.Start.{all_cells};
 
-use crate::moved::First;
-use crate::parts::{add_assigns, add_instances, add_joins, add_mems, add_nets, add_updates};
-use crate::place::Place;
+use crate::inlining::{add_assigns, add_instances, add_joins, add_mems, add_nets, add_updates};
+use crate::relocation::First;
+use crate::scope::Scope;
 use mx_base::{List, NoMemory, Text};
 use rtl_ir::{Assign, Design, Instance, Mem, Module, Net, NetId, Port, Update};
 use std::alloc::Global;
@@ -16,7 +16,7 @@ use std::alloc::Global;
 #[derive(Drop)]
 pub(crate) struct Flat {
     pub(crate) module: Module,
-    pub(crate) places: Vec<Place>,
+    pub(crate) scopes: Vec<Scope>,
 }
 
 /// The lists of a flat module so far, and the instances that have not yet become parts of it.
@@ -48,14 +48,14 @@ impl Parts {
     }
 
     /// Where a module will stand that becomes a part in place of the instance that was the last one.
-    fn place_of(&self, inner: &Module) -> Place
+    fn place_of(&self, inner: &Module) -> Scope
         ensures instance { result.instance ≡ length self.now.instances.items }
         ensures first_net { result.first_net ≡ length self.now.nets.items }
         ensures nets { result.nets ≡ length inner.now.nets }
         ensures first_mem { result.first_mem ≡ length self.now.mems.items }
         ensures mems { result.mems ≡ length inner.now.mems }
     {
-        Place {
+        Scope {
             instance: self.instances.len(),
             first_net: self.nets.len(),
             nets: inner.nets.len(),
@@ -121,19 +121,19 @@ impl Parts {
 pub(crate) fn flatten(alloc: Global, design: &Design) -> Result<Flat, NoMemory>
     requires accepted { IsAccepted design.now }
     requires small { all_cells design.now ≤ 2 ^ 26 }
-    ensures { IfOk result (λ flat. IsFlat design.now flat.places.items flat.«module») }
+    ensures { IfOk result (λ flat. IsFlat design.now flat.scopes.items flat.«module») }
 {
     let top = design.top();
     let mut parts = Parts::new(alloc);
-    let mut places = Vec::new(alloc);
+    let mut scopes = Vec::new(alloc);
     parts.add(alloc, top)?;
     while let Some(instance) = parts.instances.pop() {
         let part = design.modules.at(instance.module.index());
-        places.push(parts.place_of(part))?;
+        scopes.push(parts.place_of(part))?;
         parts.join(alloc, part, instance.nets.as_slice())?;
     }
     Ok(Flat {
         module: parts.into_module(alloc, top.ports.as_slice())?,
-        places,
+        scopes,
     })
 }

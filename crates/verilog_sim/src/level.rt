@@ -121,7 +121,7 @@ fn assigns_of(alloc: Global, ranked: &[Ranked]) -> Result<Vec<Assign>, NoMemory>
     Ok(assigns)
 }
 
-/// The kind of the batches that the line of an assignment may stand in.
+/// The kind of the batches that the instruction of an assignment may stand in.
 fn kind_of(alloc: Global, module: &Module, assign: &Assign) -> Kind {
     if !is_narrow(alloc, module, assign) {
         return Kind::General;

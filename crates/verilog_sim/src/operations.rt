@@ -1,18 +1,18 @@
-// What lines of one operation read, and what they make of it.
+// What instructions of one operation read, and what they make of it.
 ghost use Rattle.std.specs.Prelude.{◌≡◌, ℕ, ◌<◌, ◌≤◌, ◌%◌, ◌^◌, List, length, slice_index, if◌then◌else◌};
-ghost use Rattle.verilog_sim.specs.declared.line.Step.{Step};
-ghost use Rattle.verilog_sim.specs.declared.line.Step.TheVariants.{Copy as DoCopy, Not as DoNot, Add as DoAdd, Sub as DoSub, Mul as DoMul};
-ghost use Rattle.verilog_sim.specs.declared.line.Step.TheVariants.{And as DoAnd, Or as DoOr, Xor as DoXor, Eq as DoEq, Lt as DoLt};
-ghost use Rattle.verilog_sim.specs.declared.line.Step.TheVariants.{Concat as DoConcat, Part as DoPart, Choose as DoChoose, Cell as DoCell};
-ghost use Rattle.verilog_sim.specs.Lines.{IsStepSafe, step_value};
+ghost use Rattle.verilog_sim.specs.declared.instruction.Step.{Step};
+ghost use Rattle.verilog_sim.specs.declared.instruction.Step.TheVariants.{Copy as DoCopy, Not as DoNot, Add as DoAdd, Sub as DoSub, Mul as DoMul};
+ghost use Rattle.verilog_sim.specs.declared.instruction.Step.TheVariants.{And as DoAnd, Or as DoOr, Xor as DoXor, Eq as DoEq, Lt as DoLt};
+ghost use Rattle.verilog_sim.specs.declared.instruction.Step.TheVariants.{Concat as DoConcat, Part as DoPart, Choose as DoChoose, Cell as DoCell};
+ghost use Rattle.verilog_sim.specs.Instructions.{IsStepSafe, step_value};
 
-use crate::line::{low_half, reduce_half};
+use crate::instruction::{low_half, reduce_half};
 use crate::memory::Memory;
 use rtl_ir::{MemId, NetId};
 
-/// What a line reads that gives a net of at most 64 bits its value, from such nets alone.
+/// What an instruction reads that gives a net of at most 64 bits its value, from such nets alone.
 pub(crate) trait Operation: Copy {
-    /// The step of the line.
+    /// The step of the instruction.
     ghost step: { Self → Step };
 
     /// The value for a net of so many bits, wherever it has at most 64.

@@ -2,21 +2,21 @@
 ghost use Rattle.std.specs.Prelude.{◌≡◌, List, length, All};
 ghost use Rattle.rtl_ir.specs.declared.design.Module.{Module};
 ghost use Rattle.rtl_ir.specs.declared.design.Assign.{Assign};
-ghost use Rattle.verilog_sim.specs.Lines.{IsSafe};
-ghost use Rattle.verilog_sim.specs.Compiled.{AreLinesOf};
-ghost use Rattle.verilog_sim.specs.Batches.{lines_in, lines_of_all, Advances};
+ghost use Rattle.verilog_sim.specs.Instructions.{IsSafe};
+ghost use Rattle.verilog_sim.specs.Compiled.{AreInstructionsOf};
+ghost use Rattle.verilog_sim.specs.Batches.{instructions_in, instructions_of_all, Advances};
 ghost use Rattle.verilog_sim.specs.Settled.{IsInOrder, AreWords, Settles};
 
 use crate::batch::Batch;
-use crate::line::{Line, value_of};
+use crate::instruction::{Instruction, value_of};
 use crate::memory::Memory;
 use crate::values::Values;
 
-/// Gives each target of the lines of these batches its value, in their order.
+/// Gives each target of the instructions of these batches its value, in their order.
 pub(crate) fn settle(batches: &[Batch], memories: &[Memory], values: &mut Values)
-    requires safe { All (IsSafe (length values.old) (length memories.now)) (lines_of_all batches.now) }
-    // the assignments, in this order, of each module whose lines these are
-    ensures { (m : Module) (assigns : List Assign) → AreLinesOf m assigns (lines_of_all batches.now) → IsInOrder m assigns
+    requires safe { All (IsSafe (length values.old) (length memories.now)) (instructions_of_all batches.now) }
+    // the assignments, in this order, of each module whose instructions these are
+    ensures { (m : Module) (assigns : List Assign) → AreInstructionsOf m assigns (instructions_of_all batches.now) → IsInOrder m assigns
         → AreWords m values.old memories.now → Settles m assigns memories.now values.old values.new }
 {
     for batch in batches {
@@ -25,12 +25,16 @@ pub(crate) fn settle(batches: &[Batch], memories: &[Memory], values: &mut Values
 }
 
 fn settle_batch(batch: &Batch, memories: &[Memory], values: &mut Values)
-    requires safe { All (IsSafe (length values.old) (length memories.now)) (lines_in batch.now) }
-    ensures advances { Advances (lines_in batch.now) memories.now values.old values.new }
+    requires safe { All (IsSafe (length values.old) (length memories.now)) (instructions_in batch.now) }
+    ensures advances { Advances (instructions_in batch.now) memories.now values.old values.new }
     ensures size { length values.new ≡ length values.old }
 {
     match batch {
-        Batch::General(lines) => settle_lines(lines.as_slice(), memories, values),
+        Batch::General(instructions) => settle_instructions(
+            instructions.as_slice(),
+            memories,
+            values,
+        ),
         Batch::Aliases(entries) => values.settle(entries.as_slice(), memories),
         Batch::Complements(entries) => values.settle(entries.as_slice(), memories),
         Batch::Sums(entries) => values.settle(entries.as_slice(), memories),
@@ -48,14 +52,14 @@ fn settle_batch(batch: &Batch, memories: &[Memory], values: &mut Values)
     }
 }
 
-/// Gives each target of these lines its value, in their order.
-fn settle_lines(lines: &[Line], memories: &[Memory], values: &mut Values)
-    requires safe { All (IsSafe (length values.old) (length memories.now)) lines.now }
-    ensures advances { Advances lines.now memories.now values.old values.new }
+/// Gives each target of these instructions its value, in their order.
+fn settle_instructions(instructions: &[Instruction], memories: &[Memory], values: &mut Values)
+    requires safe { All (IsSafe (length values.old) (length memories.now)) instructions.now }
+    ensures advances { Advances instructions.now memories.now values.old values.new }
     ensures size { length values.new ≡ length values.old }
 {
-    for line in lines {
-        let value = value_of(*line, memories, values);
-        values.set(line.target, value);
+    for instruction in instructions {
+        let value = value_of(*instruction, memories, values);
+        values.set(instruction.target, value);
     }
 }

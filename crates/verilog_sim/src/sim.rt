@@ -15,12 +15,12 @@ use crate::cells::count_cells;
 use crate::compile::{Program, compile};
 use crate::evaluate::{is_done, step, tell};
 use crate::flatten::flatten;
-use crate::given::Given;
 use crate::memory::Memory;
 use crate::order::both_orders;
 use crate::origin::at_origins;
-use crate::place::Place;
+use crate::scope::Scope;
 use crate::start::{first_values, memories, registers};
+use crate::stimulus::Stimulus;
 use crate::values::Values;
 use crate::{Event, Offer, SimError};
 use mx_base::List;
@@ -42,7 +42,7 @@ pub struct Sim<'a> {
     interface: &'a Interface,
     program: Program,
     updates: List<Update>,
-    places: Vec<Place>,
+    scopes: Vec<Scope>,
     steady: Vec<u128>,
     held: Vec<u128>,
     memories: Vec<Memory>,
@@ -63,10 +63,10 @@ impl<'a> Model for Sim<'a> {
       design = a.design.now;
       outer = nets_of a.interface.now;
       steady = a.steady.items;
-      parts = parts_of (top_of a.design.now) a.places.items a.held.items a.memories.items;
+      parts = parts_of (top_of a.design.now) a.scopes.items a.held.items a.memories.items;
     } };
 
-    ghost invariant = { λ a. Simulates a.design.now a.interface.now a.program a.updates a.places.items a.steady.items a.held.items a.values a.memories.items };
+    ghost invariant = { λ a. Simulates a.design.now a.interface.now a.program a.updates a.scopes.items a.steady.items a.held.items a.values a.memories.items };
 }
 
 impl<'a> Sim<'a> {
@@ -111,7 +111,7 @@ impl<'a> Sim<'a> {
             design,
             interface,
             program: compile(alloc, &module, &orders)?,
-            places: flat.places,
+            scopes: flat.scopes,
             steady: vec![in alloc; 0; kernels + scalars]?,
             held,
             memories: memories(alloc, &module, fill)?,
@@ -136,7 +136,7 @@ impl<'a> Sim<'a> {
         ensures edge { (m : Module) → top_of self.old.design ≡ Some m → IsResetEdge m self.old self.new }
         ensures kept { self.new ≡ record self.old { parts = self.new.parts } }
     {
-        let given = Given {
+        let stimulus = Stimulus {
             reset: true,
             steady: self.steady.as_slice(),
             offers: &[],
@@ -147,7 +147,7 @@ impl<'a> Sim<'a> {
             self.updates.as_slice(),
             self.interface,
             &self.program,
-            &given,
+            &stimulus,
             self.held.as_mut_slice(),
             self.memories.as_mut_slice(),
             &mut self.values,
@@ -159,7 +159,7 @@ impl<'a> Sim<'a> {
         ensures done { (m : Module) → top_of self.old.design ≡ Some m → IsDone m self.old result }
         ensures kept { self.new ≡ self.old }
     {
-        let given = Given {
+        let stimulus = Stimulus {
             reset: false,
             steady: self.steady.as_slice(),
             offers: &[],
@@ -169,7 +169,7 @@ impl<'a> Sim<'a> {
         is_done(
             self.interface,
             &self.program,
-            &given,
+            &stimulus,
             self.memories.as_slice(),
             &mut self.values,
         )
@@ -189,7 +189,7 @@ impl<'a> Sim<'a> {
         ensures edge { (m : Module) → top_of self.old.design ≡ Some m → IsEdge m offers.now accepts.now holds.now self.old self.new events.new }
         ensures kept { self.new ≡ record self.old { parts = self.new.parts } }
     {
-        let given = Given {
+        let stimulus = Stimulus {
             reset: false,
             steady: self.steady.as_slice(),
             offers,
@@ -200,7 +200,7 @@ impl<'a> Sim<'a> {
             self.updates.as_slice(),
             self.interface,
             &self.program,
-            &given,
+            &stimulus,
             self.held.as_mut_slice(),
             self.memories.as_mut_slice(),
             &mut self.values,

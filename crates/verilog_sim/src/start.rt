@@ -8,7 +8,7 @@ ghost use Rattle.verilog_sim.specs.Start.{held_at_start, words_at_start};
 ghost use Rattle.verilog_sim.specs.First.{AreFirst, AreLiteralsSet};
 
 use crate::clock::load;
-use crate::line::reduce;
+use crate::instruction::reduce;
 use crate::memory::Memory;
 use crate::values::Values;
 use mx_base::NoMemory;

@@ -1,10 +1,10 @@
 // The values of all nets.
 ghost use Rattle.std.specs.Prelude.{◌≡◌, ℕ, ◌<◌, ◌^◌, true, List, length, map, All, slice_index, slice_set, replicate, IfOk};
-ghost use Rattle.verilog_sim.specs.Lines.{IsSafe};
-ghost use Rattle.verilog_sim.specs.Batches.{line_of, Advances};
+ghost use Rattle.verilog_sim.specs.Instructions.{IsSafe};
+ghost use Rattle.verilog_sim.specs.Batches.{instruction_of, Advances};
 
 use crate::batch::Entry;
-use crate::line::low_half;
+use crate::instruction::low_half;
 use crate::memory::Memory;
 use crate::narrow::settle_entries;
 use crate::operations::Operation;
@@ -90,10 +90,10 @@ impl Values {
         }
     }
 
-    /// Gives each target of the lines of one operation its value, in their order.
+    /// Gives each target of the instructions of one operation its value, in their order.
     pub(crate) fn settle<R: Operation>(&mut self, entries: &[Entry<R>], memories: &[Memory])
-        requires safe { All (IsSafe (length self.old) (length memories.now)) (map (line_of R.step) entries.now) }
-        ensures advances { Advances (map (line_of R.step) entries.now) memories.now self.old self.new }
+        requires safe { All (IsSafe (length self.old) (length memories.now)) (map (instruction_of R.step) entries.now) }
+        ensures advances { Advances (map (instruction_of R.step) entries.now) memories.now self.old self.new }
         ensures size { length self.new ≡ length self.old }
     {
         settle_entries(entries, memories, self.low.as_mut_slice());

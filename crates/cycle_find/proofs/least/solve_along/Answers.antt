@@ -43,7 +43,9 @@ pub returns-clause-least : goal.returns-clause-least
 returns-clause-least c =
     let e : c.as_slice-list.result.now ≡ c.args.arcs.now.list = c.as_slice-list.ensures in
     let P : List Arc → Type 0 = λ l. IsLeast (numbers_of c.in_ok-signed.field-0.items) l in
-    subst P e (least_of c.as_slice-list.result.now c.sweep.new.x c.sweep.new.via c.in_ok-signed.field-0.items c.in_default-sweep.ensures.raised c.in_default-sweep.ensures.solved c.in_ok-signed.ensures.same)
+    subst P e (least_of c.as_slice-list.result.now c.sweep.new.x c.sweep.new.via
+    c.in_ok-signed.field-0.items c.in_default-sweep.ensures.raised
+    c.in_default-sweep.ensures.solved c.in_ok-signed.ensures.same)
 
 pub returns-clause-within : goal.returns-clause-within
 returns-clause-within c =

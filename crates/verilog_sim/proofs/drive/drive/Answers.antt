@@ -26,7 +26,7 @@ set-requires-2 c = omega (arith, c.requires.nets.1.0, ap length c.set.ensures, l
 
 pub drive_kernels-requires : goal.drive_kernels-requires
 drive_kernels-requires c =
-    let g = c.args.given.now in
+    let g = c.args.stimulus.now in
     let i = c.args.interface.now in
     let v = c.args.values.now in
     let size = after_two v c.set.new.self c.set-2.new.self i.clock i.reset 0 c.bit_of.result c.set.ensures c.set-2.ensures in
@@ -39,7 +39,7 @@ drive_kernels-requires c =
 
 pub drive_scalars-requires-clause-nets : goal.drive_scalars-requires-clause-nets
 drive_scalars-requires-clause-nets c = λ k x at.
-    let g = c.args.given.now in
+    let g = c.args.stimulus.now in
     let i = c.args.interface.now in
     let v = c.args.values.now in
     let two = after_two v c.set.new.self c.set-2.new.self i.clock i.reset 0 c.bit_of.result c.set.ensures c.set-2.ensures in
@@ -51,7 +51,7 @@ drive_scalars-requires-clause-nets c = λ k x at.
 
 pub drive_inputs-requires : goal.drive_inputs-requires
 drive_inputs-requires c =
-    let g = c.args.given.now in
+    let g = c.args.stimulus.now in
     let i = c.args.interface.now in
     let v = c.args.values.now in
     let two = after_two v c.set.new.self c.set-2.new.self i.clock i.reset 0 c.bit_of.result c.set.ensures c.set-2.ensures in
@@ -69,7 +69,7 @@ drive_inputs-requires c =
 
 pub drive_outputs-requires : goal.drive_outputs-requires
 drive_outputs-requires c =
-    let g = c.args.given.now in
+    let g = c.args.stimulus.now in
     let i = c.args.interface.now in
     let v = c.args.values.now in
     let two = after_two v c.set.new.self c.set-2.new.self i.clock i.reset 0 c.bit_of.result c.set.ensures c.set-2.ensures in
@@ -89,7 +89,7 @@ drive_outputs-requires c =
 
 pub returns : goal.returns
 returns c =
-    let g = c.args.given.now in
+    let g = c.args.stimulus.now in
     let i = c.args.interface.now in
     let v = c.args.values.now in
     let s = g.steady.now in

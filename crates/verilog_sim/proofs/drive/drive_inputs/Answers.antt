@@ -9,7 +9,7 @@ use Rattle.verilog_sim.proofs.drive.drive_inputs.Goals as goal
 
 pub set-requires : goal.set-requires
 set-requires c =
-    let g = c.args.given.now in
+    let g = c.args.stimulus.now in
     let i = c.loop-k.k in
     let x = c.index-inputs-k.result in
     let at : slice_get c.args.inputs.now i ≡ Some x = slice_get_read c.args.inputs.now (length c.args.inputs.now) i x
@@ -21,7 +21,7 @@ set-requires c =
 
 pub set-requires-in-loop-k : goal.set-requires-in-loop-k
 set-requires-in-loop-k c =
-    let g = c.args.given.now in
+    let g = c.args.stimulus.now in
     let i = c.loop-k.k in
     let x = c.index-inputs-k.result in
     let at : slice_get c.args.inputs.now i ≡ Some x = slice_get_read c.args.inputs.now (length c.args.inputs.now) i x
@@ -33,7 +33,7 @@ set-requires-in-loop-k c =
 
 pub loop-k-preserved : goal.loop-k-preserved
 loop-k-preserved c =
-    let g = c.args.given.now in
+    let g = c.args.stimulus.now in
     let i = c.loop-k.k in
     let x = c.index-inputs-k.result in
     let at : slice_get c.args.inputs.now i ≡ Some x = slice_get_read c.args.inputs.now (length c.args.inputs.now) i x

@@ -8,7 +8,7 @@ use Rattle.verilog_sim.proofs.drive.drive_scalars.Goals as goal
 
 pub set-requires : goal.set-requires
 set-requires c =
-    let g = c.args.given.now in
+    let g = c.args.stimulus.now in
     let i = c.loop-k.k in
     let x = c.index-scalars-k.result in
     let at : slice_get c.args.scalars.now i ≡ Some x = slice_get_read c.args.scalars.now (length c.args.scalars.now) i
@@ -20,7 +20,7 @@ set-requires c =
 
 pub loop-k-preserved : goal.loop-k-preserved
 loop-k-preserved c =
-    let g = c.args.given.now in
+    let g = c.args.stimulus.now in
     let i = c.loop-k.k in
     let x = c.index-scalars-k.result in
     let at : slice_get c.args.scalars.now i ≡ Some x = slice_get_read c.args.scalars.now (length c.args.scalars.now) i

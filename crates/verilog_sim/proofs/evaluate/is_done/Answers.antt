@@ -1,9 +1,9 @@
 use Rattle.std.proofs.Common.{◌∙◌, refl, eqb, ap, arith}
 use Rattle.verilog_sim.proofs.Gifting.{given_inputs, done_in}
-use Rattle.verilog_sim.proofs.Evaluated.{kept_on_lines}
+use Rattle.verilog_sim.proofs.Evaluated.{kept_on_instructions}
 use Rattle.verilog_sim.proofs.Answering.{part_of_feeding, no_literal, literal_free, completed}
-use Rattle.verilog_sim.proofs.Compiling.{lines_at}
-use Rattle.verilog_sim.specs.Batches.{lines_of_all}
+use Rattle.verilog_sim.proofs.Compiling.{instructions_at}
+use Rattle.verilog_sim.specs.Batches.{instructions_of_all}
 use Rattle.verilog_sim.proofs.evaluate.is_done.Goals as goal
 
 pub evaluate-requires : goal.evaluate-requires
@@ -16,30 +16,30 @@ evaluate-requires c =
       c.requires.3,
       part_of_feeding c.requires.0 p.order p.feeding
           _ p.ordered p.feeds,
-      lines_at c.requires.0 p.feeding (lines_of_all c.args.program.now.feeding.items)
-          (lines_of_all c.as_slice-batches.result.now) (ap lines_of_all c.as_slice-batches.ensures.value) p.feeding_are,
+      instructions_at c.requires.0 p.feeding (instructions_of_all c.args.program.now.feeding.items)
+          (instructions_of_all c.as_slice-batches.result.now) (ap instructions_of_all c.as_slice-batches.ensures.value) p.feeding_are,
     )
 
 pub get-requires : goal.get-requires
 get-requires c =
     let p = c.requires.4 in
     let r = c.requires.3 in
-    let g = c.args.given.now in
+    let g = c.args.stimulus.now in
     let by = c.evaluate.ensures c.requires.0 p.feeding c.requires.1 c.requires.2 r
     (part_of_feeding c.requires.0 p.order p.feeding _ p.ordered p.feeds)
-    (lines_at c.requires.0 p.feeding (lines_of_all c.args.program.now.feeding.items)
-    (lines_of_all c.as_slice-batches.result.now) (ap lines_of_all c.as_slice-batches.ensures.value)
+    (instructions_at c.requires.0 p.feeding (instructions_of_all c.args.program.now.feeding.items)
+    (instructions_of_all c.as_slice-batches.result.now) (ap instructions_of_all c.as_slice-batches.ensures.value)
     p.feeding_are) in
     let lt = done_in c.requires.0 c.args.interface.now r.simulable in
     omega (arith, lt, by.settles.nets)
 
 pub returns : goal.returns
 returns c = λ m updates held r p.
-    let g = c.args.given.now in
+    let g = c.args.stimulus.now in
     let part = part_of_feeding m p.order p.feeding _ p.ordered p.feeds in
     let by = c.evaluate.ensures m p.feeding updates held r part
-    (lines_at m p.feeding (lines_of_all c.args.program.now.feeding.items)
-    (lines_of_all c.as_slice-batches.result.now) (ap lines_of_all c.as_slice-batches.ensures.value)
+    (instructions_at m p.feeding (instructions_of_all c.args.program.now.feeding.items)
+    (instructions_of_all c.as_slice-batches.result.now) (ap instructions_of_all c.as_slice-batches.ensures.value)
     p.feeding_are) in
     let free = literal_free m p.feeding r.simulable.runnable part (no_literal p.order p.feeding _ p.feeds) in
     let all = completed m p.order p.feeding _ c.args.interface.now g.reset g.steady.now g.offers.now g.accepts.now
@@ -47,7 +47,7 @@ returns c = λ m updates held r p.
     (given_inputs m c.args.interface.now r.simulable g.reset g.steady.now g.offers.now g.accepts.now g.holds.now)
     by in
     record {
-      kept = kept_on_lines m p.feeding c.args.interface.now g.reset g.steady.now g.offers.now g.accepts.now g.holds.now
+      kept = kept_on_instructions m p.feeding c.args.interface.now g.reset g.steady.now g.offers.now g.accepts.now g.holds.now
           held c.args.values.now c.evaluate.new.values c.args.memories.now r.simulable.runnable part free r.kept by;
       values = all.values;
       evaluated = all.evaluated;

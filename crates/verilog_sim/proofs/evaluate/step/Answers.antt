@@ -8,10 +8,10 @@ use Rattle.verilog_sim.specs.Updates.{IsLoaded}
 use Rattle.verilog_sim.proofs.Updating.{update_safe, load_safe}
 use Rattle.verilog_sim.proofs.Gifting.{given_inputs}
 use Rattle.verilog_sim.proofs.Clocking.{update_small, load_small, clocked}
-use Rattle.verilog_sim.proofs.Evaluated.{loaded_words, loaded_regs, loaded_constants, loaded_ports, kept_on_lines}
+use Rattle.verilog_sim.proofs.Evaluated.{loaded_words, loaded_regs, loaded_constants, loaded_ports, kept_on_instructions}
 use Rattle.verilog_sim.proofs.Answering.{part_of_feeding, no_literal, literal_free}
-use Rattle.verilog_sim.proofs.Compiling.{lines_at}
-use Rattle.verilog_sim.specs.Batches.{lines_of_all}
+use Rattle.verilog_sim.proofs.Compiling.{instructions_at}
+use Rattle.verilog_sim.specs.Batches.{instructions_of_all}
 use Rattle.verilog_sim.proofs.evaluate.step.Goals as goal
 
 pub evaluate-requires : goal.evaluate-requires
@@ -24,8 +24,8 @@ evaluate-requires c =
       c.requires.2,
       part_of_feeding c.requires.0 p.order
           p.edge _ p.ordered p.sees,
-      lines_at c.requires.0 p.edge (lines_of_all c.args.program.now.edge.items)
-          (lines_of_all c.as_slice-batches.result.now) (ap lines_of_all c.as_slice-batches.ensures.value) p.edge_are,
+      instructions_at c.requires.0 p.edge (instructions_of_all c.args.program.now.edge.items)
+          (instructions_of_all c.as_slice-batches.result.now) (ap instructions_of_all c.as_slice-batches.ensures.value) p.edge_are,
     )
 
 pub clock-requires-clause-safe : goal.clock-requires-clause-safe
@@ -34,8 +34,8 @@ clock-requires-clause-safe c =
     let p = c.requires.3 in
     let by = c.evaluate.ensures c.requires.0 p.edge c.args.updates.now c.args.held.now r
     (part_of_feeding c.requires.0 p.order p.edge _ p.ordered p.sees)
-    (lines_at c.requires.0 p.edge (lines_of_all c.args.program.now.edge.items)
-    (lines_of_all c.as_slice-batches.result.now) (ap lines_of_all c.as_slice-batches.ensures.value) p.edge_are) in
+    (instructions_at c.requires.0 p.edge (instructions_of_all c.args.program.now.edge.items)
+    (instructions_of_all c.as_slice-batches.result.now) (ap instructions_of_all c.as_slice-batches.ensures.value) p.edge_are) in
     update_safe c.requires.0 _ _ c.args.updates.now r.simulable.runnable by.settles.nets r.kept.blocks r.updates_are
 
 pub clock-requires-clause-small : goal.clock-requires-clause-small
@@ -44,8 +44,8 @@ clock-requires-clause-small c =
     let p = c.requires.3 in
     let by = c.evaluate.ensures c.requires.0 p.edge c.args.updates.now c.args.held.now r
     (part_of_feeding c.requires.0 p.order p.edge _ p.ordered p.sees)
-    (lines_at c.requires.0 p.edge (lines_of_all c.args.program.now.edge.items)
-    (lines_of_all c.as_slice-batches.result.now) (ap lines_of_all c.as_slice-batches.ensures.value) p.edge_are) in
+    (instructions_at c.requires.0 p.edge (instructions_of_all c.args.program.now.edge.items)
+    (instructions_of_all c.as_slice-batches.result.now) (ap instructions_of_all c.as_slice-batches.ensures.value) p.edge_are) in
     update_small c.requires.0 c.args.program.now.narrow c.args.updates.now r.simulable.runnable r.updates_are p.narrow c.evaluate.new.values by.settles.words
 
 pub clock-requires-clause-held : goal.clock-requires-clause-held
@@ -54,8 +54,8 @@ clock-requires-clause-held c =
     let p = c.requires.3 in
     let by = c.evaluate.ensures c.requires.0 p.edge c.args.updates.now c.args.held.now r
     (part_of_feeding c.requires.0 p.order p.edge _ p.ordered p.sees)
-    (lines_at c.requires.0 p.edge (lines_of_all c.args.program.now.edge.items)
-    (lines_of_all c.as_slice-batches.result.now) (ap lines_of_all c.as_slice-batches.ensures.value) p.edge_are) in
+    (instructions_at c.requires.0 p.edge (instructions_of_all c.args.program.now.edge.items)
+    (instructions_of_all c.as_slice-batches.result.now) (ap instructions_of_all c.as_slice-batches.ensures.value) p.edge_are) in
     r.kept.held_nets ∙ sym by.settles.nets
 
 pub load-requires : goal.load-requires
@@ -63,11 +63,11 @@ load-requires c =
     let m = c.requires.0 in
     let r = c.requires.2 in
     let p = c.requires.3 in
-    let g = c.args.given.now in
+    let g = c.args.stimulus.now in
     let by = c.evaluate.ensures c.requires.0 p.edge c.args.updates.now c.args.held.now r
     (part_of_feeding c.requires.0 p.order p.edge _ p.ordered p.sees)
-    (lines_at c.requires.0 p.edge (lines_of_all c.args.program.now.edge.items)
-    (lines_of_all c.as_slice-batches.result.now) (ap lines_of_all c.as_slice-batches.ensures.value) p.edge_are) in
+    (instructions_at c.requires.0 p.edge (instructions_of_all c.args.program.now.edge.items)
+    (instructions_of_all c.as_slice-batches.result.now) (ap instructions_of_all c.as_slice-batches.ensures.value) p.edge_are) in
     let now = clocked m p.order p.edge c.args.updates.now c.args.interface.now g.reset g.steady.now g.offers.now
     g.accepts.now g.holds.now c.args.held.now c.args.values.now c.evaluate.new.values c.clock.new.held
     c.args.memories.now c.clock.new.memories
@@ -83,15 +83,15 @@ load-requires c =
 pub returns : goal.returns
 returns c = λ m net r p.
     let k = r.kept in
-    let g = c.args.given.now in
+    let g = c.args.stimulus.now in
     let run = r.simulable.runnable in
     let part = part_of_feeding m p.order p.edge _ p.ordered p.sees in
     let wires : (i : ℕ) (q : Port) → slice_get m.ports i ≡ Some q → is_reg m q.net ≡ false = λ i q at. (r.simulable.formed i q at).wire in
     let by = c.evaluate.ensures m p.edge c.args.updates.now c.args.held.now r part
-    (lines_at m p.edge (lines_of_all c.args.program.now.edge.items) (lines_of_all c.as_slice-batches.result.now)
-    (ap lines_of_all c.as_slice-batches.ensures.value) p.edge_are) in
+    (instructions_at m p.edge (instructions_of_all c.args.program.now.edge.items) (instructions_of_all c.as_slice-batches.result.now)
+    (ap instructions_of_all c.as_slice-batches.ensures.value) p.edge_are) in
     let free = literal_free m p.edge run part (no_literal p.order p.edge _ p.sees) in
-    let before = kept_on_lines m p.edge c.args.interface.now g.reset g.steady.now g.offers.now g.accepts.now
+    let before = kept_on_instructions m p.edge c.args.interface.now g.reset g.steady.now g.offers.now g.accepts.now
     g.holds.now c.args.held.now c.args.values.now c.evaluate.new.values c.args.memories.now run part free k by in
     let wrote = c.clock.ensures m k.words.depths in
     let now = clocked m p.order p.edge c.args.updates.now c.args.interface.now g.reset g.steady.now g.offers.now

@@ -1,6 +1,6 @@
 use Rattle.std.specs.Prelude.{slice_get}
 use Rattle.std.proofs.Common.{◌≡◌, ◌<◌, ◌-◌, ℕ, Some, List, length, refl, sym, ap, ◌∙◌, subst, arith}
-use Rattle.verilog_sim.specs.declared.place.Place.{Place}
+use Rattle.verilog_sim.specs.declared.scope.Scope.{Scope}
 use Rattle.verilog_sim.specs.Flattened.{AreFlattened}
 use Rattle.verilog_sim.proofs.Placed.{placed_of}
 use Rattle.verilog_sim.proofs.Flattening.{ranged_of, top_room, start_flat, place_is, part_within, part_ranged, part_ports, part_size, part_room, step_flat, step_smaller}
@@ -18,20 +18,20 @@ add-requires-clause-mems c = omega (arith, (top_room c.args.design.now c.require
 pub loop-instance-init : goal.loop-instance-init
 loop-instance-init c =
     let e = c.new-parts.ensures in
-    subst (λ (l : List Place). AreFlattened c.args.design.now c.top-top.result.now c.add.new.self l) (sym c.new-places.ensures.items)
+    subst (λ (l : List Scope). AreFlattened c.args.design.now c.top-top.result.now c.add.new.self l) (sym c.new-scopes.ensures.items)
     (start_flat c.args.design.now c.top-top.result.now c.new-parts.result c.add.new.self e.nets e.mems e.assigns e.updates e.instances c.in_ok-add.ensures)
 
 pub at-part-requires : goal.at-part-requires
 at-part-requires c =
     subst (λ (n : ℕ). n < length c.args.design.now.modules) (sym c.index.ensures.number)
     (part_within c.args.design.now c.requires.accepted c.requires.small c.top-top.result.now
-    c.top-top.ensures c.loop-instance.parts c.loop-instance.places.items
+    c.top-top.ensures c.loop-instance.parts c.loop-instance.scopes.items
     c.loop-instance.invariant c.pop.new.self.items c.in-Some.instance c.in-Some.ensures.items)
 
 pub join-requires-clause-ranged : goal.join-requires-clause-ranged
 join-requires-clause-ranged c =
     part_ranged c.args.design.now c.requires.accepted c.requires.small c.top-top.result.now
-    c.top-top.ensures c.loop-instance.parts c.loop-instance.places.items
+    c.top-top.ensures c.loop-instance.parts c.loop-instance.scopes.items
     c.loop-instance.invariant c.pop.new.self.items c.in-Some.instance
     c.in-Some.ensures.items c.at-part.result.now (subst
     (λ (n : ℕ). slice_get c.args.design.now.modules n
@@ -40,7 +40,7 @@ join-requires-clause-ranged c =
 pub join-requires-clause-nets : goal.join-requires-clause-nets
 join-requires-clause-nets c =
     (part_room c.args.design.now c.requires.accepted c.requires.small c.top-top.result.now
-    c.top-top.ensures c.loop-instance.parts c.loop-instance.places.items
+    c.top-top.ensures c.loop-instance.parts c.loop-instance.scopes.items
     c.loop-instance.invariant c.pop.new.self.items c.in-Some.instance
     c.in-Some.ensures.items c.at-part.result.now (subst
     (λ (n : ℕ). slice_get c.args.design.now.modules n
@@ -49,7 +49,7 @@ join-requires-clause-nets c =
 pub join-requires-clause-mems : goal.join-requires-clause-mems
 join-requires-clause-mems c =
     (part_room c.args.design.now c.requires.accepted c.requires.small c.top-top.result.now
-    c.top-top.ensures c.loop-instance.parts c.loop-instance.places.items
+    c.top-top.ensures c.loop-instance.parts c.loop-instance.scopes.items
     c.loop-instance.invariant c.pop.new.self.items c.in-Some.instance
     c.in-Some.ensures.items c.at-part.result.now (subst
     (λ (n : ℕ). slice_get c.args.design.now.modules n
@@ -58,7 +58,7 @@ join-requires-clause-mems c =
 pub join-requires-clause-ports : goal.join-requires-clause-ports
 join-requires-clause-ports c =
     part_ports c.args.design.now c.requires.accepted c.requires.small c.top-top.result.now
-    c.top-top.ensures c.loop-instance.parts c.loop-instance.places.items
+    c.top-top.ensures c.loop-instance.parts c.loop-instance.scopes.items
     c.loop-instance.invariant c.pop.new.self.items c.in-Some.instance
     c.in-Some.ensures.items c.at-part.result.now (subst
     (λ (n : ℕ). slice_get c.args.design.now.modules n
@@ -68,7 +68,7 @@ pub join-requires-clause-joined : goal.join-requires-clause-joined
 join-requires-clause-joined c =
     ap length c.as_slice.ensures
     ∙ part_size c.args.design.now c.requires.accepted c.requires.small c.top-top.result.now
-    c.top-top.ensures c.loop-instance.parts c.loop-instance.places.items
+    c.top-top.ensures c.loop-instance.parts c.loop-instance.scopes.items
     c.loop-instance.invariant c.pop.new.self.items c.in-Some.instance
     c.in-Some.ensures.items c.at-part.result.now (subst
     (λ (n : ℕ). slice_get c.args.design.now.modules n
@@ -77,7 +77,7 @@ join-requires-clause-joined c =
 pub loop-instance-smaller : goal.loop-instance-smaller
 loop-instance-smaller c =
     step_smaller c.args.design.now c.requires.accepted c.requires.small c.top-top.result.now
-    c.top-top.ensures c.loop-instance.parts c.loop-instance.places.items
+    c.top-top.ensures c.loop-instance.parts c.loop-instance.scopes.items
     c.loop-instance.invariant c.pop.new.self.items c.in-Some.instance
     c.in-Some.ensures.items c.at-part.result.now (subst
     (λ (n : ℕ). slice_get c.args.design.now.modules n
@@ -93,9 +93,9 @@ loop-instance-smaller c =
 
 pub loop-instance-preserved : goal.loop-instance-preserved
 loop-instance-preserved c =
-    subst (λ (l : List Place). AreFlattened c.args.design.now c.top-top.result.now c.join.new.self l) (sym c.in_ok-push.ensures.items)
+    subst (λ (l : List Scope). AreFlattened c.args.design.now c.top-top.result.now c.join.new.self l) (sym c.in_ok-push.ensures.items)
     (step_flat c.args.design.now c.requires.accepted c.requires.small c.top-top.result.now
-    c.top-top.ensures c.loop-instance.parts c.loop-instance.places.items
+    c.top-top.ensures c.loop-instance.parts c.loop-instance.scopes.items
     c.loop-instance.invariant c.pop.new.self.items c.in-Some.instance
     c.in-Some.ensures.items c.at-part.result.now (subst
     (λ (n : ℕ). slice_get c.args.design.now.modules n

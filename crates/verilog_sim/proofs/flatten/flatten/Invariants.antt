@@ -6,7 +6,7 @@ use Rattle.verilog_sim.specs.Flattened.{AreFlattened}
 use Rattle.verilog_sim.proofs.flatten.flatten.Given as goal
 
 abbrev pub invariant-loop-instance : goal.invariant-loop-instance
-invariant-loop-instance l = AreFlattened l.design l.top l.parts l.places.items
+invariant-loop-instance l = AreFlattened l.design l.top l.parts l.scopes.items
 
 -- the cells of all instances that have not yet become parts
 abbrev pub decreases-loop-instance : goal.decreases-loop-instance

@@ -4,12 +4,12 @@ use Rattle.std.specs.List.{All}
 use Rattle.std.proofs.lemmas.Option.{slice_get_read}
 use Rattle.std.proofs.lemmas.List.{take_more, take_all, get_or_append_left, get_or-append-add}
 use Rattle.verilog_sim.specs.declared.batch.Batch.{Batch}
-use Rattle.verilog_sim.specs.declared.line.Line.{Line}
-use Rattle.verilog_sim.specs.Lines.{IsSafe}
-use Rattle.verilog_sim.specs.Compiled.{AreLinesOf}
-use Rattle.verilog_sim.specs.Batches.{lines_in, lines_of_all}
+use Rattle.verilog_sim.specs.declared.instruction.Instruction.{Instruction}
+use Rattle.verilog_sim.specs.Instructions.{IsSafe}
+use Rattle.verilog_sim.specs.Compiled.{AreInstructionsOf}
+use Rattle.verilog_sim.specs.Batches.{instructions_in, instructions_of_all}
 use Rattle.verilog_sim.specs.Settled.{Progress}
-use Rattle.verilog_sim.proofs.Batching.{lines_around, lines_more}
+use Rattle.verilog_sim.proofs.Batching.{instructions_around, instructions_more}
 use Rattle.verilog_sim.proofs.InOrder.{at_start, at_last}
 use Rattle.verilog_sim.proofs.settle.settle.Goals as goal
 
@@ -26,11 +26,11 @@ settle_batch-requires c =
     let i = c.loop-batch.batch-index in
     let b = c.batch-item.result in
     let at : slice_get batches i ≡ Some b = slice_get_read batches (length batches) i b refl c.loop-batch-test.true c.batch-item.is in
-    let around = lines_around batches i b at in
+    let around = instructions_around batches i b at in
     rw c.loop-batch.invariant.0
     (record {
       safe = middle (IsSafe (length c.args.values.now) (length c.args.memories.now))
-          (lines_of_all (take i batches)) (lines_in b) around.0
+          (instructions_of_all (take i batches)) (instructions_in b) around.0
           (subst (All (IsSafe (length c.args.values.now)
           (length c.args.memories.now))) around.1 c.requires.safe);
     })
@@ -46,24 +46,26 @@ loop-batch-preserved c = (
       let i = c.loop-batch.batch-index in
       let b = c.batch-item.result in
       let at : slice_get batches i ≡ Some b = slice_get_read batches (length batches) i b refl c.loop-batch-test.true c.batch-item.is in
-      let around = lines_around batches i b at in
-      let parts = subst (AreLinesOf m assigns) around.1 are in
-      let more : lines_of_all (take (i + 1) batches) ≡ lines_of_all (take i batches)
-      ++ lines_in b = ap lines_of_all (take_more batches i b c.loop-batch-test.true ∙ ap
+      let around = instructions_around batches i b at in
+      let parts = subst (AreInstructionsOf m assigns) around.1 are in
+      let more : instructions_of_all (take (i + 1) batches) ≡ instructions_of_all (take i batches)
+      ++ instructions_in b = ap instructions_of_all (take_more batches i b c.loop-batch-test.true ∙ ap
       (λ (x : Batch). take i batches ++ x
-      ∷ []) (sym c.batch-item.is)) ∙ lines_more (take i batches) b in
-      let done = c.settle_batch.ensures.advances m assigns c.args.values.now (lines_of_all (take i batches)) around.0 parts o h (c.loop-batch.invariant.1 m assigns are o h) in
-      subst (λ (ls : List Line). Progress m assigns c.args.memories.now c.args.values.now c.settle_batch.new.values (length ls)) (sym more) done,
+      ∷ []) (sym c.batch-item.is)) ∙ instructions_more (take i batches) b in
+      let done = c.settle_batch.ensures.advances m assigns c.args.values.now (instructions_of_all (take i batches)) around.0 parts o h (c.loop-batch.invariant.1 m assigns are o h) in
+      subst (λ (ls : List Instruction). Progress m assigns c.args.memories.now c.args.values.now c.settle_batch.new.values (length ls)) (sym more) done,
 )
 
 pub returns : goal.returns
 returns c = λ m assigns are o h.
     let batches = c.args.batches.now in
-    let all : lines_of_all batches ≡ lines_of_all (take c.loop-batch.batch-index batches) = ap lines_of_all (sym (take_all c.loop-batch.batch-index batches c.loop-batch-test.false)) in
+    let all : instructions_of_all batches ≡ instructions_of_all
+    (take c.loop-batch.batch-index batches) = ap instructions_of_all
+    (sym (take_all c.loop-batch.batch-index batches c.loop-batch-test.false)) in
     let size = ap length all in
     at_last m assigns c.args.memories.now
-    (lines_of_all batches) c.args.values.now c.loop-batch.values
-    (length (lines_of_all (take c.loop-batch.batch-index batches))) are (omega (
+    (instructions_of_all batches) c.args.values.now c.loop-batch.values
+    (length (instructions_of_all (take c.loop-batch.batch-index batches))) are (omega (
       arith,
       size,
     )) (c.loop-batch.invariant.1 m assigns are o h)

@@ -95,7 +95,7 @@ returns-clause-edge c = λ m e.
     × (length c.args.events.now ≡ length st.outer.inputs + length st.outer.outputs)) (sym c.self.view_is)
     (c.requires.offers, c.requires.accepts, c.requires.holds, c.requires.events) in
     subst (λ (st : State). IsEdge m c.args.offers.now c.args.accepts.now c.args.holds.now st
-    (state x.design.now x.interface.now x.places.items x.steady.items (with_items x.held c.step.new.held).items
+    (state x.design.now x.interface.now x.scopes.items x.steady.items (with_items x.held c.step.new.held).items
     (with_items x.memories c.step.new.memories).items) c.tell.new.events) c.self.view_is
     (edge_is s m c.args.offers.now c.args.accepts.now c.args.holds.now (with_items x.held c.step.new.held).items
     c.step.new.values (with_items x.memories c.step.new.memories).items c.tell.new.events top lengths.0 lengths.1

@@ -8,7 +8,7 @@ use Rattle.rtl_ir.specs.declared.interface.Interface.{Interface}
 use Rattle.rtl_ir.specs.declared.interface.KernelPorts.{KernelPorts}
 use Rattle.rtl_ir.specs.declared.interface.ScalarPort.{ScalarPort}
 use Rattle.rtl_ir.specs.Interfaces.{IsInterface, nets_of, shape_of}
-use Rattle.verilog_sim.specs.declared.place.Place.{Place}
+use Rattle.verilog_sim.specs.declared.scope.Scope.{Scope}
 use Rattle.verilog_sim.specs.Flattened.{IsFlat}
 use Rattle.verilog_sim.proofs.Counting.{outer_once}
 use Rattle.verilog_sim.proofs.Gifting.{done_below}
@@ -61,7 +61,7 @@ at_origins-requires-clause-small c = omega (
 )
 
 -- the ports that are read are those of the top module of the flat one
-is_interface : {d : Design} {n : Module} {ss : List Place} {m : Module} (i : Interface) → (f : IsFlat d ss n)
+is_interface : {d : Design} {n : Module} {ss : List Scope} {m : Module} (i : Interface) → (f : IsFlat d ss n)
     → top_of d ≡ Some m → IsInterface m i → IsInterface f.top i
 is_interface i f e is = let g = f.is_top in subst (λ (x : Module). IsInterface x i) (cc) is
 
@@ -177,13 +177,13 @@ pub returns-clause-filled : goal.returns-clause-filled
 returns-clause-filled c = λ m e.
     let f = c.in_ok-flat.ensures in
     let same : f.top ≡ m = (let g = f.is_top in cc) in
-    let at = parts_say (top_of c.args.design.now) c.in_ok-flat.flat.places.items c.in_ok-held.held.items
+    let at = parts_say (top_of c.args.design.now) c.in_ok-flat.flat.scopes.items c.in_ok-held.held.items
     c.in_ok-memories.field-0.items ∙ contents_filled c.args.design.now c.requires.accepted
-    c.in_ok-flat.flat.places.items c.in_ok-flat.flat.«module» f c.args.fill c.in_ok-held.held.items
+    c.in_ok-flat.flat.scopes.items c.in_ok-flat.flat.«module» f c.args.fill c.in_ok-held.held.items
     c.in_ok-memories.field-0.items (held_flat c.args.fill c.in_ok-module.ensures c.in_ok-held.ensures)
     (memories_flat c.args.fill c.in_ok-module.ensures c.in_ok-memories.ensures) in
     subst (λ (x : Module). IsFilled x c.args.fill (held_at
-    (parts_of (top_of c.args.design.now) c.in_ok-flat.flat.places.items c.in_ok-held.held.items
+    (parts_of (top_of c.args.design.now) c.in_ok-flat.flat.scopes.items c.in_ok-held.held.items
     c.in_ok-memories.field-0.items) [])) same
     (subst (λ (u : AllContents). IsFilled f.top c.args.fill (u [])) (sym at) (part_filled f.top c.args.fill))
 
@@ -191,8 +191,8 @@ pub returns-clause-start : goal.returns-clause-start
 returns-clause-start c = λ m e.
     let f = c.in_ok-flat.ensures in
     let same : f.top ≡ m = (let g = f.is_top in cc) in
-    parts_say (top_of c.args.design.now) c.in_ok-flat.flat.places.items c.in_ok-held.held.items c.in_ok-memories.field-0.items
-    ∙ contents_filled c.args.design.now c.requires.accepted c.in_ok-flat.flat.places.items c.in_ok-flat.flat.«module» f
+    parts_say (top_of c.args.design.now) c.in_ok-flat.flat.scopes.items c.in_ok-held.held.items c.in_ok-memories.field-0.items
+    ∙ contents_filled c.args.design.now c.requires.accepted c.in_ok-flat.flat.scopes.items c.in_ok-flat.flat.«module» f
     c.args.fill c.in_ok-held.held.items c.in_ok-memories.field-0.items
     (held_flat c.args.fill c.in_ok-module.ensures c.in_ok-held.ensures)
     (memories_flat c.args.fill c.in_ok-module.ensures c.in_ok-memories.ensures)
@@ -202,12 +202,12 @@ pub returns-clause-words : goal.returns-clause-words
 returns-clause-words c = λ m e.
     let f = c.in_ok-flat.ensures in
     let same : f.top ≡ m = (let g = f.is_top in cc) in
-    let at = parts_say (top_of c.args.design.now) c.in_ok-flat.flat.places.items c.in_ok-held.held.items
+    let at = parts_say (top_of c.args.design.now) c.in_ok-flat.flat.scopes.items c.in_ok-held.held.items
     c.in_ok-memories.field-0.items ∙ contents_filled c.args.design.now c.requires.accepted
-    c.in_ok-flat.flat.places.items c.in_ok-flat.flat.«module» f c.args.fill c.in_ok-held.held.items
+    c.in_ok-flat.flat.scopes.items c.in_ok-flat.flat.«module» f c.args.fill c.in_ok-held.held.items
     c.in_ok-memories.field-0.items (held_flat c.args.fill c.in_ok-module.ensures c.in_ok-held.ensures)
     (memories_flat c.args.fill c.in_ok-module.ensures c.in_ok-memories.ensures) in
     subst (λ (x : Module). AllHold c.args.design.now x (λ p. held_at
-    (parts_of (top_of c.args.design.now) c.in_ok-flat.flat.places.items c.in_ok-held.held.items
+    (parts_of (top_of c.args.design.now) c.in_ok-flat.flat.scopes.items c.in_ok-held.held.items
     c.in_ok-memories.field-0.items) p)) same
     (subst (AllHold c.args.design.now f.top) (sym at) (all_words c.args.design.now f.top c.args.fill))

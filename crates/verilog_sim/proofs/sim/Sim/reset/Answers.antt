@@ -58,6 +58,6 @@ returns-clause-edge c = λ m e.
     c.step.new.held (with_items x.held c.step.new.held).items c.step.new.memories
     (with_items x.memories c.step.new.memories).items done.1 c.as_slice.ensures.value c.as_mut_slice.ensures.value
     c.as_mut_slice-2.ensures.value held memories in
-    subst (λ (st : State). IsResetEdge m st (state x.design.now x.interface.now x.places.items x.steady.items
+    subst (λ (st : State). IsResetEdge m st (state x.design.now x.interface.now x.scopes.items x.steady.items
     (with_items x.held c.step.new.held).items (with_items x.memories c.step.new.memories).items)) c.self.view_is
     (reset_is s m (with_items x.held c.step.new.held).items c.step.new.values (with_items x.memories c.step.new.memories).items top stepped)

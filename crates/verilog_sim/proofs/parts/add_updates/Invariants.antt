@@ -1,6 +1,0 @@
-use Rattle.std.proofs.Common.{◌≡◌, ◌++◌, map, take}
-use Rattle.verilog_sim.specs.Moved.{moved_update}
-use Rattle.verilog_sim.proofs.parts.add_updates.Given as goal
-
-abbrev pub invariant-loop-update : goal.invariant-loop-update
-invariant-loop-update l = l.updates.items ≡ l.fn.updates.items ++ map (moved_update l.first.net l.first.mem) (take l.update-index l.more)
