@@ -36,7 +36,8 @@ use Rattle.cycle_find.specs.Constraints.{Numbers, EndsInRange}
 use Rattle.schedule_problem.specs.declared.problem.Problem.{Problem}
 use Rattle.fifo_sharing.specs.declared.chain.Chain.{Chain}
 use Rattle.fifo_sharing.specs.Chains.{IsDelayOf, IsChainOf, AreChains, producers}
-use Rattle.fifo_sharing.specs.Delays.{AreDelays, AreChainsBelow}
+use Rattle.fifo_sharing.specs.Delays.{AreDelays}
+use Rattle.fifo_sharing.proofs.Delays.{AreChainsBelow}
 
 -- a rising list stays so where a greater number is added
 pub rising_more : (xs : List ℕ) (x : ℕ) → IsStrictlyIncreasing xs → All (λ y. y < x) xs

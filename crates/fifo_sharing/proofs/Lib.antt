@@ -1,3 +1,4 @@
+pub mod Delays
 pub mod Collecting
 pub mod Tapping
 pub mod Gathering

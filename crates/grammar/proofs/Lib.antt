@@ -1,3 +1,4 @@
+pub mod Stack
 pub mod Leftmost
 pub mod Reading
 pub mod Completing

@@ -29,10 +29,6 @@ IsText Skips token_of Apart bytes ts = Reads Skips token_of Apart bytes ts []
 abbrev pub is_blank : ℕ → Bool
 is_blank b = b == 32 || (b == 9 || (b == 10 || (b == 12 || b == 13)))
 
--- white space alone
-pub data Blanks : List ℕ → List ℕ → Type 0 where
-  blank : {rest : List ℕ} (b : ℕ) → is_blank b ≡ true → Blanks (b ∷ []) rest
-
 -- the end of the text or a line feed
 abbrev pub EndsLine : List ℕ → Type 0
 EndsLine rest = (rest ≡ []) ⊎ ((back : List ℕ) × (rest ≡ 10 ∷ back))

@@ -1,3 +1,5 @@
+pub mod Nodes
+pub mod Typing
 pub mod Reversed
 pub mod Kept
 pub mod Later

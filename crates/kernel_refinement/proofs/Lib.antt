@@ -1,3 +1,4 @@
+pub mod Sum
 mod Claims
 pub mod Direct
 pub mod Parting

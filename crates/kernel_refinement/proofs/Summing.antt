@@ -49,7 +49,8 @@ use Rattle.kernel_control.specs.Refines.{TimedRun, is_active, advances}
 use Rattle.rtl_delays.specs.Extends.{AllOff}
 use Rattle.kernel_control.specs.IsControl.{ControlAt}
 use Rattle.kernel_refinement.specs.Built.{is_shown, NodeBuilt, OutputBuilt, IsBuilt}
-use Rattle.kernel_refinement.specs.Sum.{sum_nodes, sum_ticks, sum_times, sum_module, sum_nets_of, sum_layout}
+use Rattle.kernel_refinement.specs.Sum.{sum_nodes, sum_times, sum_module, sum_nets_of}
+use Rattle.kernel_refinement.proofs.Sum.{sum_ticks, sum_layout}
 
 -- ---- a register is a delay of one advance
 

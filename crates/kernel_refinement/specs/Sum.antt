@@ -36,7 +36,6 @@ use Rattle.stream_graph.specs.declared.node.Kind.{Kind}
 use Rattle.stream_graph.specs.declared.node.Kind.TheVariants as K
 use Rattle.stream_graph.specs.declared.node.Node.{Node}
 use Rattle.kernel_control.specs.Ports.{ModuleNets}
-use Rattle.kernel_refinement.specs.Built.{Layout}
 
 -- a node without a control
 abbrev pub node : ℕ → Kind → List ℕ → Node
@@ -56,10 +55,6 @@ sum_nodes w =
     ∷ node w (K.Operation ops.Add Truncate 0) (0 ∷ 2 ∷ [])
     ∷ node w K.Output (3 ∷ [])
     ∷ []
-
--- the latency of the sum is 1
-abbrev pub sum_ticks : ℕ → ℕ
-sum_ticks n = if nat_eq n 3 then 1 else 0
 
 -- the feed and the output come one advance later
 abbrev pub sum_times : ℕ → ℕ
@@ -149,20 +144,4 @@ sum_nets_of = record {
   outputs = record { node = 4; channel = record { word = 7; valid = 8; ready = 9 } } ∷ [];
   ended = 10;
   position = 11;
-}
-
--- the sum reads the input and the sum one advance ago; the feed and the output read the latter
-abbrev pub sum_taps : ℕ → List ℕ
-sum_taps n =
-    if nat_eq n 3 then 4 ∷ 12 ∷ []
-    else if nat_eq n 1 then 12 ∷ []
-    else if nat_eq n 4 then 12 ∷ []
-    else []
-
--- the sum comes after the input and the feed
-abbrev pub sum_layout : Layout
-sum_layout = record {
-  net = λ n. if nat_eq n 0 then 4 else if nat_eq n 3 then 13 else 12;
-  taps = sum_taps;
-  rank = λ n. if nat_eq n 3 then 1 else 0;
 }

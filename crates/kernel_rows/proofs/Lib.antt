@@ -1,3 +1,5 @@
+pub mod KernelArgs
+pub mod Filling
 pub mod DigitBits
 pub mod LiteralBits
 mod NextOperand

@@ -56,11 +56,6 @@ IsGrown of sizes old new (Ok value) =
     new_array of sizes old ≡ record { values = value ∷ []; arrays = new }
 IsGrown of sizes old new (Err e) = Unit {0}
 
--- the numbers that values are, and those that come before others
-abbrev pub numbers_before : List ℤ → Option (List ℤ) → Option (List ℤ)
-numbers_before numbers None = None
-numbers_before numbers (Some rest) = Some (numbers ++ rest)
-
 -- the numbers are these, or a value is none; want of memory says nothing of it
 abbrev pub AreNumbers : ℕ → Option (List ℤ) → Result (List ℤ) EvalError → Type 0
 AreNumbers at numbers (Ok found) = numbers ≡ Some found

@@ -1,5 +1,5 @@
 -- The arguments of a kernel that is added, against those of the meaning.
-use Rattle.std.specs.Prelude.{◌≡◌, ◌++◌, ℕ, List, Option, Some, None, Result, Ok, Err}
+use Rattle.std.specs.Prelude.{◌≡◌, ℕ, List, Option, Some, None, Result, Ok, Err}
 use Rattle.kernel_meaning.specs.declared.plan.Arg.{Arg}
 use Rattle.kernel_meaning.specs.declared.plan.Arg.TheVariants as A
 use Rattle.kernel_meaning.specs.declared.value.Value.{Value}
@@ -13,11 +13,6 @@ arg_of (V.Int n) = Some (A.Int n)
 arg_of (V.Flag b) = Some (A.Flag b)
 arg_of (V.«Type» t) = Some (A.Stream t)
 arg_of _ = None
-
--- these arguments stand before those of the rest
-abbrev pub args_before : List Arg → Option (List Arg) → Option (List Arg)
-args_before args None = None
-args_before args (Some rest) = Some (args ++ rest)
 
 -- the arguments are these, or a value is none; want of memory says nothing of it
 abbrev pub AreArgs : ℕ → Option (List Arg) → Result (List Arg) EvalError → Type 0

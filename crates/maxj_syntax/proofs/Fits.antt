@@ -1,7 +1,8 @@
 -- The table passes the test of a grammar whose choice the next token tells.
 use Rattle.std.proofs.Common.{◌≡◌, ℕ, List, [], ◌∷◌, Bool, true, false, ◌&&◌, ◌||◌, if◌then◌else◌, Option, Some, None, refl, sym, ap, subst, ◌∙◌, bit_or, ◌⊎◌, inl, inr}
 use Rattle.std.specs.Str.{bytes_eq}
-use Rattle.grammar.specs.Stack.{all_empty, may_all, Predicts, AllFollow}
+use Rattle.grammar.specs.Stack.{all_empty, may_all}
+use Rattle.grammar.proofs.Stack.{Predicts, AllFollow}
 use Rattle.maxj_syntax.specs.declared.level.Level.{Level}
 use Rattle.maxj_syntax.specs.declared.kind.Kind.{Kind}
 use Rattle.maxj_syntax.specs.declared.symbol.TokenClass.{TokenClass}
@@ -23,8 +24,10 @@ use Rattle.maxj_syntax.specs.Lookahead.{first, nullable, peek, weight}
 use Rattle.maxj_syntax.specs.Choosing.{has, within, apart, implies, set_of, Among, Is, Choice}
 use Rattle.maxj_syntax.specs.Choosing.{begins, empties, goes_on, all_begin, may, peeks, admits}
 use Rattle.maxj_syntax.specs.Choosing.{pick, kind_at, name_next, choose, is_otherwise, is_last}
-use Rattle.maxj_syntax.specs.Choosing.{covers, ordered, follows, choice_fits, choices_fit, nameless}
-use Rattle.maxj_syntax.specs.Choosing.{lighter, named_choices, named_guards, named_first}
+use Rattle.maxj_syntax.specs.Choosing.{covers, ordered, follows}
+use Rattle.maxj_syntax.proofs.Choosing.{choice_fits, choices_fit, nameless}
+use Rattle.maxj_syntax.specs.Choosing.{named_choices, named_guards, named_first}
+use Rattle.maxj_syntax.proofs.Choosing.{lighter}
 use Rattle.maxj_syntax.specs.Choosing.{named_nullable, named_peek, named_weight, binds, bound}
 use Rattle.maxj_syntax.specs.Choosing.{begins_member, member_choices, member_guards}
 use Rattle.text_scan.proofs.ByteTests.{or_true, clash, not_true, bytes_same, bytes_refl}

@@ -1,3 +1,4 @@
+pub mod Choosing
 pub mod SmallSource
 pub mod KindLemmas
 pub mod ClassLemmas

@@ -2,7 +2,8 @@
 use Rattle.std.proofs.Common.{◌≡◌, ℕ, ◌+◌, ◌<◌, ◌≤◌, List, [], ◌∷◌, ◌++◌, Bool, true, false, ◌&&◌, if◌then◌else◌, nat_lt, Option, Some, None, refl, sym, ap, subst, ◌∙◌, arith, inl, inr, map, reverse}
 use Rattle.std.proofs.lemmas.Bool.{ltb-true}
 use Rattle.std.proofs.lemmas.List.{reverse-append}
-use Rattle.grammar.specs.Stack.{Runs, Refused, Ends, AllFollow, head_of, all_empty}
+use Rattle.grammar.specs.Stack.{Runs, Refused, Ends, head_of, all_empty}
+use Rattle.grammar.proofs.Stack.{AllFollow}
 use Rattle.grammar.proofs.Leftmost.{starts_from_runs}
 use Rattle.maxj_syntax.specs.declared.build.Builder.{Builder}
 use Rattle.maxj_syntax.specs.declared.symbol.TokenClass.{TokenClass}
@@ -16,7 +17,8 @@ use Rattle.maxj_syntax.specs.Productions.{is_name}
 use Rattle.maxj_syntax.specs.TokenClasses.{Accepts}
 use Rattle.maxj_syntax.specs.Symbols.{Symbol, Mark, Name, Sub, Call, Act, symbol_view}
 use Rattle.maxj_syntax.specs.Symbols as Y
-use Rattle.maxj_syntax.specs.Choosing.{Among, Is, Choice, may, empties, peeks, choose, weigh, chain, lighter, named_choices, named_weight, bound, binds}
+use Rattle.maxj_syntax.specs.Choosing.{Among, Is, Choice, may, empties, peeks, choose, weigh, chain, named_choices, named_weight, bound, binds}
+use Rattle.maxj_syntax.proofs.Choosing.{lighter}
 use Rattle.maxj_syntax.specs.Table.{choices}
 use Rattle.maxj_syntax.specs.Lookahead.{weight}
 use Rattle.maxj_syntax.specs.Steps.{Entry, Below, Goes, read_top, read_below, act_top, act_below}

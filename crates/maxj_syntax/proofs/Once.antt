@@ -1,6 +1,7 @@
 -- The tokens have at most one list of classes.
 use Rattle.std.proofs.Common.{◌≡◌, List, [], ◌∷◌, ◌++◌, Option, Some, refl, sym, subst}
-use Rattle.grammar.specs.Stack.{Runs, AllFollow, Ends, head_of}
+use Rattle.grammar.specs.Stack.{Runs, Ends, head_of}
+use Rattle.grammar.proofs.Stack.{AllFollow}
 use Rattle.grammar.proofs.Leftmost.{starts_from_runs}
 use Rattle.maxj_tokens.specs.Scanning.{PlacedToken}
 use Rattle.maxj_syntax.specs.Tree.{ClassTree}

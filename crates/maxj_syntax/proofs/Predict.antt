@@ -1,6 +1,7 @@
 -- What each step of a parser that looks at one token does to the stack.
 use Rattle.std.proofs.Common.{◌≡◌, List, [], ◌∷◌, ◌++◌, Bool, true, false, ◌&&◌, ◌||◌, Option, Some, None, refl, ap, subst, ◌∙◌, append_assoc, ◌⊎◌, inl, inr}
-use Rattle.grammar.specs.Stack.{Runs, Starts, Leads, Refused, all_empty, may_all, head_of, Predicts, Follow, Ends}
+use Rattle.grammar.specs.Stack.{Runs, Starts, Leads, Refused, all_empty, may_all, head_of, Follow, Ends}
+use Rattle.grammar.proofs.Stack.{Predicts}
 use Rattle.grammar.proofs.Leftmost.{starts_from_runs}
 
 or_true : (a b : Bool) → (a || b) ≡ true → (a ≡ true) ⊎ (b ≡ true)

@@ -1,6 +1,6 @@
 -- The choice that the parser takes at the next token, and what it must know of the rules to take the right one.
 use Rattle.std.specs.Prelude.{◌≡◌, ◌⊎◌, ◌+◌, ◌^◌, ℕ, List, [], ◌∷◌, Bool, true, false, ◌&&◌, Option}
-use Rattle.std.specs.Prelude.{Some, None, if◌then◌else◌, nat_eq, nat_lt, bit_or, bit_and, codes}
+use Rattle.std.specs.Prelude.{Some, None, if◌then◌else◌, nat_eq, bit_or, bit_and, codes}
 use Rattle.std.specs.List.{list_any}
 use Rattle.std.specs.Int.{bit_at}
 use Rattle.std.specs.Str.{bytes_eq}
@@ -260,19 +260,6 @@ abbrev pub follows : ℕ → List Symbol → Bool
 follows on [] = true
 follows on (q ∷ rest) = apart (goes_on q) (all_begin rest) && (implies (all_empty empties rest) (within (goes_on q) on) && follows on rest)
 
--- the choice keeps what is said of a symbol that begins so, may be empty, and goes on so
-abbrev pub choice_fits : ℕ → Bool → ℕ → List Symbol → Bool
-choice_fits begin empty on c = within (all_begin c) begin && (implies (all_empty empties c) empty && follows on c)
-
-abbrev pub choices_fit : ℕ → Bool → ℕ → List (List Symbol) → Bool
-choices_fit begin empty on [] = true
-choices_fit begin empty on (c ∷ cs) = choice_fits begin empty on c && choices_fit begin empty on cs
-
--- no choice begins with a name
-abbrev pub nameless : List (List Symbol) → Bool
-nameless [] = true
-nameless (c ∷ cs) = apart (all_begin c) (set_of (C.Name ∷ [])) && (implies (all_empty empties c) false && nameless cs)
-
 abbrev pub weigh : Symbol → ℕ
 weigh (Sub r) = weight r
 weigh (Call n) = named_weight n
@@ -282,7 +269,3 @@ weigh _ = 0
 abbrev pub chain : List Symbol → ℕ
 chain [] = 0
 chain (q ∷ qs) = if empties q then weigh q + chain qs else weigh q
-
-abbrev pub lighter : ℕ → List (List Symbol) → Bool
-lighter n [] = true
-lighter n (c ∷ cs) = nat_lt (chain c) n && lighter n cs

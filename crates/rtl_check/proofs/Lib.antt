@@ -1,3 +1,4 @@
+pub mod Paths
 pub mod Again
 pub mod Places
 pub mod Feeding

@@ -6,7 +6,7 @@ use Rattle.rtl_ir.specs.declared.design.Assign.{Assign}
 use Rattle.rtl_ir.specs.declared.design.Instance.{Instance}
 use Rattle.rtl_ir.specs.declared.design.Port.{Port}
 use Rattle.rtl_ir.specs.Operands.{IsRead}
-use Rattle.rtl_ir.specs.Rules.{Feeds, Way}
+use Rattle.rtl_ir.specs.Rules.{Way}
 use Rattle.digraph.specs.Graph.{Reads}
 
 -- a way from an input of a module to an output, each by its place among the ports
@@ -17,11 +17,6 @@ pub record PortPath : Type 0 where
 -- the path is in a table, which has for each port the inputs from which there is a way to it
 abbrev pub HasPath : List (List ℕ) → PortPath → Type 0
 HasPath table x = (row : List ℕ) × (n : ℕ) × (slice_get table x.output ≡ Some row) × (slice_get row n ≡ Some x.input)
-
--- in the graph of a module a net reads those that feed it
-pub record IsGraphOf (d : Design) (m : Module) (g : List (List ℕ)) : Type 0 where
-  pub fed : (a b : ℕ) → Reads g b a → Feeds d m a b
-  pub reads : (a b : ℕ) → Feeds d m a b → Reads g b a
 
 -- a graph has these edges more, each from a node that is read to its reader, and no other ones
 pub record Adds (Edge : ℕ → ℕ → Type 0) (old new : List (List ℕ)) : Type 0 where

@@ -22,7 +22,7 @@ use Rattle.rtl_build.specs.Signals.{HasSignal}
 use Rattle.rtl_build.specs.Ports.{HasOutput, with_assign}
 use Rattle.rtl_build.specs.Storage.{with_register, with_memory, with_update, with_cell}
 use Rattle.rtl_delays.specs.Steps.{IsKept, IsSound}
-use Rattle.rtl_delays.specs.Extends.{MayUpdate}
+use Rattle.rtl_delays.proofs.MayUpdate.{MayUpdate}
 use Rattle.rtl_delays.specs.Names.{register_name, memory_name, HasNoPosition, MayName}
 use Rattle.rtl_delays.specs.Names.MayName.{Numbered, Position}
 use Rattle.rtl_delays.specs.Ordered.{IsOrdered}

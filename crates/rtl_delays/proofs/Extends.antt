@@ -20,7 +20,8 @@ use Rattle.rtl_build.specs.Ports.{HasOutput, AddsPort, Drives, with_port, with_a
 use Rattle.rtl_build.specs.Storage.{HasRegister, HasMemory, AddsRegister, AddsMemory, AddsUpdate, ReadsCell, with_register, with_memory, with_update, with_cell}
 use Rattle.rtl_build.proofs.Growing.{in_more, range_in_more, all_in, signal_kept}
 use Rattle.rtl_delays.specs.Steps.{HasUpdate, writes_reg, writes_mem, Apart, UpdatesIn, IsSound}
-use Rattle.rtl_delays.specs.Extends.{Extends, MayUpdate, AllOff, KeepsStill, LeavesFree}
+use Rattle.rtl_delays.specs.Extends.{Extends, AllOff, KeepsStill, LeavesFree}
+use Rattle.rtl_delays.proofs.MayUpdate.{MayUpdate}
 use Rattle.rtl_delays.specs.Names.{memory_name, MayName}
 use Rattle.rtl_delays.specs.Ordered.{IsOrdered}
 use Rattle.rtl_delays.specs.Partial.{IsPartial}

@@ -1,3 +1,4 @@
+pub mod MayUpdate
 pub mod Lists
 pub mod Moves
 pub mod Levels

@@ -18,22 +18,13 @@ use Rattle.std.specs.Prelude.{
 use Rattle.rtl_ir.specs.declared.design.Module.{Module}
 use Rattle.rtl_ir.specs.declared.design.Update.{Update}
 use Rattle.rtl_ir.specs.Value.{Family, Contents, is_reg, depth_of}
-use Rattle.rtl_ir.specs.Typed.{word_width, IsUpdateTyped}
+use Rattle.rtl_ir.specs.Typed.{word_width}
 use Rattle.rtl_ir.specs.Grow.{Grows, Holds}
 use Rattle.rtl_build.specs.declared.signal.Signal.{Signal}
 use Rattle.rtl_build.specs.Signals.{HasSignal}
 use Rattle.rtl_build.specs.Ports.{HasOutput}
 use Rattle.rtl_build.specs.Storage.{HasRegister, HasMemory}
-use Rattle.rtl_delays.specs.Steps.{
-  Step,
-  HasUpdate,
-  writes_reg,
-  writes_mem,
-  IsFree,
-  IsTargetIn,
-  IsKept,
-  IsSound,
-}
+use Rattle.rtl_delays.specs.Steps.{Step, HasUpdate, writes_reg, writes_mem, IsSound}
 use Rattle.rtl_delays.specs.Ordered.{IsOrdered}
 use Rattle.rtl_delays.specs.Partial.{IsPartial}
 
@@ -55,16 +46,6 @@ pub record Extends (old new : Module) : Type 0 where
   pub updated : (u : Update) → HasUpdate old u → HasUpdate new u
   pub ordered : IsOrdered old → IsOrdered new
   pub partial : IsPartial old → IsPartial new
-
--- An update that may be added: in range and typed, of a register or a memory that nothing writes
--- yet.
-pub record MayUpdate (m : Module) (u : Update) : Type 0 where
-  pub free : IsFree m.updates u.target
-  pub enable : u.enable < length m.nets
-  pub value : u.value < length m.nets
-  pub target : IsTargetIn (length m.nets) (length m.mems) u.target
-  pub kept : IsKept m u.target
-  pub typed : IsUpdateTyped m u
 
 -- each register of the new module was one of the old one
 abbrev pub AddsNoRegister : Module → Module → Type 0

@@ -11,7 +11,8 @@ use Rattle.stream_graph.specs.declared.node.Node.{Node}
 use Rattle.stream_graph.specs.Graphs.{call_by}
 use Rattle.stream_graph.specs.Parts.{bits_of}
 use Rattle.stream_graph.specs.Nodes.{IsNode}
-use Rattle.stream_graph.specs.Steps.{is_plain_call, MayAdd, Adds}
+use Rattle.stream_graph.specs.Steps.{MayAdd, Adds}
+use Rattle.stream_graph.proofs.Steps.{is_plain_call}
 use Rattle.stream_graph.proofs.Facts.{made_below, few_digits}
 use Rattle.stream_graph.proofs.Growing.{one_of, with_operand, with_digit, IsPart, adds_plain, adds_connection, adds_digit}
 

@@ -13,7 +13,8 @@ use Rattle.stream_graph.specs.declared.node.Kind.{Kind}
 use Rattle.stream_graph.specs.declared.node.Kind.TheVariants as K
 use Rattle.stream_graph.specs.declared.node.Node.{Node}
 use Rattle.stream_graph.specs.Nodes.{connected_to, digits_to, place_of, IsKind, type_of, operands_by, digits_by, IsNode}
-use Rattle.stream_graph.specs.Steps.{is_plain_call, WereLawful}
+use Rattle.stream_graph.specs.Steps.{WereLawful}
+use Rattle.stream_graph.proofs.Steps.{is_plain_call}
 
 -- a call of three sorts
 

@@ -13,7 +13,8 @@ use Rattle.stream_graph.specs.declared.node.Kind.TheVariants as K
 use Rattle.stream_graph.specs.declared.node.Node.{Node}
 use Rattle.stream_graph.specs.Parts.{bits_of}
 use Rattle.stream_graph.specs.Nodes.{connected_to, digits_to, place_of, IsNode, AreNodes}
-use Rattle.stream_graph.specs.Steps.{is_plain_call, WereLawful, Adds}
+use Rattle.stream_graph.specs.Steps.{WereLawful, Adds}
+use Rattle.stream_graph.proofs.Steps.{is_plain_call}
 use Rattle.stream_graph.proofs.Facts.{plain_nodes, plain_connected, plain_digits, plain_bits, plain_place, makes_cases, made_below, made_once, unspoken, SameAt, same_node, left_out, place_all}
 
 -- the items of a list with one more

@@ -1,3 +1,4 @@
+pub mod Steps
 mod Adding
 mod Behind
 pub mod CallerLemmas

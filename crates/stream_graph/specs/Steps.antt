@@ -5,7 +5,6 @@ use Rattle.stream_graph.specs.declared.row.Row.{Row}
 use Rattle.stream_graph.specs.declared.row.Row.TheVariants as R
 use Rattle.stream_graph.specs.declared.node.Node.{Node}
 use Rattle.kernel_calls.specs.declared.call.Call.{Call}
-use Rattle.kernel_calls.specs.declared.call.Call.TheVariants as C
 use Rattle.kernel_calls.specs.Calls.{count_of}
 use Rattle.kernel_calls.specs.Laws.{IsLawful}
 use Rattle.stream_graph.specs.Nodes.{one_or_none, AreNodes}
@@ -29,12 +28,6 @@ pub record IsPort (old : Node) (name : List ℕ) (control : Option ℕ) (new : N
   pub operands : new.operands ≡ old.operands ++ one_or_none control
   pub named : new.name ≡ name
   pub digits : new.digits ≡ old.digits
-
--- the call makes a node and changes no other one
-abbrev pub is_plain_call : Call → Bool
-is_plain_call (C.Connect feed value) = false
-is_plain_call (C.ChainDigit chain d) = false
-is_plain_call _ = true
 
 -- each of the calls so far was lawful after those before it
 abbrev pub WereLawful : List Call → Type 0

@@ -6,7 +6,8 @@ use Rattle.std.proofs.lemmas.List.{take-append-drop}
 use Rattle.rtl_ir.specs.declared.design.Module.{Module}
 use Rattle.rtl_ir.specs.Ports.{Shape, PortView, ports_of, is_plain_name}
 use Rattle.top_ports.specs.Shapes.{Name, IsTop, BeginsTop, IsFirstWrong, at_port, too_few}
-use Rattle.top_ports.specs.Roles.{RoleView, clock, reset, hold, ticks, scalar, stream, done, is_plain_role, port_role}
+use Rattle.top_ports.specs.Roles.{RoleView, clock, reset, hold, ticks, scalar, stream, done, port_role}
+use Rattle.top_ports.proofs.Roles.{is_plain_role}
 use Rattle.top_ports.specs.Stages.{StageView, start, after_clock, after_reset, after_hold}
 use Rattle.top_ports.specs.Stages.{after_ticks, after_scalar, after_data, after_valid, after_ready}
 use Rattle.top_ports.specs.Stages.{after_done, from_start, from_clock, from_reset, from_hold}

@@ -20,7 +20,8 @@ use Rattle.rtl_ir.specs.Ports.{is_plain_name}
 use Rattle.rtl_ir.specs.Run.{Channel, Outer}
 use Rattle.rtl_ir.specs.Value.{width_of}
 use Rattle.top_ports.specs.Shapes.{Name, IsTop}
-use Rattle.top_ports.specs.Roles.{RoleView, hold, ticks, scalar, stream, done, is_plain_role, is_width, port_role}
+use Rattle.top_ports.specs.Roles.{RoleView, hold, ticks, scalar, stream, done, is_width, port_role}
+use Rattle.top_ports.proofs.Roles.{is_plain_role}
 use Rattle.top_ports.specs.Reading.{role_at, kernel_with, scalar_with, stream_with, kernel_at, scalar_at, stream_at, AreRead}
 use Rattle.top_ports.specs.declared.role.Side.{Side}
 use Rattle.top_ports.specs.declared.role.Side.TheVariants.{Input, Output}

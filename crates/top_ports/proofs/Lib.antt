@@ -1,3 +1,4 @@
+pub mod Roles
 pub mod ByKernel
 pub mod CutLemmas
 pub mod FirstWrong

@@ -7,10 +7,12 @@ use Rattle.std.proofs.lemmas.List.{append_assoc}
 use Rattle.rtl_ir.specs.Ports.{PortView, is_plain_name}
 use Rattle.top_ports.specs.Shapes.{Name}
 use Rattle.top_ports.specs.Roles.{RoleView, clock, reset, hold, ticks, scalar, stream, done}
-use Rattle.top_ports.specs.Roles.{role_name, is_plain_role, is_output, is_width, HasRole, cut}
+use Rattle.top_ports.specs.Roles.{is_output, is_width, cut}
+use Rattle.top_ports.proofs.Roles.{role_name, is_plain_role, HasRole}
 use Rattle.top_ports.specs.Roles.{lone_role, kernel_role, side_of, part_of, of_side_and_part}
 use Rattle.top_ports.specs.Roles.{inner_role, behind, plain_behind, cut_role, name_role, same_bit}
-use Rattle.top_ports.specs.Roles.{fits, fitting, port_role, side_front, part_back}
+use Rattle.top_ports.specs.Roles.{fits, fitting, port_role}
+use Rattle.top_ports.proofs.Roles.{side_front, part_back}
 use Rattle.top_ports.specs.declared.role.Side.{Side}
 use Rattle.top_ports.specs.declared.role.Side.TheVariants.{Input, Output}
 use Rattle.top_ports.specs.declared.role.Part.{Part}

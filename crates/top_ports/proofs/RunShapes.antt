@@ -6,7 +6,8 @@ use Rattle.std.proofs.lemmas.Bool.{and_parts, and_from, eqb-true}
 use Rattle.std.proofs.lemmas.List.{append_assoc, append-nil}
 use Rattle.rtl_ir.specs.Ports.{Shape, PortView, kernel_ports, shape_ports, is_plain_name}
 use Rattle.top_ports.specs.Shapes.{Name, IsTopShape}
-use Rattle.top_ports.specs.Roles.{RoleView, clock, reset, hold, ticks, scalar, stream, done, HasRole, port_role}
+use Rattle.top_ports.specs.Roles.{RoleView, clock, reset, hold, ticks, scalar, stream, done, port_role}
+use Rattle.top_ports.proofs.Roles.{HasRole}
 use Rattle.top_ports.specs.Stages.{StageView, start, after_clock, after_reset, after_hold}
 use Rattle.top_ports.specs.Stages.{after_ticks, after_scalar, after_data, after_valid, after_ready}
 use Rattle.top_ports.specs.Stages.{after_done, from_start, from_clock, from_reset, from_hold}

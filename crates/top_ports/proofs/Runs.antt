@@ -5,7 +5,8 @@ use Rattle.std.specs.Str.{bytes_eq}
 use Rattle.std.proofs.lemmas.Bool.{and_from, cond-true}
 use Rattle.rtl_ir.specs.Ports.{PortView, output_port, is_plain_name}
 use Rattle.top_ports.specs.Shapes.{Name}
-use Rattle.top_ports.specs.Roles.{RoleView, clock, reset, hold, ticks, stream, role_name, is_plain_role, is_output, is_width, HasRole, port_role}
+use Rattle.top_ports.specs.Roles.{RoleView, clock, reset, hold, ticks, stream, is_output, is_width, port_role}
+use Rattle.top_ports.proofs.Roles.{role_name, is_plain_role, HasRole}
 use Rattle.top_ports.specs.Stages.{StageView, start, after_clock, after_reset, after_hold, after_ticks, after_scalar, after_data, after_valid, after_ready, after_done, same_side, next, next_of, run}
 use Rattle.top_ports.specs.declared.role.Side.{Side}
 use Rattle.top_ports.specs.declared.role.Side.TheVariants.{Input, Output}

@@ -7,7 +7,8 @@ use Rattle.std.proofs.lemmas.List.Concat.{flat_map-append}
 use Rattle.rtl_ir.specs.declared.design.Module.{Module}
 use Rattle.rtl_ir.specs.Ports.{Shape, PortView, kernel_ports, scalar_ports, host_input_ports, host_output_ports, shape_ports, is_plain_name}
 use Rattle.top_ports.specs.Shapes.{Name, IsTopShape, IsTop}
-use Rattle.top_ports.specs.Roles.{RoleView, clock, reset, hold, ticks, scalar, stream, done, is_plain_role, is_width, port_role}
+use Rattle.top_ports.specs.Roles.{RoleView, clock, reset, hold, ticks, scalar, stream, done, is_width, port_role}
+use Rattle.top_ports.proofs.Roles.{is_plain_role}
 use Rattle.top_ports.proofs.Listed.{kernel_in, scalar_in, input_in, output_in, gathered}
 use Rattle.top_ports.specs.declared.role.Side.{Side}
 use Rattle.top_ports.specs.declared.role.Side.TheVariants.{Input, Output}

@@ -1,5 +1,5 @@
 -- What a port of a top module is, which its name, direction and width say.
-use Rattle.std.specs.Prelude.{◌≡◌, ℕ, [], ◌∷◌, ◌++◌, Option, Some, None, Bool, true, false, not, ◌&&◌, if◌then◌else◌, nat_eq, codes, bytes_eq}
+use Rattle.std.specs.Prelude.{ℕ, [], ◌∷◌, Option, Some, None, Bool, true, false, not, ◌&&◌, if◌then◌else◌, nat_eq, codes, bytes_eq}
 use Rattle.std.specs.Option.{option_copied}
 use Rattle.rtl_ir.specs.Ports.{PortView, is_plain_name}
 use Rattle.top_ports.specs.Shapes.{Name}
@@ -28,35 +28,6 @@ role_view (Ticks k) = ticks k.now
 role_view (Scalar k a) = scalar k.now a.now
 role_view (Stream side part x) = stream side part x.now
 role_view Done = done
-
-abbrev pub side_front : Side → Name
-side_front Input = codes "in$"
-side_front Output = codes "out$"
-
-abbrev pub part_back : Part → Name
-part_back Data = codes "$data"
-part_back Valid = codes "$valid"
-part_back Ready = codes "$ready"
-
--- the name of a port with this role
-abbrev pub role_name : RoleView → Name
-role_name clock = codes "clk"
-role_name reset = codes "reset"
-role_name (hold k) = codes "hold$" ++ k
-role_name (ticks k) = codes "ticks$" ++ k
-role_name (scalar k a) = codes "scalar$" ++ k ++ codes "$" ++ a
-role_name (stream side part x) = side_front side ++ x ++ part_back part
-role_name done = codes "done"
-
--- whether the names within a role are plain
-abbrev pub is_plain_role : RoleView → Bool
-is_plain_role clock = true
-is_plain_role reset = true
-is_plain_role (hold k) = is_plain_name k
-is_plain_role (ticks k) = is_plain_name k
-is_plain_role (scalar k a) = is_plain_name k && is_plain_name a
-is_plain_role (stream side part x) = is_plain_name x
-is_plain_role done = true
 
 abbrev pub is_output_side : Side → Bool
 is_output_side Input = false
@@ -91,13 +62,6 @@ is_width (ticks k) width = nat_eq width 48
 is_width (scalar k a) width = true
 is_width (stream side part x) width = is_part_width part width
 is_width done width = nat_eq width 1
-
--- a port has this role
-pub record HasRole (p : PortView) (r : RoleView) : Type 0 where
-  pub plain : is_plain_role r ≡ true
-  pub name : p.name ≡ role_name r
-  pub width : is_width r p.width ≡ true
-  pub output : p.output ≡ is_output r
 
 -- a name up to its first '$', and what follows that
 pub record CutView : Type 0 where

@@ -1,3 +1,4 @@
+pub mod Printed
 pub mod Connected
 pub mod Instances
 pub mod Known

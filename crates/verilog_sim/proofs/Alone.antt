@@ -9,7 +9,7 @@ use Rattle.rtl_ir.specs.declared.design.Instance.{Instance}
 use Rattle.rtl_ir.specs.Value.{Family}
 use Rattle.rtl_ir.specs.Edge.{Fits, after_edge}
 use Rattle.rtl_ir.specs.Flat.{Path, AllContents, FitsFlat, module_at, after_part, after_flat}
-use Rattle.verilog_sim.specs.ByPath.{alone}
+use Rattle.verilog_sim.proofs.ByPath.{alone}
 
 no_instance : (m : Module) (k : ℕ) → length m.instances ≡ 0 → slice_get m.instances k ≡ None
 no_instance m k e = slice_get_past m.instances k (omega (arith, e))

@@ -14,7 +14,7 @@ use Rattle.rtl_ir.specs.Operands.{target_net, target_mem}
 use Rattle.rtl_ir.specs.Typed.{word_width}
 use Rattle.rtl_ir.specs.Formed.{IsFormedUpdate}
 use Rattle.verilog_sim.specs.Relocation.{relocated_target, relocated_update}
-use Rattle.verilog_sim.specs.ByPath.{cut_family, cut_contents}
+use Rattle.verilog_sim.proofs.ByPath.{cut_family, cut_contents}
 use Rattle.verilog_sim.specs.Start.{filled_part}
 use Rattle.verilog_sim.proofs.Cutting.{IsOutside, AreOutside, Sits, Ranged, cut_at}
 

@@ -17,7 +17,7 @@ use Rattle.rtl_ir.specs.Typed.{word_width}
 use Rattle.rtl_ir.specs.Formed.{IsFormedExpr, IsFormedAssign, IsFormedUpdate}
 use Rattle.rtl_ir.proofs.Ports.{assigned_at, assigned_of}
 use Rattle.verilog_sim.specs.Relocation.{relocated_expr, relocated_assign, relocated_update}
-use Rattle.verilog_sim.specs.ByPath.{cut_family, cut_contents}
+use Rattle.verilog_sim.proofs.ByPath.{cut_family, cut_contents}
 
 -- a target is none of so many nets and memories
 abbrev pub IsOutside : ℕ → ℕ → ℕ → ℕ → Target → Type 0

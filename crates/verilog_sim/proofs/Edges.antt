@@ -27,7 +27,7 @@ use Rattle.verilog_sim.specs.declared.offer.Event.{Event}
 use Rattle.verilog_sim.specs.declared.compile.Program.{Program}
 use Rattle.verilog_sim.specs.declared.scope.Scope.{Scope}
 use Rattle.verilog_sim.specs.Contents.{family_of, contents_of}
-use Rattle.verilog_sim.specs.ByPath.{families_of, contents_by_path}
+use Rattle.verilog_sim.proofs.ByPath.{families_of, contents_by_path}
 use Rattle.verilog_sim.specs.PartLists.{parts_of}
 use Rattle.verilog_sim.specs.State.{State, contents}
 use Rattle.verilog_sim.specs.Gifts.{Every, gifts, AreGiven, AreNetsOf}

@@ -15,7 +15,8 @@ use Rattle.rtl_ir.specs.Rules.{IsAccepted}
 use Rattle.verilog_sim.specs.declared.scope.Scope.{Scope}
 use Rattle.verilog_sim.specs.declared.flatten.Parts.{Parts}
 use Rattle.verilog_sim.specs.Relocation.{bare_net, bare_mem, joins_of, relocated_assign, relocated_update, relocated_instance}
-use Rattle.verilog_sim.specs.Flattened.{IsRanged, IsAdded, IsAddedJoined, AreFlattened, module_of, place_of, start, join}
+use Rattle.verilog_sim.specs.Flattened.{IsRanged, IsAdded, IsAddedJoined, module_of, place_of, start, join}
+use Rattle.verilog_sim.proofs.Flattened.{AreFlattened}
 use Rattle.verilog_sim.specs.Start.{cells_with, cells_after, all_cells}
 use Rattle.verilog_sim.proofs.Sitting.{get_right}
 use Rattle.verilog_sim.proofs.Placed.{IsPlaced, placed_of}

@@ -2,7 +2,7 @@
 use Rattle.std.proofs.Common.{◌≡◌, ℕ, zero, suc, ◌+◌, ◌*◌, ◌%◌, true, List, [], ◌∷◌, length, get_or, set, replicate, refl, ap, arith}
 use mathlib.Core.Path.{fun_ext}
 use Rattle.verilog_sim.specs.Halves.{words}
-use Rattle.verilog_sim.specs.Instructions.{read_by}
+use Rattle.verilog_sim.proofs.Instructions.{read_by}
 
 pub length_words : (low high : List ℕ) → length low ≡ length high → length (words low high) ≡ length low
 length_words [] high e = refl

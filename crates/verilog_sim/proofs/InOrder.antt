@@ -15,7 +15,8 @@ use Rattle.rtl_ir.specs.Operands.{IsRead}
 use Rattle.rtl_ir.proofs.Ports.{value_agrees}
 use Rattle.rtl_ir.proofs.Words.{value_fits}
 use Rattle.verilog_sim.specs.declared.instruction.Instruction.{Instruction}
-use Rattle.verilog_sim.specs.Instructions.{read_by, step_value}
+use Rattle.verilog_sim.specs.Instructions.{step_value}
+use Rattle.verilog_sim.proofs.Instructions.{read_by}
 use Rattle.verilog_sim.specs.Contents.{family_of, contents_of}
 use Rattle.verilog_sim.specs.Compiled.{IsInstructionOf, AreInstructionsOf}
 use Rattle.verilog_sim.specs.Settled.{IsInOrder, AreWords, Settles, Progress}

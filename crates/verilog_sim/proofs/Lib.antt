@@ -1,3 +1,6 @@
+pub mod ByPath
+pub mod Instructions
+pub mod Flattened
 pub mod Step
 pub mod InOrder
 pub mod Writes

@@ -10,7 +10,7 @@ use Rattle.rtl_ir.specs.Value.{Contents}
 use Rattle.rtl_ir.specs.Flat.{Path, AllContents}
 use Rattle.verilog_sim.specs.declared.scope.Scope.{Scope}
 use Rattle.verilog_sim.specs.Contents.{contents_of}
-use Rattle.verilog_sim.specs.ByPath.{cut_contents, no_contents, within_part, contents_before, contents_first, alone_contents, contents_by_path}
+use Rattle.verilog_sim.proofs.ByPath.{cut_contents, no_contents, within_part, contents_before, contents_first, alone_contents, contents_by_path}
 use Rattle.verilog_sim.specs.State.{PartContents, is_path, held_at}
 use Rattle.verilog_sim.specs.PartLists.{cut_list, path_before, split_at, parts_before, parts_first, top_at, tops_at, parts_of}
 

@@ -19,7 +19,7 @@ use Rattle.rtl_ir.proofs.Ports.{joined_at, joined_of, assigned_at}
 use Rattle.verilog_sim.specs.Relocation.{relocated_assign, relocated_instance, join_of, joins_of}
 use Rattle.verilog_sim.specs.declared.scope.Scope.{Scope}
 use Rattle.verilog_sim.specs.Flattened.{IsJoined, place_of}
-use Rattle.verilog_sim.specs.ByPath.{cut_family, cut_contents, no_family, no_contents, within_part, with_part, families_before, contents_before}
+use Rattle.verilog_sim.proofs.ByPath.{cut_family, cut_contents, no_family, no_contents, within_part, with_part, families_before, contents_before}
 use Rattle.verilog_sim.specs.Start.{filled_part, filled}
 use Rattle.verilog_sim.proofs.Cutting.{Sits, Ranged, cut_at, fits_cut}
 use Rattle.verilog_sim.proofs.CutEdges.{edge_cut, filled_cut}

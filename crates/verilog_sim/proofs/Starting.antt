@@ -25,7 +25,7 @@ use Rattle.rtl_ir.specs.Value.{Contents}
 use Rattle.rtl_ir.specs.Flat.{top_of}
 use Rattle.rtl_ir.specs.declared.design.Design.{Design}
 use Rattle.verilog_sim.specs.declared.scope.Scope.{Scope}
-use Rattle.verilog_sim.specs.ByPath.{contents_by_path}
+use Rattle.verilog_sim.proofs.ByPath.{contents_by_path}
 use Rattle.verilog_sim.specs.Flattened.{IsFlat}
 use Rattle.verilog_sim.specs.Start.{held_at_start, words_at_start, IsFilled, filled_part}
 use Rattle.verilog_sim.specs.Start as start

@@ -10,7 +10,7 @@ use Rattle.rtl_ir.specs.Flat.{Path, AllContents, Families, FitsFlat, after_flat}
 use Rattle.rtl_ir.specs.Rules.{IsAccepted}
 use Rattle.verilog_sim.specs.declared.scope.Scope.{Scope}
 use Rattle.verilog_sim.specs.Relocation.{bare_net}
-use Rattle.verilog_sim.specs.ByPath.{cut_contents, within_part, families_before, contents_before, families_first, contents_first, alone, alone_contents, families_of, contents_by_path}
+use Rattle.verilog_sim.proofs.ByPath.{cut_contents, within_part, families_before, contents_before, families_first, contents_first, alone, alone_contents, families_of, contents_by_path}
 use Rattle.verilog_sim.specs.Flattened.{IsJoined, Joins, start, join, IsFlat}
 use Rattle.verilog_sim.specs.Start.{filled_part, filled}
 use Rattle.verilog_sim.proofs.Cutting.{cut_at}

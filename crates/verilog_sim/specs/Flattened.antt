@@ -98,9 +98,3 @@ module_of ports p = record {
   updates = p.updates.items;
   instances = p.instances.items;
 }
-
--- the lists so far are those of the top module, of which these instances became parts
-pub record AreFlattened (d : Design) (top : Module) (parts : Parts) (ss : List Scope) : Type 0 where
-  pub copy : Module
-  pub copied : IsCopied top copy
-  pub joins : Joins d copy ss (module_of top.ports parts)

@@ -1,5 +1,5 @@
 -- What an instruction of the list computes, and when it is safe.
-use Rattle.std.specs.Prelude.{◌≡◌, Bool, true, false, ℕ, zero, suc, ◌+◌, ◌-◌, ◌*◌, ◌/◌, ◌%◌, ◌^◌}
+use Rattle.std.specs.Prelude.{◌≡◌, true, ℕ, zero, suc, ◌+◌, ◌-◌, ◌*◌, ◌/◌, ◌%◌, ◌^◌}
 use Rattle.std.specs.Prelude.{◌<◌, ◌≤◌, List, [], if◌then◌else◌, nat_eq, nat_lt, slice_index}
 use Rattle.std.specs.Prelude.{slice_index_or, bit_and, bit_or, bit_xor}
 use Rattle.rtl_ir.specs.Value.{quotient}
@@ -36,11 +36,6 @@ pub record IsSafe (n k : ℕ) (instruction : Instruction) : Type 0 where
   pub at_most : instruction.width ≤ 128
   pub half : instruction.narrow ≡ true → instruction.width ≤ 64
   pub step : IsStepSafe n k instruction.step
-
--- the values of nets, or their low 64 bits
-abbrev pub read_by : Bool → List ℕ → ℕ → ℕ
-read_by true values n = slice_index values n % 2 ^ 64
-read_by false values n = slice_index values n
 
 -- a word once more behind what stands there
 abbrev pub joined : ℕ → ℕ → ℕ → ℕ

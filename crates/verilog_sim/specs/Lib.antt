@@ -14,7 +14,6 @@ pub mod Calls
 pub mod Simulates
 pub mod Start
 pub mod Relocation
-pub mod ByPath
 pub mod PartLists
 pub mod Flattened
 pub mod Gifts

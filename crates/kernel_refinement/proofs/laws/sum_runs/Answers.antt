@@ -1,4 +1,5 @@
-use Rattle.kernel_refinement.specs.Sum.{sum_nodes, sum_ticks, sum_times, sum_module, sum_nets_of, sum_layout}
+use Rattle.kernel_refinement.specs.Sum.{sum_nodes, sum_times, sum_module, sum_nets_of}
+use Rattle.kernel_refinement.proofs.Sum.{sum_ticks, sum_layout}
 use Rattle.kernel_refinement.proofs.Runs.{built_runs}
 use Rattle.kernel_refinement.proofs.Summing.{sum_built}
 use Rattle.kernel_refinement.proofs.laws.sum_runs.Goals as goal

@@ -1,7 +1,7 @@
 use Rattle.std.specs.Prelude.{slice_get}
 use Rattle.std.proofs.Common.{◌≡◌, ◌<◌, ◌-◌, ℕ, Some, List, length, refl, sym, ap, ◌∙◌, subst, arith}
 use Rattle.verilog_sim.specs.declared.scope.Scope.{Scope}
-use Rattle.verilog_sim.specs.Flattened.{AreFlattened}
+use Rattle.verilog_sim.proofs.Flattened.{AreFlattened}
 use Rattle.verilog_sim.proofs.Placed.{placed_of}
 use Rattle.verilog_sim.proofs.Flattening.{ranged_of, top_room, start_flat, place_is, part_within, part_ranged, part_ports, part_size, part_room, step_flat, step_smaller}
 use Rattle.verilog_sim.proofs.flatten.flatten.Goals as goal

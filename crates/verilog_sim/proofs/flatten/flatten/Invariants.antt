@@ -2,7 +2,7 @@ use Rattle.std.proofs.Common.{get_or, []}
 use Rattle.std.specs.Prelude.{sum_by}
 use Rattle.rtl_ir.specs.declared.design.Instance.{Instance}
 use Rattle.verilog_sim.specs.Start.{cells_after}
-use Rattle.verilog_sim.specs.Flattened.{AreFlattened}
+use Rattle.verilog_sim.proofs.Flattened.{AreFlattened}
 use Rattle.verilog_sim.proofs.flatten.flatten.Given as goal
 
 abbrev pub invariant-loop-instance : goal.invariant-loop-instance
