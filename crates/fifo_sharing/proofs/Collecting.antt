@@ -41,7 +41,7 @@ use Rattle.cycle_find.specs.Constraints.{Numbers, IsSolvable, need_of}
 use Rattle.schedule_problem.specs.declared.problem.Problem.{Problem}
 use Rattle.fifo_sharing.specs.Chains.{producer_of, delay_of}
 use Rattle.fifo_sharing.specs.Delays.{AreDelays}
-use Rattle.fifo_sharing.proofs.Delays.{IsDelayBelow, AreDelaysBelow}
+use Rattle.fifo_sharing.proofs.DelaysBelow.{IsDelayBelow, AreDelaysBelow}
 
 pub below_more : (p : Problem) (x : Numbers) (n v e : ℕ) → IsDelayBelow p x n v e
     → IsDelayBelow p x (n + 1) v e

@@ -37,7 +37,7 @@ use Rattle.schedule_problem.specs.declared.problem.Problem.{Problem}
 use Rattle.fifo_sharing.specs.declared.chain.Chain.{Chain}
 use Rattle.fifo_sharing.specs.Chains.{IsDelayOf, IsChainOf, AreChains, producers}
 use Rattle.fifo_sharing.specs.Delays.{AreDelays}
-use Rattle.fifo_sharing.proofs.Delays.{AreChainsBelow}
+use Rattle.fifo_sharing.proofs.DelaysBelow.{AreChainsBelow}
 
 -- a rising list stays so where a greater number is added
 pub rising_more : (xs : List ℕ) (x : ℕ) → IsStrictlyIncreasing xs → All (λ y. y < x) xs

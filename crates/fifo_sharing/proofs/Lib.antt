@@ -1,4 +1,4 @@
-pub mod Delays
+pub mod DelaysBelow
 pub mod Collecting
 pub mod Tapping
 pub mod Gathering

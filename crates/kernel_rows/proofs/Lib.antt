@@ -1,5 +1,5 @@
 pub mod KernelArgs
-pub mod Filling
+pub mod NumbersBefore
 pub mod DigitBits
 pub mod LiteralBits
 mod NextOperand

@@ -25,9 +25,9 @@ use Rattle.maxj_syntax.specs.Choosing.{has, within, apart, implies, set_of, Amon
 use Rattle.maxj_syntax.specs.Choosing.{begins, empties, goes_on, all_begin, may, peeks, admits}
 use Rattle.maxj_syntax.specs.Choosing.{pick, kind_at, name_next, choose, is_otherwise, is_last}
 use Rattle.maxj_syntax.specs.Choosing.{covers, ordered, follows}
-use Rattle.maxj_syntax.proofs.Choosing.{choice_fits, choices_fit, nameless}
+use Rattle.maxj_syntax.proofs.ChoicesFit.{choice_fits, choices_fit, nameless}
 use Rattle.maxj_syntax.specs.Choosing.{named_choices, named_guards, named_first}
-use Rattle.maxj_syntax.proofs.Choosing.{lighter}
+use Rattle.maxj_syntax.proofs.ChoicesFit.{lighter}
 use Rattle.maxj_syntax.specs.Choosing.{named_nullable, named_peek, named_weight, binds, bound}
 use Rattle.maxj_syntax.specs.Choosing.{begins_member, member_choices, member_guards}
 use Rattle.text_scan.proofs.ByteTests.{or_true, clash, not_true, bytes_same, bytes_refl}

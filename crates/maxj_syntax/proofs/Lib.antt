@@ -1,4 +1,4 @@
-pub mod Choosing
+pub mod ChoicesFit
 pub mod SmallSource
 pub mod KindLemmas
 pub mod ClassLemmas

@@ -18,7 +18,7 @@ use Rattle.maxj_syntax.specs.TokenClasses.{Accepts}
 use Rattle.maxj_syntax.specs.Symbols.{Symbol, Mark, Name, Sub, Call, Act, symbol_view}
 use Rattle.maxj_syntax.specs.Symbols as Y
 use Rattle.maxj_syntax.specs.Choosing.{Among, Is, Choice, may, empties, peeks, choose, weigh, chain, named_choices, named_weight, bound, binds}
-use Rattle.maxj_syntax.proofs.Choosing.{lighter}
+use Rattle.maxj_syntax.proofs.ChoicesFit.{lighter}
 use Rattle.maxj_syntax.specs.Table.{choices}
 use Rattle.maxj_syntax.specs.Lookahead.{weight}
 use Rattle.maxj_syntax.specs.Steps.{Entry, Below, Goes, read_top, read_below, act_top, act_below}

@@ -9,7 +9,7 @@ use Rattle.rtl_ir.specs.Rules.{Connection, Feeds, by_assign, by_part, Way, stay,
 use Rattle.rtl_ir.specs.Faults.{IsCombLoop}
 use Rattle.rtl_check.specs.FirstFault.{IsSimple}
 use Rattle.rtl_check.specs.Paths.{PortPath, HasPath, IsAssigned, IsParted, IsPath, ArePaths, ArePathsOf, IsInRange, HasEdges}
-use Rattle.rtl_check.proofs.Paths.{IsGraphOf}
+use Rattle.rtl_check.proofs.ModuleGraphs.{IsGraphOf}
 use Rattle.rtl_check.specs.Checked.{IsPart}
 use Rattle.rtl_check.proofs.Places.{some_is}
 use Rattle.rtl_check.proofs.Parted.{inner_is}

@@ -1,4 +1,4 @@
-pub mod Paths
+pub mod ModuleGraphs
 pub mod Again
 pub mod Places
 pub mod Feeding

@@ -4,7 +4,7 @@ use Rattle.std.proofs.lemmas.Grind.{common_steps}
 use Rattle.cycle_find.specs.declared.arcs.Arc.{Arc}
 use Rattle.cycle_find.specs.Constraints.{numbers_of, arc_at}
 use Rattle.fifo_sharing.specs.Chains.{producer_of}
-use Rattle.fifo_sharing.proofs.Delays.{AreDelaysBelow}
+use Rattle.fifo_sharing.proofs.DelaysBelow.{AreDelaysBelow}
 use Rattle.fifo_sharing.proofs.Collecting.{none_collected, one_pushed, all_collected}
 use Rattle.fifo_sharing.proofs.delays.delays_of.Goals as goal
 use Rattle.fifo_sharing.proofs.delays.delays_of.Goals.{then-delay-gt0+in_ok-push, else-delay-gt0}

@@ -1,7 +1,7 @@
 -- The chains of the producers so far.
 use Rattle.std.proofs.Common.{length}
 use Rattle.cycle_find.specs.Constraints.{numbers_of}
-use Rattle.fifo_sharing.proofs.Delays.{AreChainsBelow}
+use Rattle.fifo_sharing.proofs.DelaysBelow.{AreChainsBelow}
 use Rattle.fifo_sharing.proofs.sharing.share.Given as goal
 
 abbrev pub invariant-loop-producer : goal.invariant-loop-producer
