@@ -43,7 +43,7 @@ fn answers_are_judged(rt: HostRuntime) -> Result<(), Fail> {
     for (number, row) in ROWS.iter().enumerate() {
         let answer = answer_of(alloc, row)?;
         let verdict = judged(&problem, &answer, &mut scratch);
-        assert_eq!(rt; verdict, Some(row.verdict), "row {number}");
+        assert!(rt; verdict == Some(row.verdict), "row {number}");
     }
     Ok(())
 }

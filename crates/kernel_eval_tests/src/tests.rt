@@ -44,15 +44,14 @@ fn managers_build_their_projects(rt: HostRuntime) -> Result<(), Fail> {
         let program = parse(alloc, project.source.as_bytes())?;
         let plan = eval_manager(alloc, &program)?;
         assert!(rt; plan.manager);
-        assert_eq!(rt;
-            plan.kernels.len(),
-            project.kernels.len(),
+        assert!(rt;
+            plan.kernels.len() == project.kernels.len(),
             "project {number}"
         );
         for (made, (name, class, args)) in plan.kernels.as_slice().iter().zip(project.kernels) {
-            assert_eq!(rt; made.name.as_bytes(), *name, "project {number}");
-            assert_eq!(rt; made.class, *class, "project {number}");
-            assert_eq!(rt; made.args.as_slice(), *args, "project {number}");
+            assert!(rt; made.name.as_bytes() == *name, "project {number}");
+            assert!(rt; made.class == *class, "project {number}");
+            assert!(rt; made.args.as_slice() == *args, "project {number}");
         }
         assert!(rt;
             are_names(plan.from_cpu.as_slice(), project.from_cpu),
@@ -62,10 +61,10 @@ fn managers_build_their_projects(rt: HostRuntime) -> Result<(), Fail> {
             are_names(plan.to_cpu.as_slice(), project.to_cpu),
             "project {number}"
         );
-        assert_eq!(rt; plan.joins.len(), project.joins.len(), "project {number}");
+        assert!(rt; plan.joins.len() == project.joins.len(), "project {number}");
         for (join, (left, right)) in plan.joins.as_slice().iter().zip(project.joins) {
-            assert_eq!(rt; end_of(&join.left), *left, "project {number}");
-            assert_eq!(rt; end_of(&join.right), *right, "project {number}");
+            assert!(rt; end_of(&join.left) == *left, "project {number}");
+            assert!(rt; end_of(&join.right) == *right, "project {number}");
         }
     }
     Ok(())
@@ -126,7 +125,7 @@ fn constructors_are_refused(rt: HostRuntime) -> Result<(), Fail> {
     for (source, line) in REFUSED {
         match build_alone(rt.alloc(), source.as_bytes(), b"K")? {
             Built::Kernel(_) => assert!(rt; false, "{source}"),
-            Built::Refused(said) => assert_eq!(rt; said.as_slice(), line.as_bytes(), "{source}"),
+            Built::Refused(said) => assert!(rt; said.as_slice() == line.as_bytes(), "{source}"),
         }
     }
     Ok(())
@@ -138,12 +137,12 @@ fn a_kernel_stands_alone(rt: HostRuntime) -> Result<(), Fail> {
     let program = parse(alloc, DOUBLE.as_bytes())?;
     let plan = eval_manager(alloc, &program)?;
     assert!(rt; !plan.manager);
-    assert_eq!(rt; plan.kernels.len(), 1);
+    assert!(rt; plan.kernels.len() == 1);
     for made in plan.kernels.as_slice() {
-        assert_eq!(rt; made.name.as_bytes(), b"Double".as_slice());
-        assert_eq!(rt; (made.class, made.args.len()), (0, 0));
+        assert!(rt; made.name.as_bytes() == b"Double".as_slice());
+        assert!(rt; (made.class, made.args.len()) == (0, 0));
     }
     let streams = (plan.from_cpu.len(), plan.to_cpu.len(), plan.joins.len());
-    assert_eq!(rt; streams, (0, 0, 0));
+    assert!(rt; streams == (0, 0, 0));
     Ok(())
 }

@@ -1,5 +1,3 @@
-pub mod Nodes
-pub mod Typing
 pub mod Reversed
 pub mod Kept
 pub mod Later

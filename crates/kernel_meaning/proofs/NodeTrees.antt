@@ -23,8 +23,7 @@ use Rattle.mx_base.specs.declared.span.Span.{Span}
 use Rattle.maxj_syntax.specs.declared.tree.NodeKind.{NodeKind}
 use Rattle.maxj_syntax.specs.Cells.{Cell}
 use Rattle.maxj_syntax.specs.Tree.{Tree, Node, Trees, Nil, Cons, IsAt, AreAt}
-use Rattle.kernel_meaning.specs.Nodes.{child_by, trees_by, tree_to, tree_at}
-use Rattle.kernel_meaning.proofs.Nodes.{tree_by}
+use Rattle.kernel_meaning.specs.Nodes.{child_by, trees_by, tree_by, tree_to, tree_at}
 
 is_below : (n m : ℕ) → n < m → nat_lt n m ≡ true
 is_below n m h = grind (arith, nat_tests)

@@ -69,8 +69,15 @@ use Rattle.fix_arith.specs.Typing.{
   HasType,
   number_of,
 }
-use Rattle.kernel_meaning.specs.Typing.{same_type, is_narrow, in_range, typing}
-use Rattle.kernel_meaning.proofs.Typing.{all_same, is_for, can_choose}
+use Rattle.kernel_meaning.specs.Typing.{
+  same_type,
+  all_same,
+  is_for,
+  is_narrow,
+  in_range,
+  can_choose,
+  typing,
+}
 use Rattle.kernel_meaning.proofs.TypingLaws.{
   first_same,
   for_good,

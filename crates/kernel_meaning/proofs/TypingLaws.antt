@@ -57,8 +57,19 @@ use Rattle.fix_arith.specs.Typing.{
 use Rattle.fix_arith.specs.Table.{GivesType}
 use Rattle.fix_arith.specs.Values.{reduced}
 use Rattle.fix_arith.proofs.Residues.{reduced-lt}
-use Rattle.kernel_meaning.specs.Typing.{literal_bits, literal_value, same_bit, same_type, is_narrow, in_range, typing}
-use Rattle.kernel_meaning.proofs.Typing.{is_number_of, all_same, is_for, can_choose}
+use Rattle.kernel_meaning.specs.Typing.{
+  literal_bits,
+  literal_value,
+  is_number_of,
+  same_bit,
+  same_type,
+  all_same,
+  is_for,
+  is_narrow,
+  in_range,
+  can_choose,
+  typing,
+}
 
 -- the bits of a literal are those of a word of its type
 abbrev pub LiteralFits : StreamType → Result ℕ TypeError → Type 0

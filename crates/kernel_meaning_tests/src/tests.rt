@@ -53,10 +53,10 @@ fn names_are_found(rt: HostRuntime) -> Result<(), Fail> {
     ];
     for (left, wanted) in rows {
         bindings.keep(left);
-        assert_eq!(rt; bindings.len(), left);
+        assert!(rt; bindings.len() == left);
         for (name, (place, number)) in [b"a", b"b", b"c"].into_iter().zip(wanted) {
-            assert_eq!(rt; bindings.place(name), place, "{left} left");
-            assert_eq!(rt; number_of(&bindings, name), number, "{left} left");
+            assert!(rt; bindings.place(name) == place, "{left} left");
+            assert!(rt; number_of(&bindings, name) == number, "{left} left");
         }
     }
     Ok(())

@@ -23,7 +23,7 @@ fn parts_are_judged(rt: HostRuntime) -> Result<(), Fail> {
         match report.kernels.get(0) {
             Some(part) => {
                 let judgement = judge(alloc, &kernel, &table, &problem, part)?;
-                assert_eq!(rt; judgement, *wanted, "{changes:?}");
+                assert!(rt; judgement == *wanted, "{changes:?}");
             }
             None => assert!(rt; false),
         }
@@ -43,10 +43,10 @@ fn the_part_of_the_best_schedule_is_good(rt: HostRuntime) -> Result<(), Fail> {
         Some(sample) if sample.name.is(kernel.name()) => {
             match best_part(alloc, &kernel, &table, &problem)? {
                 Some(part) => {
-                    assert_eq!(rt; part.bits, 32);
-                    assert_eq!(rt; part.times, sample.times);
+                    assert!(rt; part.bits == 32);
+                    assert!(rt; part.times == sample.times);
                     let judgement = judge(alloc, &kernel, &table, &problem, &part)?;
-                    assert_eq!(rt; judgement, Judgement::Good);
+                    assert!(rt; judgement == Judgement::Good);
                 }
                 None => assert!(rt; false),
             }

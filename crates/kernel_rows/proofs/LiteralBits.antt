@@ -24,8 +24,7 @@ use Rattle.fix_arith.specs.Typing.{is_fix}
 use Rattle.fix_arith.specs.Values.{reduced, value_of, IsValue}
 use Rattle.fix_arith.specs.Literals.{IsLiteral, literal_of}
 use Rattle.fix_arith.proofs.Residues.{reduced-value, reduced-lt}
-use Rattle.kernel_meaning.specs.Typing.{literal_bits}
-use Rattle.kernel_meaning.proofs.Typing.{is_number_of}
+use Rattle.kernel_meaning.specs.Typing.{is_number_of, literal_bits}
 
 ranked : (o : Ordering) (a b : ℤ) → MatchOrdering o (a <ℤ b) (a ≡ b) (b <ℤ a) → a ≡ b → is_eq o
     ≡ true

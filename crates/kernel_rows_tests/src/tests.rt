@@ -72,7 +72,7 @@ fn count_is_compared_with_zero(rt: HostRuntime) -> Result<(), Fail> {
         Ok(done) => assert!(rt; is_after_zero(&done, Op::Eq, &[1, 3], StreamType::Bool)),
         Err(_) => assert!(rt; false),
     }
-    assert_eq!(rt; state.made, 5);
+    assert!(rt; state.made == 5);
     Ok(())
 }
 
@@ -85,7 +85,7 @@ fn zero_or_the_sum_is_chosen(rt: HostRuntime) -> Result<(), Fail> {
         Ok(done) => assert!(rt; is_after_zero(&done, Op::Mux, &[4, 2, 5], COUNT)),
         Err(_) => assert!(rt; false),
     }
-    assert_eq!(rt; state.made, 7);
+    assert!(rt; state.made == 7);
     Ok(())
 }
 
@@ -96,9 +96,9 @@ fn booleans_are_no_operands(rt: HostRuntime) -> Result<(), Fail> {
     let values = [stream(1, COUNT), Value::Flag(true)];
     match row_of(alloc, Row::Binary(Sign::Add), 7, &values, &mut state) {
         Ok(_) => assert!(rt; false),
-        Err(error) => assert_eq!(rt; error, EvalError::WrongKind(7)),
+        Err(error) => assert!(rt; error == EvalError::WrongKind(7)),
     }
-    assert_eq!(rt; state.made, 3);
+    assert!(rt; state.made == 3);
     Ok(())
 }
 
@@ -118,23 +118,23 @@ fn arrays_in_an_array_come_before_it(rt: HostRuntime) -> Result<(), Fail> {
                 Value::Array { number, of } => (number, of.rank),
                 _ => (9, 9),
             };
-            assert_eq!(rt; number, (2, 1));
+            assert!(rt; number == (2, 1));
         }
         Err(_) => assert!(rt; false),
     }
-    assert_eq!(rt; state.left, 992);
-    assert_eq!(rt; state.arrays.len(), 3);
+    assert!(rt; state.left == 992);
+    assert!(rt; state.arrays.len() == 3);
     let lengths = [
         state.arrays.get(0).map_or(9, |elements| elements.len()),
         state.arrays.get(1).map_or(9, |elements| elements.len()),
         state.arrays.get(2).map_or(9, |elements| elements.len()),
     ];
-    assert_eq!(rt; lengths, [3, 3, 2]);
+    assert!(rt; lengths == [3, 3, 2]);
     let inner = match state.arrays.get(2).and_then(|elements| elements.get(1)) {
         Some(Value::Array { number, of }) => (*number, of.rank),
         _ => (9, 9),
     };
-    assert_eq!(rt; inner, (1, 0));
+    assert!(rt; inner == (1, 0));
     Ok(())
 }
 
@@ -144,8 +144,8 @@ fn an_array_without_elements_has_none_below(rt: HostRuntime) -> Result<(), Fail>
     let mut state = state(alloc, 0);
     let sizes = [Value::Int(0), Value::Int(65_536), Value::Int(65_536)];
     assert!(rt; row_of(alloc, Row::NewArray(INT), 7, &sizes, &mut state).is_ok());
-    assert_eq!(rt; state.left, 1_000);
-    assert_eq!(rt; state.arrays.len(), 1);
+    assert!(rt; state.left == 1_000);
+    assert!(rt; state.arrays.len() == 1);
     Ok(())
 }
 
@@ -156,15 +156,15 @@ fn arrays_of_too_many_elements_change_nothing(rt: HostRuntime) -> Result<(), Fai
     let sizes = [Value::Int(10), Value::Int(100)];
     match row_of(alloc, Row::NewArray(INT), 7, &sizes, &mut state) {
         Ok(_) => assert!(rt; false),
-        Err(error) => assert_eq!(rt; error, EvalError::StepLimit),
+        Err(error) => assert!(rt; error == EvalError::StepLimit),
     }
     let sizes = [Value::Int(1), Value::Int(-1)];
     match row_of(alloc, Row::NewArray(INT), 7, &sizes, &mut state) {
         Ok(_) => assert!(rt; false),
-        Err(error) => assert_eq!(rt; error, EvalError::ArrayRange(7)),
+        Err(error) => assert!(rt; error == EvalError::ArrayRange(7)),
     }
-    assert_eq!(rt; state.left, 1_000);
-    assert_eq!(rt; state.arrays.len(), 0);
+    assert!(rt; state.left == 1_000);
+    assert!(rt; state.arrays.len() == 0);
     Ok(())
 }
 
@@ -185,10 +185,10 @@ fn numbers_are_assigned_with_an_operator(rt: HostRuntime) -> Result<(), Fail> {
     let mut state = state(alloc, 0);
     let values = [Value::Int(7), Value::Int(3)];
     let product = combined(alloc, b"*=", 5, &values, &mut state);
-    assert_eq!(rt; number(product), 21);
+    assert!(rt; number(product) == 21);
     let more = stepped(alloc, b"++", 5, Value::Int(7), &mut state);
-    assert_eq!(rt; number(more), 8);
+    assert!(rt; number(more) == 8);
     let fewer = stepped(alloc, b"--", 5, Value::Int(7), &mut state);
-    assert_eq!(rt; number(fewer), 6);
+    assert!(rt; number(fewer) == 6);
     Ok(())
 }

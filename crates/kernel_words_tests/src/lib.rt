@@ -2,11 +2,9 @@
 //! of it again: worked kernels with the words that they compute.
 #![tactic(auto)]
 
+#[cfg(test)]
 mod kernels;
+#[cfg(test)]
 mod running;
-
-pub use kernels::QUOT;
-pub use running::{Ran, run_alone};
-
 #[cfg(test)]
 mod tests;

@@ -1,5 +1,6 @@
 // Worked words.
-use crate::{QUOT, Ran, run_alone};
+use crate::kernels::QUOT;
+use crate::running::{Ran, run_alone};
 use kernel_eval_tests::{ACC, Built, FOURTH, GUARD, NEXT, SUM3, build_alone};
 use std::test::Fail;
 
@@ -44,7 +45,7 @@ fn kernels_compute_these_words(rt: HostRuntime) -> Result<(), Fail> {
         match build_alone(alloc, source.as_bytes(), name.as_bytes())? {
             Built::Kernel(kernel) => match run_alone(alloc, &kernel, ticks, inputs)? {
                 Ran::Words(found, guarded) => {
-                    assert_eq!(rt; found.as_slice(), words, "{name}");
+                    assert!(rt; found.as_slice() == words, "{name}");
                     assert!(rt; guarded, "{name}");
                 }
                 Ran::NotRun => assert!(rt; false, "{name}"),

@@ -227,8 +227,8 @@ fn statements_have_trees(rt: HostRuntime) {
                 assert!(rt; bytes == expected.as_bytes());
             }
             Outcome::Misplaced(place) => {
-                assert_eq!(rt; wanted.len(), 0);
-                assert_eq!(rt; place, 61);
+                assert!(rt; wanted.len() == 0);
+                assert!(rt; place == 61);
             }
             Outcome::Other => assert!(rt; false),
         }
@@ -278,7 +278,7 @@ fn sources_have_classes(rt: HostRuntime) {
     for (text, wanted) in cases {
         match read(rt.alloc(), text, false) {
             Outcome::Tree(tree) => assert!(rt; tree.as_bytes() == wanted),
-            Outcome::Misplaced(place) => assert_eq!(rt; place, 1000),
+            Outcome::Misplaced(place) => assert!(rt; place == 1000),
             Outcome::Other => assert!(rt; false),
         }
     }
@@ -296,7 +296,7 @@ fn trees_have_spans(rt: HostRuntime) {
             = 82-91 (name z 82-83) (op * 84-91 (op + 85-88 (whole 1 85-86) (name \
             x 87-88)) (whole 2 90-91))))))";
     match read(rt.alloc(), source, true) {
-        Outcome::Misplaced(place) => assert_eq!(rt; place, 88),
+        Outcome::Misplaced(place) => assert!(rt; place == 88),
         _ => assert!(rt; false),
     }
     match read(rt.alloc(), short, true) {
@@ -363,8 +363,8 @@ fn misplaced_tokens_have_places(rt: HostRuntime) {
     ];
     for (text, wanted) in cases {
         match read(rt.alloc(), text, false) {
-            Outcome::Misplaced(place) => assert_eq!(rt; place, wanted),
-            _ => assert_eq!(rt; 1000, wanted),
+            Outcome::Misplaced(place) => assert!(rt; place == wanted),
+            _ => assert!(rt; 1000 == wanted),
         }
     }
 }

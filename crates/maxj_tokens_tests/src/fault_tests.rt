@@ -38,7 +38,7 @@ fn numbers_within_the_profile(rt: HostRuntime) {
         (b"/* 340282366920938463463374607431768211456 */", None),
     ];
     for (text, wanted) in cases {
-        assert_eq!(rt; outside(rt.alloc(), text), Ok(wanted));
+        assert!(rt; outside(rt.alloc(), text) == Ok(wanted));
     }
 }
 
@@ -75,7 +75,7 @@ fn words_within_the_profile(rt: HostRuntime) {
         b"goto",
     ];
     for word in words {
-        assert_eq!(rt; outside(rt.alloc(), word), Ok(Some(0)));
+        assert!(rt; outside(rt.alloc(), word) == Ok(Some(0)));
     }
     let cases: [(&[u8], Option<u32>); 6] = [
         (b"int boolean while super this", None),
@@ -86,7 +86,7 @@ fn words_within_the_profile(rt: HostRuntime) {
         (b"1.5 long 340282366920938463463374607431768211456", Some(4)),
     ];
     for (text, wanted) in cases {
-        assert_eq!(rt; outside(rt.alloc(), text), Ok(wanted));
+        assert!(rt; outside(rt.alloc(), text) == Ok(wanted));
     }
 }
 
@@ -128,6 +128,6 @@ fn tokens_stand_too_deep_or_too_far(rt: HostRuntime) {
         (&[(b";", 1), (b"a ", 2001), (b"{", 300)], Some(4003)),
     ];
     for (pieces, wanted) in cases {
-        assert_eq!(rt; excess(rt.alloc(), pieces), Ok(wanted));
+        assert!(rt; excess(rt.alloc(), pieces) == Ok(wanted));
     }
 }

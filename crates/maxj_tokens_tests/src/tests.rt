@@ -39,7 +39,7 @@ fn sources_fall_into_tokens(rt: HostRuntime) {
         (b"_a1$", Err(ScanError::NoToken(3))),
     ];
     for (text, wanted) in cases {
-        assert_eq!(rt; outcome(rt.alloc(), text), wanted);
+        assert!(rt; outcome(rt.alloc(), text) == wanted);
     }
 }
 
@@ -65,7 +65,7 @@ fn faults_have_places(rt: HostRuntime) {
         (b"a \"b\tc\"", Err(ScanError::NoToken(2))),
     ];
     for (text, wanted) in cases {
-        assert_eq!(rt; outcome(rt.alloc(), text), wanted);
+        assert!(rt; outcome(rt.alloc(), text) == wanted);
     }
 }
 

@@ -156,8 +156,8 @@ fn expect_check(
     let mut say = MemSay::new(alloc, Vec::new(alloc))?;
     let line = words(alloc, &[b"check", b"source", b"table", b"report"])?;
     let ended = run(alloc, &line, files, &mut say);
-    assert_eq!(rt; say.bytes(), said);
-    assert_eq!(rt; ended, status);
+    assert!(rt; say.bytes() == said);
+    assert!(rt; ended == status);
     Ok(())
 }
 
@@ -176,7 +176,7 @@ fn expect_case(rt: &impl Abort, alloc: Global, case: &Case, status: Status) -> R
     files.put(&text(alloc, b"report")?, &bytes)?;
     expect_check(rt, alloc, &mut files, status, case.said)?;
     let held = read_whole(alloc, &mut files, &text(alloc, b"report")?, 10_000)?;
-    assert_eq!(rt; held, bytes);
+    assert!(rt; held == bytes);
     Ok(())
 }
 
@@ -295,6 +295,6 @@ fn a_line_that_cannot_be_said(rt: HostRuntime) -> Result<(), Fail> {
     let mut say = MemSay::new(alloc, [1u64].to_vec(alloc)?)?;
     let line = words(alloc, &[b"check", b"source", b"table", b"report"])?;
     let ended = run(alloc, &line, &mut files, &mut say);
-    assert_eq!(rt; ended, Status::WriteFault);
+    assert!(rt; ended == Status::WriteFault);
     Ok(())
 }

@@ -74,7 +74,7 @@ fn expect_file(
     bytes: &[u8],
 ) -> Result<(), Fail> {
     let held = read_whole(alloc, files, &text(alloc, name)?, 1_000_000)?;
-    assert_eq!(rt; held.as_slice(), bytes, "{:?}", text(alloc, name)?);
+    assert!(rt; held.as_slice() == bytes, "{:?}", text(alloc, name)?);
     Ok(())
 }
 
@@ -83,8 +83,8 @@ fn expect_with(rt: &impl Abort, alloc: Global, row: &Row<'_>, report: &[u8]) -> 
     let mut files = held(alloc, row, report, &[])?;
     let mut say = MemSay::new(alloc, Vec::new(alloc))?;
     let ended = run_expect(alloc, &mut files, &mut say)?;
-    assert_eq!(rt; say.bytes(), row.said);
-    assert_eq!(rt; ended, row.status);
+    assert!(rt; say.bytes() == row.said);
+    assert!(rt; ended == row.status);
     for (name, bytes) in row.outputs {
         expect_file(rt, alloc, &mut files, name, bytes)?;
     }
@@ -268,10 +268,10 @@ fn a_run_of_a_million_ticks(rt: HostRuntime) -> Result<(), Fail> {
     let mut files = held(alloc, &row, &report, &[])?;
     let mut say = MemSay::new(alloc, Vec::new(alloc))?;
     let ended = run_expect(alloc, &mut files, &mut say)?;
-    assert_eq!(rt; say.bytes(), b"guarded\nbalanced\n".as_slice());
-    assert_eq!(rt; ended, Status::Done);
+    assert!(rt; say.bytes() == b"guarded\nbalanced\n".as_slice());
+    assert!(rt; ended == Status::Done);
     let y = read_whole(alloc, &mut files, &text(alloc, b"y.txt")?, 10_000_000)?;
-    assert_eq!(rt; y.len(), 3_000_003);
+    assert!(rt; y.len() == 3_000_003);
     assert!(rt; are_undefined(&y));
     Ok(())
 }
@@ -390,11 +390,8 @@ fn links_are_measured_at_the_times_of_the_report(rt: HostRuntime) -> Result<(), 
     let mut say = MemSay::new(alloc, Vec::new(alloc))?;
     let check = words(alloc, &[b"check", b"source", b"table", b"report"])?;
     let ended = run(alloc, &check, &mut files, &mut say);
-    assert_eq!(rt; ended, Status::Done);
-    assert_eq!(rt;
-        say.bytes(),
-        b"kernel A least 0\nkernel B least 0\n".as_slice()
-    );
+    assert!(rt; ended == Status::Done);
+    assert!(rt; say.bytes() == b"kernel A least 0\nkernel B least 0\n".as_slice());
     Ok(())
 }
 
@@ -425,8 +422,8 @@ fn files_that_are_not_held(rt: HostRuntime) -> Result<(), Fail> {
         files.put(&text(alloc, name)?, b"")?;
         let mut say = MemSay::new(alloc, Vec::new(alloc))?;
         let ended = run_expect(alloc, &mut files, &mut say)?;
-        assert_eq!(rt; ended, Status::ReadFault);
-        assert_eq!(rt; say.bytes(), b"".as_slice());
+        assert!(rt; ended == Status::ReadFault);
+        assert!(rt; say.bytes() == b"".as_slice());
     }
     Ok(())
 }
@@ -444,23 +441,23 @@ fn the_first_call_that_fails_ends_expect(rt: HostRuntime) -> Result<(), Fail> {
         let ended = run_expect(alloc, &mut files, &mut say)?;
         match ended {
             Status::ReadFault => {
-                assert_eq!(rt; writes, 0);
+                assert!(rt; writes == 0);
                 expect_file(&rt, alloc, &mut files, b"y.txt", b"as before")?;
             }
             Status::WriteFault => writes = writes.saturating_add(1),
             _ => {
-                assert_eq!(rt; ended, Status::Done);
-                assert_eq!(rt; writes, 2);
+                assert!(rt; ended == Status::Done);
+                assert!(rt; writes == 2);
             }
         }
         assert!(rt; ended == Status::ReadFault || call > 8, "call {call}");
-        assert_eq!(rt; say.bytes().is_empty(), ended != Status::Done);
+        assert!(rt; say.bytes().is_empty() == ended != Status::Done);
     }
-    assert_eq!(rt; writes, 2);
+    assert!(rt; writes == 2);
 
     let mut files = held(alloc, &DOUBLED, &report, &[])?;
     let mut say = MemSay::new(alloc, [1u64].to_vec(alloc)?)?;
     let ended = run_expect(alloc, &mut files, &mut say)?;
-    assert_eq!(rt; ended, Status::WriteFault);
+    assert!(rt; ended == Status::WriteFault);
     expect_file(&rt, alloc, &mut files, b"y.txt", b"00\nfe\n")
 }

@@ -90,8 +90,8 @@ pub(crate) fn expect_end_with(
     files.put(&text(alloc, b"table")?, table)?;
     let mut say = MemSay::new(alloc, Vec::new(alloc))?;
     let ended = run(alloc, &compile_words(alloc)?, &mut files, &mut say);
-    assert_eq!(rt; ended, status, "{:?}", text(alloc, source)?);
-    assert_eq!(rt; say.bytes(), said);
+    assert!(rt; ended == status, "{:?}", text(alloc, source)?);
+    assert!(rt; say.bytes() == said);
     Ok(())
 }
 
@@ -101,10 +101,10 @@ fn a_kernel_of_one_sum_is_compiled(rt: HostRuntime) -> Result<(), Fail> {
     let mut files = project(alloc, DOUBLE, &[])?;
     let mut say = MemSay::new(alloc, Vec::new(alloc))?;
     let ended = run(alloc, &compile_words(alloc)?, &mut files, &mut say);
-    assert_eq!(rt; ended, Status::Done);
-    assert_eq!(rt; say.bytes(), b"kernel Double fifo 0\n".as_slice());
+    assert!(rt; ended == Status::Done);
+    assert!(rt; say.bytes() == b"kernel Double fifo 0\n".as_slice());
     let other = read_whole(alloc, &mut files, &text(alloc, b"other")?, 100)?;
-    assert_eq!(rt; other.as_slice(), b"as before".as_slice());
+    assert!(rt; other.as_slice() == b"as before".as_slice());
     Ok(())
 }
 
@@ -140,8 +140,8 @@ fn words_that_are_no_command(rt: HostRuntime) -> Result<(), Fail> {
         let mut files = project(alloc, DOUBLE, &[])?;
         let mut say = MemSay::new(alloc, Vec::new(alloc))?;
         let ended = run(alloc, &words(alloc, line)?, &mut files, &mut say);
-        assert_eq!(rt; ended, Status::Usage);
-        assert_eq!(rt; say.bytes(), USAGE);
+        assert!(rt; ended == Status::Usage);
+        assert!(rt; say.bytes() == USAGE);
     }
     Ok(())
 }
@@ -165,15 +165,15 @@ fn the_first_call_that_fails_ends_the_command(rt: HostRuntime) -> Result<(), Fai
         let mut files = project(alloc, DOUBLE, &[call])?;
         let mut say = MemSay::new(alloc, Vec::new(alloc))?;
         let ended = run(alloc, &compile_words(alloc)?, &mut files, &mut say);
-        assert_eq!(rt; ended, status, "call {call}");
+        assert!(rt; ended == status, "call {call}");
         if status != Status::Done {
-            assert_eq!(rt; say.bytes(), b"".as_slice());
+            assert!(rt; say.bytes() == b"".as_slice());
         }
     }
     let mut files = project(alloc, DOUBLE, &[])?;
     let mut say = MemSay::new(alloc, [1u64].to_vec(alloc)?)?;
     let ended = run(alloc, &compile_words(alloc)?, &mut files, &mut say);
-    assert_eq!(rt; ended, Status::WriteFault);
+    assert!(rt; ended == Status::WriteFault);
     Ok(())
 }
 
@@ -183,8 +183,8 @@ fn a_source_that_is_not_held(rt: HostRuntime) -> Result<(), Fail> {
     let mut files = MemFiles::new(alloc, Vec::new(alloc))?;
     let mut say = MemSay::new(alloc, Vec::new(alloc))?;
     let ended = run(alloc, &compile_words(alloc)?, &mut files, &mut say);
-    assert_eq!(rt; ended, Status::ReadFault);
-    assert_eq!(rt; say.bytes(), b"".as_slice());
+    assert!(rt; ended == Status::ReadFault);
+    assert!(rt; say.bytes() == b"".as_slice());
     Ok(())
 }
 
@@ -217,8 +217,8 @@ fn a_text_and_a_run_file_that_are_not_held(rt: HostRuntime) -> Result<(), Fail> 
         let mut files = project(alloc, DOUBLE, &[])?;
         let mut say = MemSay::new(alloc, Vec::new(alloc))?;
         let ended = run(alloc, &words(alloc, line)?, &mut files, &mut say);
-        assert_eq!(rt; ended, Status::ReadFault);
-        assert_eq!(rt; say.bytes(), b"".as_slice());
+        assert!(rt; ended == Status::ReadFault);
+        assert!(rt; say.bytes() == b"".as_slice());
     }
     Ok(())
 }

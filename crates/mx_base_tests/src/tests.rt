@@ -38,10 +38,10 @@ fn files_fail_where_told(rt: HostRuntime) -> Result<(), Fail> {
     for (fails, answers, held) in cases {
         let mut files = MemFiles::new(alloc, vec![in alloc; fails]?)?;
         files.put(&name, b"old")?;
-        assert_eq!(rt; three_calls(&mut files, &name), answers, "call {fails}");
+        assert!(rt; three_calls(&mut files, &name) == answers, "call {fails}");
         let bytes = read_whole(alloc, &mut files, &name, 9)?;
-        assert_eq!(rt; bytes.as_slice(), held, "call {fails}");
-        assert_eq!(rt; files.short(), 0);
+        assert!(rt; bytes.as_slice() == held, "call {fails}");
+        assert!(rt; files.short() == 0);
     }
     Ok(())
 }
@@ -51,9 +51,9 @@ fn output_fails_where_told(rt: HostRuntime) -> Result<(), Fail> {
     let alloc = rt.alloc();
     let mut say = MemSay::new(alloc, vec![in alloc; 2]?)?;
     let answers = [say.say(b"one "), say.say(b"two "), say.say(b"three")];
-    assert_eq!(rt; answers, [Ok(()), Err(Failed), Ok(())]);
-    assert_eq!(rt; say.bytes(), b"one three".as_slice());
-    assert_eq!(rt; say.short(), 0);
+    assert!(rt; answers == [Ok(()), Err(Failed), Ok(())]);
+    assert!(rt; say.bytes() == b"one three".as_slice());
+    assert!(rt; say.short() == 0);
     Ok(())
 }
 
@@ -66,11 +66,11 @@ fn reads_whole_up_to_the_limit(rt: HostRuntime) -> Result<(), Fail> {
     let mut files = MemFiles::new(alloc, Vec::new(alloc))?;
     files.put(&name, &long)?;
     let whole = read_whole(alloc, &mut files, &name, 40_000)?;
-    assert_eq!(rt; whole.as_slice(), long.as_slice());
+    assert!(rt; whole.as_slice() == long.as_slice());
     let cut = read_whole(alloc, &mut files, &name, 39_999);
-    assert_eq!(rt; cut.err(), Some(ReadError::TooLarge));
+    assert!(rt; cut.err() == Some(ReadError::TooLarge));
     let missing = read_whole(alloc, &mut files, &other, 40_000);
-    assert_eq!(rt; missing.err(), Some(ReadError::ReadFault));
+    assert!(rt; missing.err() == Some(ReadError::ReadFault));
     Ok(())
 }
 
@@ -79,17 +79,17 @@ fn real_files_round_trip(rt: HostRuntime) -> Result<(), Fail> {
     let alloc = rt.alloc();
     let name = text(alloc, b"mx_base_round_trip.txt")?;
     let mut files = RealFiles::new(alloc, &rt)?;
-    assert_eq!(rt; files.create(&name), Ok(()));
-    assert_eq!(rt; files.append(&name, b"one "), Ok(()));
-    assert_eq!(rt; files.append(&name, b"two"), Ok(()));
+    assert!(rt; files.create(&name) == Ok(()));
+    assert!(rt; files.append(&name, b"one ") == Ok(()));
+    assert!(rt; files.append(&name, b"two") == Ok(()));
     let bytes = read_whole(alloc, &mut files, &name, 7)?;
-    assert_eq!(rt; bytes.as_slice(), b"one two".as_slice());
+    assert!(rt; bytes.as_slice() == b"one two".as_slice());
     fs::remove_file(&rt, "mx_base_round_trip.txt")?;
     let other = text(alloc, b"mx_base_never_made.txt")?;
     let missing = read_whole(alloc, &mut files, &other, 7);
-    assert_eq!(rt; missing.err(), Some(ReadError::ReadFault));
+    assert!(rt; missing.err() == Some(ReadError::ReadFault));
     let no_path = text(alloc, &[255])?;
-    assert_eq!(rt; files.create(&no_path), Err(Failed));
+    assert!(rt; files.create(&no_path) == Err(Failed));
     Ok(())
 }
 
@@ -100,12 +100,12 @@ fn real_files_are_read_past_4_gib(rt: HostRuntime) -> Result<(), Fail> {
     let name = text(alloc, b"mx_base_sparse.txt")?;
     fs::create(&rt, "mx_base_sparse.txt")?.set_len(1 << 32)?;
     let mut files = RealFiles::new(alloc, &rt)?;
-    assert_eq!(rt; files.append(&name, b"end"), Ok(()));
+    assert!(rt; files.append(&name, b"end") == Ok(()));
     let mut bytes = [0; 3];
-    assert_eq!(rt; files.read_at(&name, 1 << 32, &mut bytes), Ok(3));
-    assert_eq!(rt; bytes.as_slice(), b"end".as_slice());
-    assert_eq!(rt; files.read_at(&name, 0, &mut bytes), Ok(3));
-    assert_eq!(rt; bytes.as_slice(), [0; 3].as_slice());
+    assert!(rt; files.read_at(&name, 1 << 32, &mut bytes) == Ok(3));
+    assert!(rt; bytes.as_slice() == b"end".as_slice());
+    assert!(rt; files.read_at(&name, 0, &mut bytes) == Ok(3));
+    assert!(rt; bytes.as_slice() == [0; 3].as_slice());
     fs::remove_file(&rt, "mx_base_sparse.txt")?;
     Ok(())
 }
@@ -116,7 +116,7 @@ fn a_failed_write_is_told(rt: HostRuntime) -> Result<(), Fail> {
     let alloc = rt.alloc();
     let name = text(alloc, b"/dev/full")?;
     let mut files = RealFiles::new(alloc, &rt)?;
-    assert_eq!(rt; files.append(&name, b"lost"), Err(Failed));
+    assert!(rt; files.append(&name, b"lost") == Err(Failed));
     Ok(())
 }
 
@@ -130,16 +130,16 @@ fn many_real_files_in_turn(rt: HostRuntime) -> Result<(), Fail> {
             let name = format!(in alloc; "mx_base_file_{number}.txt")?;
             let name = Text::from_vec(name.into_bytes());
             if round == 0 {
-                assert_eq!(rt; files.create(&name), Ok(()));
+                assert!(rt; files.create(&name) == Ok(()));
             }
-            assert_eq!(rt; files.append(&name, &[number]), Ok(()));
+            assert!(rt; files.append(&name, &[number]) == Ok(()));
         }
     }
     for number in 0..80u8 {
         let path = format!(in alloc; "mx_base_file_{number}.txt")?;
         let name = text(alloc, path.as_bytes())?;
         let bytes = read_whole(alloc, &mut files, &name, 7)?;
-        assert_eq!(rt; bytes.as_slice(), [number, number].as_slice());
+        assert!(rt; bytes.as_slice() == [number, number].as_slice());
         fs::remove_file(&rt, path.as_str())?;
     }
     Ok(())
@@ -148,7 +148,7 @@ fn many_real_files_in_turn(rt: HostRuntime) -> Result<(), Fail> {
 #[test]
 fn says_to_the_standard_output(rt: HostRuntime) {
     let mut say = StdSay::new(&rt);
-    assert_eq!(rt; say.say(b"said\n"), Ok(()));
+    assert!(rt; say.say(b"said\n") == Ok(()));
 }
 
 #[test]
@@ -160,10 +160,10 @@ fn lists_and_texts_grow_and_compare(rt: HostRuntime) -> Result<(), Fail> {
     list.push(name.copy(alloc)?)?;
     assert!(rt; list.at(0).is(b"abcd"));
     assert!(rt; list.get(1).is_none());
-    assert_eq!(rt; (list.len(), name.len()), (1, 4));
+    assert!(rt; (list.len(), name.len()) == (1, 4));
     let others = List::from_vec(vec![in alloc; text(alloc, b"abcd")?]?);
     assert!(rt; list == others);
-    assert_eq!(rt; hash_of(&name), hash_of(others.at(0)));
+    assert!(rt; hash_of(&name) == hash_of(others.at(0)));
     Ok(())
 }
 

@@ -2,11 +2,9 @@
 //! of it again: worked sources with the project that they build, or the line of their refusal.
 #![tactic(auto)]
 
-mod telling;
-
-pub use telling::{Told, tell};
-
 #[cfg(test)]
 mod sources;
+#[cfg(test)]
+mod telling;
 #[cfg(test)]
 mod tests;

@@ -288,23 +288,23 @@ fn to_bool(alloc: Global, bit: u128) -> Result<u128, Fail> {
 fn whole_numbers_follow_the_table(rt: HostRuntime) -> Result<(), Fail> {
     let alloc = rt.alloc();
     let unsigned = [0xb1, 0x47, 0xac, 0x2, 0x34, 0x7d, 0x49];
-    assert_eq!(rt; of_unsigned(alloc, 0x7c, 0x35)?, unsigned);
-    assert_eq!(rt; order_of_signed(alloc, 0x80, 0x7f)?, [0, 1, 1, 1, 0, 0]);
-    assert_eq!(rt; order_of_signed(alloc, 0x7f, 0x80)?, [0, 1, 0, 0, 1, 1]);
-    assert_eq!(rt; order_of_signed(alloc, 0x80, 0x80)?, [1, 0, 0, 1, 0, 1]);
+    assert!(rt; of_unsigned(alloc, 0x7c, 0x35)? == unsigned);
+    assert!(rt; order_of_signed(alloc, 0x80, 0x7f)? == [0, 1, 1, 1, 0, 0]);
+    assert!(rt; order_of_signed(alloc, 0x7f, 0x80)? == [0, 1, 0, 0, 1, 1]);
+    assert!(rt; order_of_signed(alloc, 0x80, 0x80)? == [1, 0, 0, 1, 0, 1]);
     for (a, b, want) in [
         (0xf9, 0x02, 0xfd),
         (0x07, 0xfe, 0xfd),
         (0xf9, 0xfe, 0x03),
         (0x80, 0xff, 0x80),
     ] {
-        assert_eq!(rt; quotient_of_signed(alloc, a, b)?, want, "{a} / {b}");
+        assert!(rt; quotient_of_signed(alloc, a, b)? == want, "{a} / {b}");
     }
-    assert_eq!(rt; of_one_signed(alloc, 0x81, 0)?, [0x7f, 0x7e, 0x81, 0x81]);
-    assert_eq!(rt; of_one_signed(alloc, 0x81, 1)?, [0x7f, 0x7e, 0x02, 0xc0]);
-    assert_eq!(rt; of_one_signed(alloc, 0x81, 127)?, [0x7f, 0x7e, 0x00, 0xff]);
-    assert_eq!(rt; [to_bool(alloc, 0)?, to_bool(alloc, 1)?], [0, 1]);
-    assert_eq!(rt; [chosen(alloc, 0)?, chosen(alloc, 1)?], [0x11, 0x22]);
+    assert!(rt; of_one_signed(alloc, 0x81, 0)? == [0x7f, 0x7e, 0x81, 0x81]);
+    assert!(rt; of_one_signed(alloc, 0x81, 1)? == [0x7f, 0x7e, 0x02, 0xc0]);
+    assert!(rt; of_one_signed(alloc, 0x81, 127)? == [0x7f, 0x7e, 0x00, 0xff]);
+    assert!(rt; [to_bool(alloc, 0)?, to_bool(alloc, 1)?] == [0, 1]);
+    assert!(rt; [chosen(alloc, 0)?, chosen(alloc, 1)?] == [0x11, 0x22]);
     Ok(())
 }
 
@@ -338,11 +338,8 @@ fn products(alloc: Global) -> Result<[[u128; 3]; 2], Fail> {
 #[test]
 fn numbers_are_rounded_by_the_mode(rt: HostRuntime) -> Result<(), Fail> {
     let alloc = rt.alloc();
-    assert_eq!(rt;
-        halves(alloc)?,
-        [[0x2, 0x3, 0x2], [0x3, 0x4, 0x4], [0xd, 0xe, 0xe]]
-    );
-    assert_eq!(rt; far_casts(alloc)?, [[0, 1, 0], [0xf0 << 120; 3]]);
-    assert_eq!(rt; products(alloc)?, [[0xff, 0, 0], [0xe0, 0xe1, 0xe0]]);
+    assert!(rt; halves(alloc)? == [[0x2, 0x3, 0x2], [0x3, 0x4, 0x4], [0xd, 0xe, 0xe]]);
+    assert!(rt; far_casts(alloc)? == [[0, 1, 0], [0xf0 << 120; 3]]);
+    assert!(rt; products(alloc)? == [[0xff, 0, 0], [0xe0, 0xe1, 0xe0]]);
     Ok(())
 }

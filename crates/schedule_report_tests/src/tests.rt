@@ -18,7 +18,7 @@ fn wrong_line(alloc: Global, text: &str) -> Result<u64, NoMemory> {
 fn first_wrong_lines_are_found(rt: HostRuntime) -> Result<(), Fail> {
     let alloc = rt.alloc();
     for (text, number) in TEXTS {
-        assert_eq!(rt; wrong_line(alloc, text)?, *number, "{text}");
+        assert!(rt; wrong_line(alloc, text)? == *number, "{text}");
     }
     Ok(())
 }
@@ -30,6 +30,6 @@ fn a_report_is_printed_as_it_was_read(rt: HostRuntime) -> Result<(), Fail> {
     let mut out = b"# ".to_vec(alloc)?;
     report.print(&mut out)?;
     assert!(rt; out.starts_with(b"# "));
-    assert_eq!(rt; &out[2..], SUM.as_bytes());
+    assert!(rt; &out[2..] == SUM.as_bytes());
     Ok(())
 }

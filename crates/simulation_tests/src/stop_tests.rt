@@ -15,16 +15,13 @@ fn text(alloc: Global, bytes: &[u8]) -> Result<Text, AllocError> {
 fn errors_stop_a_run(rt: HostRuntime) -> Result<(), Fail> {
     let alloc = rt.alloc();
     let bad = Stop::from(WordError::BadLine(text(alloc, b"x")?, 3));
-    assert_eq!(rt; bad, Stop::BadLine(text(alloc, b"x")?, 3));
+    assert!(rt; bad == Stop::BadLine(text(alloc, b"x")?, 3));
     let range = Stop::from(WordError::WordRange(text(alloc, b"x")?, 3));
-    assert_eq!(rt; range, Stop::WordRange(text(alloc, b"x")?, 3));
-    assert_eq!(rt; Stop::from(WordError::ReadFault), Stop::ReadFault);
-    assert_eq!(rt; Stop::from(WordError::WriteFault), Stop::WriteFault);
-    assert_eq!(rt;
-        Stop::from(SimError::TooManyCells(7)),
-        Stop::TooManyCells(7)
-    );
-    assert_eq!(rt; Stop::from(NoMemory), Stop::NoMemory);
+    assert!(rt; range == Stop::WordRange(text(alloc, b"x")?, 3));
+    assert!(rt; Stop::from(WordError::ReadFault) == Stop::ReadFault);
+    assert!(rt; Stop::from(WordError::WriteFault) == Stop::WriteFault);
+    assert!(rt; Stop::from(SimError::TooManyCells(7)) == Stop::TooManyCells(7));
+    assert!(rt; Stop::from(NoMemory) == Stop::NoMemory);
     one_end(&Pattern::new(|pick: u64, edge: u64, port: u32| program_stalls(pick, edge, port)));
     Ok(())
 }

@@ -21,21 +21,18 @@ fn three_neighbours(rt: HostRuntime) -> Result<(), Fail> {
     let alloc = rt.alloc();
     let mut tally = Tally::new();
     make(alloc, &mut tally)?;
-    assert_eq!(rt; (tally.nodes, tally.operands, tally.bytes), (6, 7, 2));
+    assert!(rt; (tally.nodes, tally.operands, tally.bytes) == (6, 7, 2));
     let mut graph = Graph::reserve(alloc, &tally)?;
     make(alloc, &mut graph)?;
     let kernel = graph.finish(alloc, Text::from_vec(b"Sum3".to_vec(alloc)?))?;
-    assert_eq!(rt; kernel.count(), 6);
+    assert!(rt; kernel.count() == 6);
     for number in 0..6 {
         let view = kernel.node(NodeId::new(number));
-        assert_eq!(rt; view.kind, KINDS[number as usize]);
-        assert_eq!(rt; view.t, StreamType::UInt(32));
+        assert!(rt; view.kind == KINDS[number as usize]);
+        assert!(rt; view.t == StreamType::UInt(32));
     }
-    assert_eq!(rt;
-        kernel.operands(NodeId::new(4)),
-        [NodeId::new(2), NodeId::new(3)].as_slice()
-    );
-    assert_eq!(rt; kernel.port_name(NodeId::new(5)), b"y".as_slice());
+    assert!(rt; kernel.operands(NodeId::new(4)) == [NodeId::new(2), NodeId::new(3)].as_slice());
+    assert!(rt; kernel.port_name(NodeId::new(5)) == b"y".as_slice());
     Ok(())
 }
 
@@ -58,7 +55,7 @@ fn open_feed(rt: HostRuntime) -> Result<(), Fail> {
     let name = Text::from_vec(b"K".to_vec(alloc)?);
     match graph.finish(alloc, name) {
         Ok(_kernel) => assert!(rt; false),
-        Err(error) => assert_eq!(rt; refused(error), Some(feed)),
+        Err(error) => assert!(rt; refused(error) == Some(feed)),
     }
     Ok(())
 }

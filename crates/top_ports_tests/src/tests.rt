@@ -177,10 +177,10 @@ fn a_run_tells_what_its_ports_are_for(rt: HostRuntime) -> Result<(), Fail> {
     let top = changed(alloc, 0, 0, &[])?;
     let ports = read(alloc, &top)?.ok_or(NoTop)?;
     assert!(rt; matches!(ports.kernels.as_slice(), [a] if is_kernel(a, b"Double", 2)));
-    assert_eq!(rt; ports.scalars.len(), 0);
+    assert!(rt; ports.scalars.len() == 0);
     assert!(rt; matches!(ports.inputs.as_slice(), [x] if is_stream(x, b"x", 8, 4)));
     assert!(rt; matches!(ports.outputs.as_slice(), [y] if is_stream(y, b"y", 8, 7)));
-    assert_eq!(rt; ports.done, NetId::new(10));
+    assert!(rt; ports.done == NetId::new(10));
     Ok(())
 }
 

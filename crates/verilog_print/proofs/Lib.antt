@@ -1,4 +1,3 @@
-pub mod Printed
 pub mod Connected
 pub mod Instances
 pub mod Known

@@ -5,8 +5,7 @@ use Rattle.std.proofs.lemmas.Bool.{ltb-true}
 use Rattle.std.proofs.lemmas.List.Folds.{list_all-append}
 use Rattle.std.specs.List.{list_all}
 use Rattle.grammar.specs.Bytes.{is_digit, is_hex, hex_value, digits_value}
-use Rattle.verilog_print.specs.Printed.{digit_byte, digits}
-use Rattle.verilog_print.proofs.Printed.{digits_from}
+use Rattle.verilog_print.specs.Printed.{digit_byte, digits_from, digits}
 use Rattle.verilog_print.proofs.Letters.{byte_is_digit, byte_is_hex, byte_value}
 use Rattle.verilog_print.proofs.Steps.{by_less}
 

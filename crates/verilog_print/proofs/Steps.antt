@@ -15,8 +15,7 @@ use Rattle.rtl_ir.specs.declared.design.Update.{Update}
 use Rattle.std.specs.Prelude.{codes}
 use Rattle.std.specs.List.{flat_map, zip}
 use Rattle.rtl_text.specs.Text.{is_port}
-use Rattle.verilog_print.specs.Printed.{digit_byte, digits, nets_text, declaration_text, update_text, updates_text}
-use Rattle.verilog_print.proofs.Printed.{digits_from}
+use Rattle.verilog_print.specs.Printed.{digit_byte, digits_from, digits, nets_text, declaration_text, update_text, updates_text}
 
 is_port-append : (ps qs : List Port) (n : ℕ) → is_port (ps ++ qs) n ≡ (is_port ps n || is_port qs n)
 is_port-append [] qs n = refl

@@ -1,5 +1,5 @@
 -- The bytes that are printed for each part of a design.
-use Rattle.std.specs.Prelude.{ℕ, ◌+◌, ◌-◌, Bool, List, [], ◌∷◌, ◌++◌, Option, Some, None, nat_lt, if◌then◌else◌, codes, slice_get}
+use Rattle.std.specs.Prelude.{ℕ, zero, suc, ◌+◌, ◌-◌, ◌/◌, ◌%◌, Bool, List, [], ◌∷◌, ◌++◌, Option, Some, None, nat_lt, if◌then◌else◌, codes, slice_get}
 use Rattle.std.specs.List.{flat_map, join_by, zip}
 use Rattle.rtl_ir.specs.declared.design.Net.{Net}
 use Rattle.rtl_ir.specs.declared.design.Mem.{Mem}
@@ -24,6 +24,11 @@ pub record Sheet : Type 0 where
 -- a digit below 16, in lower case
 abbrev pub digit_byte : ℕ → ℕ
 digit_byte d = if nat_lt d 10 then 48 + d else 87 + d
+
+-- the last f + 1 digits of a number at most, without leading zeros
+abbrev pub digits_from : ℕ → ℕ → ℕ → List ℕ
+digits_from base zero n = digit_byte n ∷ []
+digits_from base (suc f) n = if nat_lt n base then digit_byte n ∷ [] else digits_from base f (n / base) ++ digit_byte (n % base) ∷ []
 
 -- the digits of a number
 unfoldable pub digits : ℕ → ℕ → List ℕ

@@ -278,8 +278,8 @@ endmodule
 ";
 
 fn has_cell(rt: &impl Abort, cell: &Module) {
-    assert_eq!(rt; cell.nets.len(), 7);
-    assert_eq!(rt; cell.mems.len(), 1);
+    assert!(rt; cell.nets.len() == 7);
+    assert!(rt; cell.mems.len() == 1);
     for (place, net, expr) in [
         (1, 6, Expr::Cell(MemId::new(0), NetId::new(2))),
         (2, 3, Expr::Net(NetId::new(4))),
@@ -311,7 +311,7 @@ fn an_instance_joins_its_ports_in_any_order(rt: HostRuntime) {
                 has_cell(&rt, cell);
                 match top.instances.get(0) {
                     Some(instance) => {
-                        assert_eq!(rt; instance.module.index(), 0);
+                        assert!(rt; instance.module.index() == 0);
                         assert!(rt; instance.name.is(b"c"));
                         for (place, net) in [(0, 0), (1, 1), (2, 5), (3, 6)] {
                             assert!(rt;

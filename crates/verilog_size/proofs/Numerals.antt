@@ -4,8 +4,7 @@ use Rattle.std.proofs.Common.{false, [], ◌∷◌, ◌++◌, length, refl, ltb,
 use Rattle.std.proofs.Common.{if◌then◌else◌, div-lt_iff_lt-mul, pow-suc, pow_mono, ap}
 use Rattle.std.proofs.Math.Nat.{pow-zero}
 use Rattle.std.proofs.lemmas.Bool.{ltb-false}
-use Rattle.verilog_print.specs.Printed.{digit_byte, digits}
-use Rattle.verilog_print.proofs.Printed.{digits_from}
+use Rattle.verilog_print.specs.Printed.{digit_byte, digits_from, digits}
 
 -- the same after the first turn, where a number of fewer digits is left
 few_step : (base k f n : ℕ) → 0 < base → n < base ^ (k + 1)

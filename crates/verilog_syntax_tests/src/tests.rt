@@ -32,7 +32,7 @@ fn texts_fall_into_tokens(rt: HostRuntime) {
         (b"in$x$data #", Err(ScanError::NoToken(10))),
     ];
     for (text, wanted) in cases {
-        assert_eq!(rt; outcome(rt.alloc(), text), wanted);
+        assert!(rt; outcome(rt.alloc(), text) == wanted);
     }
 }
 
@@ -116,6 +116,6 @@ fn texts_have_trees(rt: HostRuntime) {
         (b"", Err(ParseError::Syntax(0))),
     ];
     for (text, wanted) in cases {
-        assert_eq!(rt; modules(rt.alloc(), text), wanted);
+        assert!(rt; modules(rt.alloc(), text) == wanted);
     }
 }

@@ -47,16 +47,16 @@ fn a_run_file_fits_its_ports(rt: HostRuntime) -> Result<(), Fail> {
         alloc,
         b"{\"ticks\":{},\"inputs\":{},\"outputs\":{},\"edges\":12}",
     )?;
-    assert_eq!(rt; run.edges, 12);
+    assert!(rt; run.edges == 12);
     let mut ports = no_ports(alloc);
-    assert_eq!(rt; run.fit(alloc, &ports), Ok(()));
+    assert!(rt; run.fit(alloc, &ports) == Ok(()));
     ports.kernels.push(KernelPorts {
         name: text(alloc, b"K")?,
         hold: NetId::new(3),
         ticks: NetId::new(4),
     })?;
     let refused = run.fit(alloc, &ports).err();
-    assert_eq!(rt; refused, Some(RunFileError::Shape(text(alloc, b"ticks")?)));
+    assert!(rt; refused == Some(RunFileError::Shape(text(alloc, b"ticks")?)));
     Ok(())
 }
 
@@ -87,12 +87,12 @@ fn lines_are_words_or_refused(rt: HostRuntime) -> Result<(), Fail> {
     let alloc = rt.alloc();
     let bad = Err(WordError::BadLine(text(alloc, b"x")?, 1));
     let range = Err(WordError::WordRange(text(alloc, b"x")?, 1));
-    assert_eq!(rt; first_word(alloc, 0, b"fF")?, Ok(Some(255)));
-    assert_eq!(rt; first_word(alloc, 0, b"")?, Ok(None));
-    assert_eq!(rt; first_word(alloc, 0, b"1\r\n")?, bad);
-    assert_eq!(rt; first_word(alloc, 0, b"\n1")?, bad);
-    assert_eq!(rt; first_word(alloc, 0, b"100")?, range);
-    assert_eq!(rt; first_word(alloc, 1, b"1")?, Err(WordError::ReadFault));
+    assert!(rt; first_word(alloc, 0, b"fF")? == Ok(Some(255)));
+    assert!(rt; first_word(alloc, 0, b"")? == Ok(None));
+    assert!(rt; first_word(alloc, 0, b"1\r\n")? == bad);
+    assert!(rt; first_word(alloc, 0, b"\n1")? == bad);
+    assert!(rt; first_word(alloc, 0, b"100")? == range);
+    assert!(rt; first_word(alloc, 1, b"1")? == Err(WordError::ReadFault));
     Ok(())
 }
 
@@ -105,6 +105,6 @@ fn words_are_written_in_whole_lines(rt: HostRuntime) -> Result<(), Fail> {
     writer.put(&mut files, None)?;
     writer.flush(&mut files)?;
     let bytes = mx_base::read_whole(alloc, &mut files, &text(alloc, b"y")?, 99)?;
-    assert_eq!(rt; bytes.as_slice(), b"1ab\nxxx\n".as_slice());
+    assert!(rt; bytes.as_slice() == b"1ab\nxxx\n".as_slice());
     Ok(())
 }

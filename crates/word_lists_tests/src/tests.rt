@@ -38,16 +38,13 @@ fn the_first_lines_are_words_or_refused(rt: HostRuntime) -> Result<(), Fail> {
     let two = Ok(vec![in alloc; 1, 0xff]?);
     let bad = Err(WordError::BadLine(text(alloc, b"x")?, 3));
     let range = Err(WordError::WordRange(text(alloc, b"x")?, 2));
-    assert_eq!(rt; words_of(alloc, &none, b"1\nfF\n", 2)?, two);
-    assert_eq!(rt; words_of(alloc, &none, b"1\nfF", 9)?, two);
-    assert_eq!(rt; words_of(alloc, &none, b"1\nfF\n\n", 2)?, two);
-    assert_eq!(rt; words_of(alloc, &none, b"1\nfF\n\n", 3)?, bad);
-    assert_eq!(rt; words_of(alloc, &none, b"1\n100\nx\n", 3)?, range);
-    assert_eq!(rt; words_of(alloc, &none, b"x", 0)?, Ok(Vec::new(alloc)));
-    assert_eq!(rt;
-        words_of(alloc, &[1], b"1\n", 1)?,
-        Err(WordError::ReadFault)
-    );
+    assert!(rt; words_of(alloc, &none, b"1\nfF\n", 2)? == two);
+    assert!(rt; words_of(alloc, &none, b"1\nfF", 9)? == two);
+    assert!(rt; words_of(alloc, &none, b"1\nfF\n\n", 2)? == two);
+    assert!(rt; words_of(alloc, &none, b"1\nfF\n\n", 3)? == bad);
+    assert!(rt; words_of(alloc, &none, b"1\n100\nx\n", 3)? == range);
+    assert!(rt; words_of(alloc, &none, b"x", 0)? == Ok(Vec::new(alloc)));
+    assert!(rt; words_of(alloc, &[1], b"1\n", 1)? == Err(WordError::ReadFault));
     Ok(())
 }
 
@@ -67,9 +64,9 @@ fn words_are_written_one_a_line(rt: HostRuntime) -> Result<(), Fail> {
     let mut files = MemFiles::new(alloc, Vec::new(alloc))?;
     write_words(alloc, &mut files, &name, 9, &[Some(0x1ab), None, Some(0)])?;
     let bytes = mx_base::read_whole(alloc, &mut files, &name, 99)?;
-    assert_eq!(rt; bytes.as_slice(), b"1ab\nxxx\n000\n".as_slice());
+    assert!(rt; bytes.as_slice() == b"1ab\nxxx\n000\n".as_slice());
     let mut full = MemFiles::new(alloc, vec![in alloc; 1]?)?;
     let refused = write_words(alloc, &mut full, &name, 9, &[]);
-    assert_eq!(rt; refused, Err(WordError::WriteFault));
+    assert!(rt; refused == Err(WordError::WriteFault));
     Ok(())
 }

@@ -1,6 +1,5 @@
 use Rattle.std.proofs.Common.{ap, sym, ◌∙◌}
-use Rattle.kernel_meaning.specs.Nodes.{tree_at}
-use Rattle.kernel_meaning.proofs.Nodes.{tree_by}
+use Rattle.kernel_meaning.specs.Nodes.{tree_by, tree_at}
 use Rattle.kernel_meaning.proofs.NodeTrees.{one_level}
 use Rattle.kernel_plans.specs.Trees.{tree_of}
 use Rattle.kernel_plans.proofs.branch.branch_at.Goals as goal
