@@ -6,7 +6,7 @@ use Rattle.top_ports.specs.declared.role.Side.{Side}
 use Rattle.top_ports.specs.declared.role.Side.TheVariants.{Input, Output}
 use Rattle.top_ports.specs.declared.role.Part.{Part}
 use Rattle.top_ports.specs.declared.role.Part.TheVariants.{Data, Valid, Ready}
-use Rattle.top_ports.specs.Roles.{RoleView, is_output, is_width}
+use Rattle.top_ports.specs.Roles.{RoleView, clock, reset, hold, ticks, scalar, stream, done, is_output, is_width}
 
 abbrev pub side_front : Side → Name
 side_front Input = codes "in$"
