@@ -1,6 +1,6 @@
 // A guess at the times and the flow, by the network simplex method (Ahuja, Magnanti and Orlin, Network
-// Flows, 1993, chapter 11). Nothing rests on it: `take_up` and `first_times` test what they take of it.
-// So no number here is trusted to be a place in a list, and every loop has a bound.
+// Flows, 1993, chapter 11). Nothing rests on it: `certified`, `take_up` and `first_times` test what they
+// take of it. So no number here is trusted to be a place in a list, and every loop has a bound.
 use cycle_find::Arc;
 use schedule_problem::Problem;
 use std::alloc::{AllocError, Global};
@@ -18,24 +18,13 @@ pub struct Guess {
     pub flow: Vec<u64>,
 }
 
-/// A node of the spanning tree: its parent, the arc between the two, its first child, the children of
-/// its parent beside it, and how many nodes stand below it, with itself.
+/// How a node hangs in the tree: the arc between it and its parent, or `NONE` where that is one of those
+/// between nodes and the root that are no arcs of the problem; whether it leads up, from the node to its
+/// parent; and what it carries.
 #[derive(Clone, Copy)]
-struct TreeNode {
-    parent: u32,
+struct Link {
     arc: u32,
-    child: u32,
-    next: u32,
-    before: u32,
-    size: u32,
-}
-
-/// An arc, and what it carries.
-#[derive(Clone, Copy)]
-struct TreeArc {
-    from: u32,
-    to: u32,
-    need: i64,
+    rises: bool,
     carries: u64,
 }
 
@@ -47,15 +36,25 @@ struct Leaving {
     at_start: bool,
 }
 
-/// A spanning tree with a root besides the nodes; their times, by which the arcs of the tree have no
-/// slack; and the arcs: those of the problem, then one between each node and the root.
+/// A spanning tree with a root besides the nodes, whose arcs alone carry anything. Of each node: its
+/// parent, how it hangs there, its first child, the children of its parent beside it, how many nodes
+/// stand below it, with itself, and its time, by which the arcs of the tree have no slack. Each is a
+/// list of its own, since a walk in the tree reads few of them. The arcs of the problem stand in
+/// another order, so that arcs of one part of the problem stand apart, each with its number.
 #[derive(Drop)]
 struct Simplex {
-    nodes: Vec<TreeNode>,
+    parents: Vec<u32>,
+    arcs_up: Vec<u32>,
+    rise: Vec<bool>,
+    carried: Vec<u64>,
+    children: Vec<u32>,
+    nexts: Vec<u32>,
+    befores: Vec<u32>,
+    sizes: Vec<u32>,
     times: Vec<i64>,
-    arcs: Vec<TreeArc>,
-    arc_count: u32,
-    stride: u32,
+    arcs: Vec<Arc>,
+    numbers: Vec<u32>,
+    block: u32,
     place: u32,
 }
 
@@ -85,58 +84,27 @@ fn begin(
     rest: &[i64],
 ) -> Result<Simplex, AllocError> {
     let root = problem.arcs.nodes;
-    let mut simplex = empty(alloc, problem)?;
+    let mut simplex = Simplex::new(alloc, problem)?;
     let far = simplex.far();
     let mut net = Vec::from_slice(alloc, rest)?;
-    let by = hanging(alloc, problem, times, rest, &mut net)?;
+    let by = simplex.hanging(alloc, times, rest, &mut net)?;
     for v in 0..root {
-        let arc = at(by.as_slice(), v);
-        if arc == NONE {
-            simplex.hang_at_root(v, root, time(times, v), time(net.as_slice(), v), far)?;
+        if at(&by, v, NONE) == NONE {
+            simplex.hang_at_root(v, at(times, v, 0), at(&net, v, 0), far);
         }
     }
     for v in 0..root {
-        let arc = at(by.as_slice(), v);
+        let arc = at(&by, v, NONE);
         if arc != NONE {
-            simplex.hang_by(v, arc, time(rest, v).unsigned_abs());
+            simplex.hang_by(v, arc, at(rest, v, 0).unsigned_abs());
         }
     }
     Ok(simplex)
 }
 
-/// The arcs of the problem, and nodes that hang nowhere.
-fn empty(alloc: Global, problem: &Problem) -> Result<Simplex, AllocError> {
-    let mut nodes = Vec::new(alloc);
-    let mut times = Vec::new(alloc);
-    nodes.push(nowhere())?;
-    times.push(0)?;
-    for _ in 0..problem.arcs.nodes {
-        nodes.push(nowhere())?;
-        times.push(0)?;
-    }
-    let mut arcs = Vec::new(alloc);
-    for arc in problem.arcs.list.as_slice() {
-        arcs.push(TreeArc {
-            from: arc.from,
-            to: arc.to,
-            need: arc.need,
-            carries: 0,
-        })?;
-    }
-    let arc_count = number_of(arcs.len());
-    Ok(Simplex {
-        nodes,
-        times,
-        arcs,
-        arc_count,
-        stride: stride(arc_count),
-        place: 0,
-    })
-}
-
 /// About the square root of the count.
-fn stride(count: u32) -> u32 {
-    for root in 10..1u32 << 16 {
+fn stride(count: usize) -> usize {
+    for root in 10..1usize << 16 {
         if root * root >= count {
             return root;
         }
@@ -152,87 +120,111 @@ fn number_of(place: usize) -> u32 {
     }
 }
 
-/// For each node in want an arc without slack, from a node that isn't in want, by which it can hang. The
-/// node from which it hangs has so much less to send.
-fn hanging(
-    alloc: Global,
-    problem: &Problem,
-    times: &[i64],
-    rest: &[i64],
-    net: &mut Vec<i64>,
-) -> Result<Vec<u32>, AllocError> {
-    let mut by = vec![in alloc; NONE; problem.arcs.nodes as usize]?;
-    let mut number = 0u32;
-    for arc in problem.arcs.list.as_slice() {
-        if hangs(arc, times, rest) && at(by.as_slice(), arc.to) == NONE {
-            if let Some(place) = by.get_mut(arc.to as usize) {
-                *place = number;
-            }
-            if let Some(sum) = net.get_mut(arc.from as usize) {
-                *sum = sum.wrapping_add(time(rest, arc.to));
-            }
-        }
-        number = number.wrapping_add(1);
-    }
-    Ok(by)
-}
-
 fn hangs(arc: &Arc, times: &[i64], rest: &[i64]) -> bool {
-    let apart = time(times, arc.to).wrapping_sub(time(times, arc.from));
-    apart == arc.need && time(rest, arc.to) < 0 && time(rest, arc.from) >= 0
+    slack(times, arc) == 0 && at(rest, arc.to, 0) < 0 && at(rest, arc.from, 0) >= 0
 }
 
-fn at(numbers: &[u32], v: u32) -> u32 {
-    match numbers.get(v as usize) {
-        Some(number) => *number,
-        None => NONE,
+/// How far the ends of an arc stand apart beyond what it needs.
+fn slack(times: &[i64], arc: &Arc) -> i64 {
+    let apart = at(times, arc.to, 0).wrapping_sub(at(times, arc.from, 0));
+    apart.wrapping_sub(arc.need)
+}
+
+/// Of these arcs, of which the first has this place, the one that lacks most, if any lacks something.
+fn worst(arcs: &[Arc], times: &[i64], first: u32) -> Option<u32> {
+    let mut least = 0i64;
+    let mut found = None;
+    let mut place = first;
+    for arc in arcs {
+        let slack = slack(times, arc);
+        if slack < least {
+            least = slack;
+            found = Some(place);
+        }
+        place = place.wrapping_add(1);
+    }
+    found
+}
+
+/// The item at a place, or another one where none stands there.
+fn at<T: Copy>(items: &[T], place: u32, other: T) -> T {
+    match items.get(place as usize) {
+        Some(item) => *item,
+        None => other,
     }
 }
 
-fn time(times: &[i64], v: u32) -> i64 {
-    match times.get(v as usize) {
-        Some(time) => *time,
-        None => 0,
-    }
-}
-
-fn nowhere() -> TreeNode {
-    TreeNode {
-        parent: NONE,
-        arc: NONE,
-        child: NONE,
-        next: NONE,
-        before: NONE,
-        size: 1,
-    }
-}
-
-fn no_arc() -> TreeArc {
-    TreeArc {
-        from: NONE,
-        to: NONE,
-        need: 0,
-        carries: 0,
+/// Puts an item in place of the one that stands there.
+fn put<T: Copy>(items: &mut [T], place: u32, item: T) {
+    if let Some(old) = items.get_mut(place as usize) {
+        *old = item;
     }
 }
 
 impl Simplex {
-    fn node(&self, v: u32) -> TreeNode {
-        match self.nodes.get(v as usize) {
-            Some(node) => *node,
-            None => nowhere(),
+    /// The arcs of the problem, and nodes that hang nowhere.
+    fn new(alloc: Global, problem: &Problem) -> Result<Simplex, AllocError> {
+        let nodes = problem.arcs.nodes as usize + 1;
+        let list = problem.arcs.list.as_slice();
+        let block = stride(list.len());
+        let mut simplex = Simplex {
+            parents: vec![in alloc; NONE; nodes]?,
+            arcs_up: vec![in alloc; NONE; nodes]?,
+            rise: vec![in alloc; false; nodes]?,
+            carried: vec![in alloc; 0u64; nodes]?,
+            children: vec![in alloc; NONE; nodes]?,
+            nexts: vec![in alloc; NONE; nodes]?,
+            befores: vec![in alloc; NONE; nodes]?,
+            sizes: vec![in alloc; 1u32; nodes]?,
+            times: vec![in alloc; 0i64; nodes]?,
+            arcs: Vec::new(alloc),
+            numbers: Vec::new(alloc),
+            block: number_of(block),
+            place: 0,
+        };
+        for first in 0..block {
+            for row in 0..=block {
+                let number = row.wrapping_mul(block).wrapping_add(first);
+                if let Some(arc) = list.get(number) {
+                    simplex.arcs.push(*arc)?;
+                    simplex.numbers.push(number_of(number))?;
+                }
+            }
         }
+        Ok(simplex)
     }
 
-    fn arc(&self, j: u32) -> TreeArc {
-        match self.arcs.get(j as usize) {
-            Some(arc) => *arc,
-            None => no_arc(),
-        }
+    fn root(&self) -> u32 {
+        number_of(self.parents.len()).wrapping_sub(1)
+    }
+
+    fn parent(&self, v: u32) -> u32 {
+        at(&self.parents, v, NONE)
+    }
+
+    fn size(&self, v: u32) -> u32 {
+        at(&self.sizes, v, 0)
     }
 
     fn time(&self, v: u32) -> i64 {
-        time(self.times.as_slice(), v)
+        at(&self.times, v, 0)
+    }
+
+    fn arc(&self, place: u32) -> Arc {
+        let none = Arc {
+            from: NONE,
+            to: NONE,
+            need: 0,
+        };
+        at(&self.arcs, place, none)
+    }
+
+    fn link(&self, v: u32) -> Link {
+        Link {
+            arc: at(&self.arcs_up, v, NONE),
+            rises: at(&self.rise, v, false),
+            carries: at(&self.carried, v, 0),
+        }
     }
 
     /// More than any walk over arcs is worth.
@@ -241,75 +233,79 @@ impl Simplex {
         for arc in &self.arcs {
             most = most.max(arc.need).max(arc.need.wrapping_neg());
         }
-        let nodes = number_of(self.nodes.len()) as i64;
+        let nodes = number_of(self.parents.len()) as i64;
         most.wrapping_add(1).wrapping_mul(nodes).wrapping_mul(2)
     }
 
-    fn hang_at_root(
-        &mut self,
-        v: u32,
-        root: u32,
-        time: i64,
-        net: i64,
-        far: i64,
-    ) -> Result<(), AllocError> {
-        let number = number_of(self.arcs.len());
-        let later = time.wrapping_add(far);
-        let earlier = time.wrapping_sub(far);
-        let carries = net.unsigned_abs();
-        if net >= 0 {
-            self.arcs.push(TreeArc {
-                from: v,
-                to: root,
-                need: later.wrapping_neg(),
-                carries,
-            })?;
-            self.hang(v, root, number, later);
-        } else {
-            self.arcs.push(TreeArc {
-                from: root,
-                to: v,
-                need: earlier,
-                carries,
-            })?;
-            self.hang(v, root, number, earlier);
+    /// For each node in want an arc without slack, from a node that isn't in want, by which it can hang.
+    /// The node from which it hangs has so much less to send.
+    fn hanging(
+        &self,
+        alloc: Global,
+        times: &[i64],
+        rest: &[i64],
+        net: &mut Vec<i64>,
+    ) -> Result<Vec<u32>, AllocError> {
+        let mut by = vec![in alloc; NONE; self.parents.len()]?;
+        let mut place = 0u32;
+        for arc in &self.arcs {
+            if hangs(arc, times, rest) && at(&by, arc.to, 0) == NONE {
+                put(&mut by, arc.to, place);
+                let sum = at(net, arc.from, 0).wrapping_add(at(rest, arc.to, 0));
+                put(net, arc.from, sum);
+            }
+            place = place.wrapping_add(1);
         }
-        Ok(())
+        Ok(by)
     }
 
-    fn hang_by(&mut self, v: u32, number: u32, carries: u64) {
-        let arc = self.arc(number);
+    /// Hangs a node at the root, so far from it that no arc of the problem is worse.
+    fn hang_at_root(&mut self, v: u32, time: i64, net: i64, far: i64) {
+        let rises = net >= 0;
+        let time = if rises {
+            time.wrapping_add(far)
+        } else {
+            time.wrapping_sub(far)
+        };
+        let link = Link {
+            arc: NONE,
+            rises,
+            carries: net.unsigned_abs(),
+        };
+        let root = self.root();
+        self.hang(v, root, link, time);
+    }
+
+    /// Hangs a node by an arc that leads to it.
+    fn hang_by(&mut self, v: u32, place: u32, carries: u64) {
+        let arc = self.arc(place);
         let time = self.time(arc.from).wrapping_add(arc.need);
-        if let Some(arc) = self.arcs.get_mut(number as usize) {
-            arc.carries = carries;
-        }
-        self.hang(v, arc.from, number, time);
+        let link = Link {
+            arc: place,
+            rises: false,
+            carries,
+        };
+        self.hang(v, arc.from, link, time);
     }
 
     /// Hangs a node for the first time.
-    fn hang(&mut self, v: u32, parent: u32, arc: u32, time: i64) {
-        if let Some(own) = self.times.get_mut(v as usize) {
-            *own = time;
-        }
-        self.link(v, parent, arc);
+    fn hang(&mut self, v: u32, parent: u32, link: Link, time: i64) {
+        put(&mut self.times, v, time);
+        self.join_to(v, parent, link);
         self.grow(parent, NONE, 1);
     }
 
     /// Hangs a node that hangs nowhere. The sizes above it stay.
-    fn link(&mut self, v: u32, parent: u32, arc: u32) {
-        let above = self.node(parent);
-        if let Some(node) = self.nodes.get_mut(v as usize) {
-            node.parent = parent;
-            node.arc = arc;
-            node.before = NONE;
-            node.next = above.child;
-        }
-        if let Some(node) = self.nodes.get_mut(above.child as usize) {
-            node.before = v;
-        }
-        if let Some(node) = self.nodes.get_mut(parent as usize) {
-            node.child = v;
-        }
+    fn join_to(&mut self, v: u32, parent: u32, link: Link) {
+        let child = at(&self.children, parent, NONE);
+        put(&mut self.parents, v, parent);
+        put(&mut self.arcs_up, v, link.arc);
+        put(&mut self.rise, v, link.rises);
+        put(&mut self.carried, v, link.carries);
+        put(&mut self.befores, v, NONE);
+        put(&mut self.nexts, v, child);
+        put(&mut self.befores, child, v);
+        put(&mut self.children, parent, v);
     }
 
     /// Adds to the sizes from a node up, as far as another one, whose size stays.
@@ -319,114 +315,88 @@ impl Simplex {
             if v == end {
                 break;
             }
-            let Some(node) = self.nodes.get_mut(v as usize) else {
+            let Some(size) = self.sizes.get_mut(v as usize) else {
                 break;
             };
-            node.size = node.size.wrapping_add(by);
-            v = node.parent;
+            *size = size.wrapping_add(by);
+            v = self.parent(v);
         }
     }
 
     /// Takes a node from its parent. The sizes above it stay.
     fn cut(&mut self, v: u32) {
-        let node = self.node(v);
-        if let Some(before) = self.nodes.get_mut(node.before as usize) {
-            before.next = node.next;
-        } else if let Some(parent) = self.nodes.get_mut(node.parent as usize) {
-            parent.child = node.next;
+        let before = at(&self.befores, v, NONE);
+        let next = at(&self.nexts, v, NONE);
+        if before == NONE {
+            let parent = self.parent(v);
+            put(&mut self.children, parent, next);
+        } else {
+            put(&mut self.nexts, before, next);
         }
-        if let Some(next) = self.nodes.get_mut(node.next as usize) {
-            next.before = node.before;
-        }
+        put(&mut self.befores, next, before);
     }
 
-    fn slack(&self, arc: &TreeArc) -> i64 {
-        let apart = self.time(arc.to).wrapping_sub(self.time(arc.from));
-        apart.wrapping_sub(arc.need)
+    fn slack(&self, arc: &Arc) -> i64 {
+        slack(&self.times, arc)
     }
 
     /// An arc whose need isn't met: the worst of a block.
     fn entering(&mut self) -> Option<u32> {
-        let mut least = 0i64;
-        let mut found = None;
-        let mut left = self.stride;
-        for _ in 0..self.arc_count {
-            let number = self.place;
-            self.step();
-            let slack = self.slack(&self.arc(number));
-            if slack < least {
-                least = slack;
-                found = Some(number);
+        let count = self.arcs.len();
+        let mut first = self.place as usize;
+        let mut left = count;
+        for _ in 0..=count {
+            let start = first.min(count);
+            let end = start.saturating_add(self.block as usize).min(count);
+            let found = worst(&self.arcs[start..end], &self.times, number_of(start));
+            first = if end < count { end } else { 0 };
+            if found.is_some() {
+                self.place = number_of(first);
+                return found;
             }
-            left = left.saturating_sub(1);
+            left = left.saturating_sub(end.saturating_sub(start));
             if left == 0 {
-                if found.is_some() {
-                    return found;
-                }
-                left = self.stride;
+                break;
             }
         }
-        found
-    }
-
-    /// Goes on to the next arc, at some distance from the last one.
-    fn step(&mut self) {
-        let next = self.place.wrapping_add(self.stride);
-        if next < self.arc_count {
-            self.place = next;
-            return;
-        }
-        let row = if self.stride > 0 {
-            self.place % self.stride
-        } else {
-            0
-        };
-        self.place = if row.wrapping_add(1) < self.stride {
-            row.wrapping_add(1)
-        } else {
-            0
-        };
-        if self.place >= self.arc_count {
-            self.place = 0;
-        }
+        None
     }
 
     /// Lets an arc into the tree and another out.
-    fn pivot(&mut self, number: u32) -> bool {
-        let arc = self.arc(number);
-        let join = self.join(arc.from, arc.to);
+    fn pivot(&mut self, place: u32) -> bool {
+        let arc = self.arc(place);
+        let join = self.meeting(arc.from, arc.to);
         let leaving = self.leaving(&arc, join);
         if leaving.node == NONE {
             return false;
         }
         if leaving.amount > 0 {
-            self.send(number, join, leaving.amount);
+            self.send(arc.from, join, leaving.amount, false);
+            self.send(arc.to, join, leaving.amount, true);
         }
-        self.exchange(number, &leaving, join);
+        self.exchange(place, &leaving, join);
         true
     }
 
     /// Where the ways from two nodes to the root meet.
-    fn join(&self, first: u32, second: u32) -> u32 {
+    fn meeting(&self, first: u32, second: u32) -> u32 {
         let mut v = first;
         let mut u = second;
         for _ in 0..STEPS {
             if v == u {
                 break;
             }
-            let a = self.node(v);
-            let b = self.node(u);
-            if a.size <= b.size {
-                v = a.parent;
+            if self.size(v) <= self.size(u) {
+                v = self.parent(v);
             } else {
-                u = b.parent;
+                u = self.parent(u);
             }
         }
         v
     }
 
     /// The arc of the cycle that is the first to carry nothing.
-    fn leaving(&self, arc: &TreeArc, join: u32) -> Leaving {
+    fn leaving(&self, arc: &Arc, join: u32) -> Leaving {
         let mut found = Leaving {
             node: NONE,
             amount: u64::MAX,
@@ -437,71 +407,57 @@ impl Simplex {
             if v == join {
                 break;
             }
-            let node = self.node(v);
-            let below = self.arc(node.arc);
-            if below.from == v && below.carries < found.amount {
+            let carries = at(&self.carried, v, 0);
+            if at(&self.rise, v, false) && carries < found.amount {
                 found = Leaving {
                     node: v,
-                    amount: below.carries,
+                    amount: carries,
                     at_start: true,
                 };
             }
-            v = node.parent;
+            v = self.parent(v);
         }
         let mut v = arc.to;
         for _ in 0..STEPS {
             if v == join {
                 break;
             }
-            let node = self.node(v);
-            let below = self.arc(node.arc);
-            if below.to == v && below.carries <= found.amount {
+            let carries = at(&self.carried, v, 0);
+            if !at(&self.rise, v, true) && carries <= found.amount {
                 found = Leaving {
                     node: v,
-                    amount: below.carries,
+                    amount: carries,
                     at_start: false,
                 };
             }
-            v = node.parent;
+            v = self.parent(v);
         }
         found
     }
 
-    /// Sends an amount round the cycle that an arc closes.
-    fn send(&mut self, number: u32, join: u32, amount: u64) {
-        let arc = self.arc(number);
-        self.carry(number, amount, true);
-        self.send_up(arc.from, join, amount, false);
-        self.send_up(arc.to, join, amount, true);
-    }
-
-    fn send_up(&mut self, start: u32, join: u32, amount: u64, up: bool) {
+    /// Sends an amount along the way from a node up, or down to it.
+    fn send(&mut self, start: u32, join: u32, amount: u64, up: bool) {
         let mut v = start;
         for _ in 0..STEPS {
             if v == join {
                 break;
             }
-            let node = self.node(v);
-            let is_up = self.arc(node.arc).from == v;
-            self.carry(node.arc, amount, is_up == up);
-            v = node.parent;
+            let more = at(&self.rise, v, up) == up;
+            if let Some(carries) = self.carried.get_mut(v as usize) {
+                *carries = if more {
+                    carries.wrapping_add(amount)
+                } else {
+                    carries.wrapping_sub(amount)
+                };
+            }
+            v = self.parent(v);
         }
     }
 
-    fn carry(&mut self, number: u32, amount: u64, more: bool) {
-        if let Some(arc) = self.arcs.get_mut(number as usize) {
-            arc.carries = if more {
-                arc.carries.wrapping_add(amount)
-            } else {
-                arc.carries.wrapping_sub(amount)
-            };
-        }
-    }
-
-    /// Hangs what the leaving arc cuts off by the entering arc. The cycle meets the way to the root at
-    /// `join`.
-    fn exchange(&mut self, number: u32, leaving: &Leaving, join: u32) {
-        let arc = self.arc(number);
+    /// Hangs what the leaving arc cuts off by the entering arc, which carries what was sent. The cycle
+    /// meets the way to the root at `join`.
+    fn exchange(&mut self, place: u32, leaving: &Leaving, join: u32) {
+        let arc = self.arc(place);
         let (top, parent) = if leaving.at_start {
             (arc.from, arc.to)
         } else {
@@ -513,40 +469,50 @@ impl Simplex {
         } else {
             slack.wrapping_neg()
         };
-        let old = self.node(leaving.node);
-        self.grow(old.parent, join, old.size.wrapping_neg());
-        self.grow(parent, join, old.size);
-        self.turn(top, parent, number, leaving.node, old.size);
-        self.shift(top, old.size, by);
+        let link = Link {
+            arc: place,
+            rises: leaving.at_start,
+            carries: leaving.amount,
+        };
+        let size = self.size(leaving.node);
+        let above = self.parent(leaving.node);
+        self.grow(above, join, size.wrapping_neg());
+        self.grow(parent, join, size);
+        self.turn(top, parent, link, leaving.node, size);
+        self.shift(top, size, by);
     }
 
     /// Turns the way from a node up to the one that was cut off, so that the first is on top.
-    fn turn(&mut self, top: u32, above: u32, number: u32, last: u32, size: u32) {
+    fn turn(&mut self, top: u32, above: u32, link: Link, last: u32, size: u32) {
         let mut v = top;
         let mut parent = above;
-        let mut arc = number;
+        let mut link = link;
         let mut less = 0u32;
         for _ in 0..STEPS {
-            let node = self.node(v);
+            let old = self.link(v);
+            let old_parent = self.parent(v);
+            let old_size = self.size(v);
             self.cut(v);
-            self.link(v, parent, arc);
-            if let Some(turned) = self.nodes.get_mut(v as usize) {
-                turned.size = size.wrapping_sub(less);
-            }
+            self.join_to(v, parent, link);
+            put(&mut self.sizes, v, size.wrapping_sub(less));
             if v == last {
                 break;
             }
-            less = node.size;
+            less = old_size;
             parent = v;
-            arc = node.arc;
-            v = node.parent;
+            link = Link {
+                arc: old.arc,
+                rises: !old.rises,
+                carries: old.carries,
+            };
+            v = old_parent;
         }
     }
 
     /// Moves the times of a node and of all below it, so many nodes, against those of all others: of
     /// the smaller part, since only their distances count.
     fn shift(&mut self, top: u32, size: u32, by: i64) {
-        let root = number_of(self.nodes.len()).wrapping_sub(1);
+        let root = self.root();
         if size <= root / 2 {
             self.shift_below(top, NONE, by);
         } else {
@@ -560,10 +526,9 @@ impl Simplex {
         for _ in 0..STEPS {
             let mut child = NONE;
             if v != but {
-                if let Some(time) = self.times.get_mut(v as usize) {
-                    *time = time.wrapping_add(by);
-                }
-                child = self.node(v).child;
+                let time = self.time(v).wrapping_add(by);
+                put(&mut self.times, v, time);
+                child = at(&self.children, v, NONE);
             }
             if child == NONE {
                 v = self.behind(v, top);
@@ -584,18 +549,18 @@ impl Simplex {
             if v == top {
                 return NONE;
             }
-            let node = self.node(v);
-            if node.next != NONE {
-                return node.next;
+            let next = at(&self.nexts, v, NONE);
+            if next != NONE {
+                return next;
             }
-            v = node.parent;
+            v = self.parent(v);
         }
         NONE
     }
 
     /// The times, the earliest of them 0, and the flow.
     fn said(&self, alloc: Global) -> Result<Guess, AllocError> {
-        let root = number_of(self.nodes.len()).wrapping_sub(1);
+        let root = self.root();
         let mut first = i64::MAX;
         for v in 0..root {
             first = first.min(self.time(v));
@@ -604,11 +569,10 @@ impl Simplex {
         for v in 0..root {
             times.push(self.time(v).wrapping_sub(first))?;
         }
-        let mut flow = Vec::new(alloc);
-        for arc in &self.arcs {
-            if flow.len() < self.arc_count as usize {
-                flow.push(arc.carries)?;
-            }
+        let mut flow = vec![in alloc; 0u64; self.arcs.len()]?;
+        for v in 0..root {
+            let link = self.link(v);
+            put(&mut flow, at(&self.numbers, link.arc, NONE), link.carries);
         }
         Ok(Guess { times, flow })
     }
