@@ -13,7 +13,7 @@ use Rattle.rtl_ir.specs.declared.design.Expr.TheVariants.{Net as Plain}
 use Rattle.rtl_ir.specs.Value.{Family, Contents, value, width_of}
 use Rattle.rtl_ir.specs.Edge.{Fits}
 use Rattle.rtl_ir.specs.Flat.{Path, AllContents, Families, Joined, FitsFlat, below, module_at, after_part, after_flat}
-use Rattle.rtl_ir.specs.ByPath.{ByParts}
+use Rattle.rtl_ir.specs.Parts.{ByParts}
 use Rattle.rtl_ir.proofs.Parts.{apart, together}
 use Rattle.rtl_ir.proofs.Ports.{joined_at, joined_of, assigned_at}
 use Rattle.verilog_sim.specs.Relocation.{relocated_assign, relocated_instance, join_of, joins_of}

@@ -24,11 +24,11 @@ pub returns-in-Ok-clause-err : goal.returns-in-Ok-clause-err
 returns-in-Ok-clause-err c =
     let trees = c.as_slice-in-Ok.result.now in
     let same : map module_view c.in-Ok.trees ≡ map module_view trees =
-        ap (map module_view) (sym c.as_slice-in-Ok.ensures) in
+    ap (map module_view) (sym c.as_slice-in-Ok.ensures) in
     let are : AreTrees c.as_slice.result.now (map module_view c.in-Ok.trees) =
-        record { derived = c.in-Ok.ensures.derived; only = c.in-Ok.ensures.only } in
+    record { derived = c.in-Ok.ensures.derived; only = c.in-Ok.ensures.only } in
     let own : AreTrees c.args.tokens (map module_view c.in-Ok.trees) =
-        subst (λ tokens. AreTrees tokens (map module_view c.in-Ok.trees)) c.as_slice.ensures are in
+    subst (λ tokens. AreTrees tokens (map module_view c.in-Ok.trees)) c.as_slice.ensures are in
     tree_fault c.args.tokens c.args.size (map module_view trees) c.in-Err.fault c.refusal.result
     (subst (AreTrees c.args.tokens) same own) c.in-Err.ensures c.refusal.ensures
 
@@ -37,8 +37,8 @@ returns-in-Err-Syntax-clause-err c =
     let size = c.args.size in
     let refused : IsRefused c.as_slice.result.now size (Syntax c.in-Err-Syntax.place) = search rules in
     let own : IsRefused c.args.tokens size (Syntax c.in-Err-Syntax.place) =
-        subst (λ tokens. IsRefused tokens size (Syntax c.in-Err-Syntax.place)) c.as_slice.ensures
-        refused in
+    subst (λ tokens. IsRefused tokens size (Syntax c.in-Err-Syntax.place)) c.as_slice.ensures
+    refused in
     subst (λ n. IsTreeFault c.args.tokens size (errors.Syntax n)) (sym c.in-Err-Syntax.place-is)
     (IsTreeFault.syntax_at c.in-Err-Syntax.place own)
 

@@ -20,4 +20,4 @@ loop-assign-preserved c =
     let instruction : Instruction = record { target = a.target; width = c.width-width.result; narrow = c.is_narrow.result; step = c.step_of.result } in
     let at = slice_get_read c.args.order.now (length c.args.order.now) i a refl c.loop-assign-test.true c.assign-item.is in
     rw c.in_ok-push.ensures.items
-    (one_compiled c.args.module.now c.args.order.now c.loop-assign.instructions.items i an instruction at refl c.width-width.ensures c.is_narrow.ensures c.step_of.ensures c.loop-assign.invariant)
+    (one_compiled c.args.module.now c.args.order.now c.loop-assign.instructions.items i a instruction at refl c.width-width.ensures c.is_narrow.ensures c.step_of.ensures c.loop-assign.invariant)
