@@ -5,8 +5,9 @@ Random kernels of several families are generated (`chain`, `layered`, `grid`, `l
 latencies of 0 to 9 ticks and widths of 1 to 64 bits, some edges at an offset. A small program over `schedule_flow`
 (bench/schedule_speed.program) is proved and built in a folder of its own, and run on the kernel; so are a program over LEMON
 (bench/schedule_speed.cpp, where g++ and liblemon-dev are installed) and `glpsol` (where glpk-utils is), on the same numbers.
-The times must be legal, and all must find the same bits. The times of the first two are those of the search alone; that of
-`glpsol` is the one that it says. Beside each time of `best` stands how many times LEMON's it is.
+The times must be legal, and all must find the same bits. The times of the first two are those of the search alone, the middle one
+of nine runs of each, which are run in turn; that of `glpsol` is the one that it says, of one run. Beside each time of `best` stands
+how many times LEMON's it is.
 
     bench/schedule_speed.py [NODES [SEED [FAMILY ..]]]
 """
@@ -15,6 +16,7 @@ import pathlib
 import random
 import re
 import shutil
+import statistics
 import subprocess
 import sys
 import tempfile
@@ -26,6 +28,7 @@ BENCH = TOP / "bench"
 BELOW = ["mx_base", "cycle_find", "schedule_problem", "dual_check", "schedule_flow"]
 SIZES = [1024, 4096]
 REACH = 64  # how far back a node reads
+RUNS = 9
 
 
 class Kernel:
@@ -164,19 +167,23 @@ def run_ours(program, numbers, nodes, edges, producers, base):
         assert times[consumer] - times[producer] >= latency + offset, "times that aren't legal"
         assert times[nodes + producer] - times[consumer] >= -offset, "times that aren't legal"
     bits = sum(width * (times[nodes + node] - times[node]) for node, width, _ in producers) - base
-    print(f"best: {bits} bits, {microseconds / 1e6:.3f} s")
     return bits, microseconds / 1e6
 
 
-def run_lemon(work, numbers):
-    """The bits and the seconds, or None where LEMON isn't installed."""
+def built_lemon(work):
+    """The program over LEMON, or None where it can't be built here."""
     program = work / "lemon"
-    compiled = subprocess.run(["g++", "-O3", "-o", str(program), str(BENCH / "schedule_speed.cpp")], capture_output=True) if shutil.which("g++") else None
-    if compiled is None or compiled.returncode:
+    words = ["g++", "-O3", "-o", str(program), str(BENCH / "schedule_speed.cpp")]
+    if shutil.which("g++") is None or subprocess.run(words, capture_output=True).returncode:
         print("LEMON is not installed here, passed over")
         return None
-    bits, microseconds = map(int, subprocess.run([str(program)], input=numbers, capture_output=True, text=True, check=True).stdout.split())
-    print(f"LEMON's network simplex: {bits} bits, {microseconds / 1e6:.3f} s")
+    return program
+
+
+def run_lemon(program, numbers):
+    """The bits and the seconds."""
+    said = subprocess.run([str(program)], input=numbers, capture_output=True, text=True, check=True).stdout
+    bits, microseconds = map(int, said.split())
     return bits, microseconds / 1e6
 
 
@@ -199,16 +206,22 @@ def run_glpk(work, nodes, edges, producers, base):
     return bits, seconds
 
 
-def compare(work, program, made):
+def compare(work, program, lemon, made):
     """Whether all find the same bits."""
     nodes, edges, producers, base = made.nodes, made.edges, made.producers(), made.base()
     numbers = written(nodes, edges, producers, base)
-    ours = run_ours(program, numbers, nodes, edges, producers, base)
-    lemon = run_lemon(work, numbers)
-    if lemon is not None:
-        print(f"best takes {ours[1] / max(lemon[1], 1e-6):.1f} times as long as LEMON")
+    ours, theirs = [], []
+    for _ in range(RUNS):
+        ours.append(run_ours(program, numbers, nodes, edges, producers, base))
+        if lemon is not None:
+            theirs.append(run_lemon(lemon, numbers))
+    time = statistics.median(seconds for _, seconds in ours)
+    print(f"best: {ours[0][0]} bits, {time:.4f} s")
+    if theirs:
+        other = statistics.median(seconds for _, seconds in theirs)
+        print(f"LEMON's network simplex: {theirs[0][0]} bits, {other:.4f} s; best takes {time / max(other, 1e-6):.1f} times as long")
     glpk = run_glpk(work, nodes, edges, producers, base)
-    return len({bits for bits, _ in filter(None, [ours, lemon, glpk])}) == 1
+    return len({bits for bits, _ in filter(None, [*ours, *theirs, glpk])}) == 1
 
 
 def main():
@@ -218,12 +231,12 @@ def main():
     good = True
     with tempfile.TemporaryDirectory() as folder:
         work = pathlib.Path(folder)
-        program = built(work)
+        program, lemon = built(work), built_lemon(work)
         for nodes in sizes:
             for family in families:
                 made = family(nodes, seed)
                 print(f"{family.__name__}, {made.nodes} nodes, {len(made.edges)} edges: a problem of {2 * made.nodes} nodes and {2 * len(made.edges)} arcs")
-                if not compare(work, program, made):
+                if not compare(work, program, lemon, made):
                     print("NOT the same bits")
                     good = False
     return 0 if good else 1
