@@ -451,7 +451,7 @@ fn the_first_call_that_fails_ends_expect(rt: HostRuntime) -> Result<(), Fail> {
             }
         }
         assert!(rt; ended == Status::ReadFault || call > 8, "call {call}");
-        assert!(rt; say.bytes().is_empty() == ended != Status::Done);
+        assert!(rt; say.bytes().is_empty() == (ended != Status::Done));
     }
     assert!(rt; writes == 2);
 
