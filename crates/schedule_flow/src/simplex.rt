@@ -76,30 +76,55 @@ pub fn guessed(
     simplex.said(alloc)
 }
 
-/// The tree of the start: each node in want hangs by a free arc where it can, all others at the root.
+/// The tree of the start. From the latest node on, each in want hangs by an arc without slack, where it
+/// can, from a node before it, which then has so much less to send, or wants it in its turn. All others
+/// hang at the root. So whatever leads down carries something, as the method asks for its end.
 fn begin(
     alloc: Global,
     problem: &Problem,
     times: &[i64],
     rest: &[i64],
 ) -> Result<Simplex, AllocError> {
-    let root = problem.arcs.nodes;
     let mut simplex = Simplex::new(alloc, problem)?;
     let far = simplex.far();
+    let order = by_time(alloc, times)?;
     let mut net = Vec::from_slice(alloc, rest)?;
-    let by = simplex.hanging(alloc, times, rest, &mut net)?;
-    for v in 0..root {
-        if at(&by, v, NONE) == NONE {
-            simplex.hang_at_root(v, at(times, v, 0), at(&net, v, 0), far);
+    let mut by = simplex.arcs_from_before(alloc, times)?;
+    for (_, v) in order.iter().rev() {
+        let wants = at(&net, *v, 0);
+        if wants < 0 {
+            let from = simplex.arc(at(&by, *v, NONE)).from;
+            let left = at(&net, from, 0).wrapping_add(wants);
+            put(&mut net, from, left);
+        } else {
+            put(&mut by, *v, NONE);
         }
     }
-    for v in 0..root {
-        let arc = at(&by, v, NONE);
-        if arc != NONE {
-            simplex.hang_by(v, arc, at(rest, v, 0).unsigned_abs());
+    for (time, v) in &order {
+        let place = at(&by, *v, NONE);
+        let left = at(&net, *v, 0);
+        if place == NONE {
+            simplex.hang_at_root(*v, *time, left, far);
+        } else {
+            simplex.hang_by(*v, place, left.unsigned_abs());
         }
+    }
+    for (_, v) in order.iter().rev() {
+        simplex.count_above(*v);
     }
     Ok(simplex)
+}
+
+/// The nodes with their times, the earliest first.
+fn by_time(alloc: Global, times: &[i64]) -> Result<Vec<(i64, u32)>, AllocError> {
+    let mut order = Vec::new(alloc);
+    let mut node = 0u32;
+    for time in times {
+        order.push((*time, node))?;
+        node = node.wrapping_add(1);
+    }
+    order.sort_unstable();
+    Ok(order)
 }
 
 /// About the square root of the count.
@@ -120,8 +145,11 @@ fn number_of(place: usize) -> u32 {
     }
 }
 
-fn hangs(arc: &Arc, times: &[i64], rest: &[i64]) -> bool {
-    slack(times, arc) == 0 && at(rest, arc.to, 0) < 0 && at(rest, arc.from, 0) >= 0
+/// Whether an arc has no slack and leads from a node to one behind it, by time and then by number.
+fn leads_on(arc: &Arc, times: &[i64]) -> bool {
+    let start = at(times, arc.from, 0);
+    let end = at(times, arc.to, 0);
+    slack(times, arc) == 0 && (start < end || start == end && arc.from < arc.to)
 }
 
 /// How far the ends of an arc stand apart beyond what it needs.
@@ -237,22 +265,13 @@ impl Simplex {
         most.wrapping_add(1).wrapping_mul(nodes).wrapping_mul(2)
     }
 
-    /// For each node in want an arc without slack, from a node that isn't in want, by which it can hang.
-    /// The node from which it hangs has so much less to send.
-    fn hanging(
-        &self,
-        alloc: Global,
-        times: &[i64],
-        rest: &[i64],
-        net: &mut Vec<i64>,
-    ) -> Result<Vec<u32>, AllocError> {
+    /// For each node an arc without slack from a node before it, or `NONE`.
+    fn arcs_from_before(&self, alloc: Global, times: &[i64]) -> Result<Vec<u32>, AllocError> {
         let mut by = vec![in alloc; NONE; self.parents.len()]?;
         let mut place = 0u32;
         for arc in &self.arcs {
-            if hangs(arc, times, rest) && at(&by, arc.to, 0) == NONE {
+            if leads_on(arc, times) && at(&by, arc.to, 0) == NONE {
                 put(&mut by, arc.to, place);
-                let sum = at(net, arc.from, 0).wrapping_add(at(rest, arc.to, 0));
-                put(net, arc.from, sum);
             }
             place = place.wrapping_add(1);
         }
@@ -288,11 +307,17 @@ impl Simplex {
         self.hang(v, arc.from, link, time);
     }
 
-    /// Hangs a node for the first time.
+    /// Hangs a node for the first time. The sizes stay.
     fn hang(&mut self, v: u32, parent: u32, link: Link, time: i64) {
         put(&mut self.times, v, time);
         self.join_to(v, parent, link);
-        self.grow(parent, NONE, 1);
+    }
+
+    /// Counts a node and all below it for its parent.
+    fn count_above(&mut self, v: u32) {
+        let parent = self.parent(v);
+        let size = self.size(parent).wrapping_add(self.size(v));
+        put(&mut self.sizes, parent, size);
     }
 
     /// Hangs a node that hangs nowhere. The sizes above it stay.
