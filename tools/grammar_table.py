@@ -53,12 +53,12 @@ VALUES = {
     "Level": variants(SYNTAX / "src/level.rt", "Level"),
     "Form": variants(ENUMS, "Form"),
     "Site": variants(ENUMS, "Site"),
-    "bool": ["false", "true"],
+    "ClassKind": variants(ENUMS, "ClassKind"),
 }
 VARIABLES = {"k": "Level", "l": "Level", "d": "Site"}
 TYPES = {name: kind for kind, names in VALUES.items() for name in names} | VARIABLES
 # with what definitions name a value of a type
-FRONTS = {"Sign": "S.", "Word": "W.", "NodeKind": "N.", "bool": ""}
+FRONTS = {"Sign": "S.", "Word": "W.", "NodeKind": "N."}
 
 
 class Value(NamedTuple):
@@ -73,7 +73,7 @@ class Value(NamedTuple):
         return FRONTS.get(self.type, f"{self.type}.") + self.name
 
     def coded(self):
-        return self.name if self.type == "bool" else f"{self.type}::{self.name}"
+        return f"{self.type}::{self.name}"
 
 
 class Symbol(NamedTuple):

@@ -425,7 +425,7 @@ MADE = "Made by tools/source_grammar.py from tools/source_grammar.txt"
 IMPORTS = {
     "crate::kind": ["Word"],
     "crate::level": ["Level"],
-    "crate::symbol": ["Action", "Effect", "Fixed", "Form", "Rule", "Site", "TokenClass"],
+    "crate::symbol": ["Action", "ClassKind", "Effect", "Fixed", "Form", "Rule", "Site", "TokenClass"],
     "crate::tree": ["NodeKind"],
     "maxj_tokens": ["Sign"],
 }
@@ -489,6 +489,7 @@ def guards_file(look):
 DECLARED = "Rattle.maxj_syntax.specs.declared"
 SYMBOL = f"{DECLARED}.symbol"
 RULES = [
+    f"use {SYMBOL}.ClassKind.{{ClassKind}}",
     f"use {SYMBOL}.Form.{{Form}}",
     f"use {SYMBOL}.Site.{{Site}}",
     f"use {SYMBOL}.Rule.{{Rule}}",
@@ -519,7 +520,7 @@ def table_file(look):
         f"-- {MADE}.",
         "-- The table of the parser: the choices of each rule, and the tokens with which each is "
         "taken.",
-        "use Rattle.std.specs.Prelude.{List, [], ◌∷◌, ◌++◌, true, false}",
+        "use Rattle.std.specs.Prelude.{List, [], ◌∷◌, ◌++◌}",
         *SIGNS_AND_WORDS,
         f"use {DECLARED}.tree.NodeKind.TheVariants as N",
         *TOKEN_CLASSES,
@@ -573,7 +574,7 @@ def move_lemmas_file(look):
     return [
         f"-- {MADE}.",
         "-- The table holds the family of moves, and no more.",
-        "use Rattle.std.proofs.Common.{true, false, List, inl, inr, refl, subst}",
+        "use Rattle.std.proofs.Common.{List, inl, inr, refl, subst}",
         SIGNS_AND_WORDS[0],
         *RULES,
         "use Rattle.maxj_syntax.specs.Symbols.{Symbol}",

@@ -16,7 +16,7 @@ use Rattle.maxj_tokens.specs.Tokens.{Token, written}
 use Rattle.maxj_tokens.specs.Scanning.{PlacedToken, from_of}
 use Rattle.maxj_syntax.specs.Tree.{Tree, Node, Trees, Nil, Cons, join, one, two, ClassTree}
 use Rattle.maxj_syntax.specs.TokenClasses.{Accepts, IsWordOf, IsSignOf, IsNameToken, leaf_kind}
-use Rattle.maxj_syntax.specs.Productions.{Above, Part, Is, Choice, absent, is_name, parent, type_words}
+use Rattle.maxj_syntax.specs.Productions.{Above, Part, Is, Choice, absent, is_name, parent, type_words, is_manager}
 use Rattle.maxj_syntax.specs.Symbols.{Inside, Symbol, Mark, Name, Sub, Call, Act}
 use Rattle.maxj_syntax.specs.Symbols as Y
 use Rattle.maxj_syntax.specs.Moves.{Move, NamedMove, sign, word, onward, ordered, looser, is_own, made, and_members}
@@ -31,6 +31,7 @@ use Rattle.maxj_syntax.proofs.Runs.{connecting, dotting, leaf, shut, split_word,
 use Rattle.maxj_syntax.proofs.Runs.{id_token, word_token, sign_token, literal_token, constructing}
 use Rattle.maxj_syntax.proofs.Runs.{more_of, inside, InSimple, InStmt, InFirst}
 use Rattle.text_scan.proofs.ByteTests.{bytes_refl}
+use Rattle.maxj_syntax.specs.declared.symbol.ClassKind.{ClassKind}
 
 -- all up to one end
 module _ (c : Entry) (q : Below) (zs : List PlacedToken) where
@@ -97,7 +98,7 @@ module _ (c : Entry) (q : Below) (zs : List PlacedToken) where
   Has (Part.Opening m p ts) xs ys = (x : List PlacedToken) (a : Tree) (s : Below)
       (ps : List Symbol) → G (sign S.Close ∷ constructing p ++ ps) (At x (adds a ts)) s ys
       → G (Sub (Rule.Opening m) ∷ ps) (At x a) s xs
-  Has (Part.Handed w p a) xs ys = (m : Bool) → w ≡ handed_word m
+  Has (Part.Handed w p a) xs ys = (m : ClassKind) → w ≡ handed_word m
       → (x : List PlacedToken) (t : Tree) (s : Below) (ps : List Symbol)
       → G (more_of m ++ sign S.Close ∷ constructing p ++ ps) (At x (add t a)) s ys
       → G (Sub (Rule.Opening m) ∷ ps) (At x t) s xs
@@ -564,14 +565,14 @@ module _ (c : Entry) (q : Below) (zs : List PlacedToken) where
       ∷ Call (Y.Members i) ∷ ps) b s xs → G (and_members i ++ ps) b s xs
   as_method i (Goes.act (Goes.mark j (Goes.act g))) = Goes.act (Goes.mark j (expand Move.declares_method (Goes.act g)))
 
-  ctor_by : (m : Bool) (w : List ℕ) (o : Bool) (b : Entry) (s : Below) (ps : List Symbol)
+  ctor_by : (m : ClassKind) (w : List ℕ) (o : Bool) (b : Entry) (s : Below) (ps : List Symbol)
       (xs : List PlacedToken) → o ≡ true → (k : Bool) → G (Act Named ∷ Act (Turn N.Ctor)
       ∷ sign S.Open ∷ Sub (Rule.Opening m) ∷ Act Into ∷ Call (Y.Members (inside m w false))
       ∷ ps) b s xs
       → G (Call (Y.After (inside m w true) o k) ∷ ps) b s xs
   ctor_by m w o b s ps xs e k g = subst (λ z. G (Call (Y.After (inside m w true) z k) ∷ ps) b s xs) (sym e) (expand_named NamedMove.after_ctor g)
 
-  handed_by : (m : Bool) (xs m1 m2 ys : List PlacedToken) (p w : List ℕ) (t : Tree)
+  handed_by : (m : ClassKind) (xs m1 m2 ys : List PlacedToken) (p w : List ℕ) (t : Tree)
       (x : List PlacedToken) (a : Tree) (s : Below) (ps : List Symbol) → w ≡ handed_word m
       → Has Part.MaybeFinal xs m1 → Has (Part.HandedType w t) m1 m2 → Has (Part.Id p) m2 ys
       → G (more_of m ++ sign S.Close ∷ constructing p ++ ps) (At x (add a (Node N.Param p (between xs ys) (one t)))) s ys → G (Sub (Rule.Opening m) ∷ ps) (At x a) s xs
@@ -585,46 +586,46 @@ module _ (c : Entry) (q : Below) (zs : List PlacedToken) where
       n : (q.0.token ≡ Token.Word p) × (is_name p ≡ true)
       n = (q.2.0 ∙ sym (ap (λ v. Token.Word v) q.3), subst (λ v. is_name v ≡ true) (sym q.3) q.2.1)
 
-      by_kind : (m : Bool) → h.0.token ≡ Token.Word (handed_word m) → (q.0.token ≡ Token.Word p)
+      by_kind : (m : ClassKind) → h.0.token ≡ Token.Word (handed_word m) → (q.0.token ≡ Token.Word p)
           × (is_name p ≡ true) → G (more_of m ++ sign S.Close ∷ constructing p
           ++ ps) (At x (add a (Node N.Param (written q.0.token) (between xs ys)
           (one (leaf N.Plain (written h.0.token) m1 m2))))) s ys
           → G (Sub (Rule.Opening m) ∷ ps) (At x a) s xs
-      by_kind false i n g =
+      by_kind ClassKind.Kernel i n g =
           expand Move.kernel_opening (Goes.act (final_plain xs m1 f _ _ _
-          (eat h.1 i (Goes.act (expand_named (NamedMove.first_param {m = false} {w = p} n.1)
+          (eat h.1 i (Goes.act (expand_named (NamedMove.first_param {m = ClassKind.Kernel} {w = p} n.1)
           (eat_name q.1 n (expand Move.kernel_opened (Goes.act (Goes.act g)))))))))
-      by_kind true i n g =
+      by_kind ClassKind.Manager i n g =
           expand Move.manager_opening (Goes.act (final_plain xs m1 f _ _ _
-          (eat h.1 i (Goes.act (expand_named (NamedMove.first_param {m = true} {w = p} n.1)
+          (eat h.1 i (Goes.act (expand_named (NamedMove.first_param {m = ClassKind.Manager} {w = p} n.1)
           (eat_name q.1 n (expand Move.manager_opened (Goes.act (Goes.act g)))))))))
 
-  class_by : (m : Bool) (w : List ℕ) (ts : Trees)
+  class_by : (m : ClassKind) (w : List ℕ) (ts : Trees)
       (xs m1 m2 m3 m4 m5 m6 m7 ys : List PlacedToken) → Has Part.Mods xs m1
       → HasWord (codes "class") m1 m2 → Has (Part.Id w) m2 m3 → HasWord (codes "extends") m3 m4
       → HasWord (parent m) m4 m5 → HasSign (codes "{") m5 m6
-      → Has (Part.Members m w true ts) m6 m7 → HasSign (codes "}") m7 ys → Has (Part.Class_ (record { name = w; manager = m; tree = Node N.Class w (between xs ys) ts })) xs ys
+      → Has (Part.Members m w true ts) m6 m7 → HasSign (codes "}") m7 ys → Has (Part.Class_ (record { name = w; manager = is_manager m; tree = Node N.Class w (between xs ys) ts })) xs ys
   class_by m w ts xs m1 m2 m3 m4 m5 m6 m7 ys mods q id ex pa q6 mem q8 = λ b s ps g.
       let own : Token.Word w ≡ Token.Word (written id.0.token) = ap (λ v. Token.Word v) id.3 in
       let n : (id.0.token ≡ Token.Word w) × (is_name w ≡ true) = (id.2.0 ∙ sym own, subst (λ v. is_name v ≡ true) (sym id.3) id.2.1) in
       expand Move.class (Goes.act (mods _ _ _ (eat q.1 q.2 (expand_named (NamedMove.class_name {w = w} n.1) (eat_name id.1 n (eat ex.1 ex.2
       (subst (λ v. G (Call (Y.Parent w) ∷ ps) (At xs (fresh N.Class v)) (On b s) m4) id.3 (by_parent m b s ps pa mem g))))))))
     where
-      by_parent : (m : Bool) (b : Entry) (s : Below) (ps : List Symbol) → HasWord (parent m) m4 m5 → Has (Part.Members m w true ts) m6 m7 → G ps b (add_classes s (record {
+      by_parent : (m : ClassKind) (b : Entry) (s : Below) (ps : List Symbol) → HasWord (parent m) m4 m5 → Has (Part.Members m w true ts) m6 m7 → G ps b (add_classes s (record {
         name = w;
-        manager = m;
+        manager = is_manager m;
         tree = Node N.Class w (between xs ys) ts;
       } ∷ [])) ys
           → G (Call (Y.Parent w) ∷ ps) (At xs (fresh N.Class w)) (On b s) m4
-      by_parent false b s ps pa mem g =
+      by_parent ClassKind.Kernel b s ps pa mem g =
           expand_named NamedMove.kernel (eat pa.1 pa.2 (eat q6.1 q6.2
           (mem _ _ _ _ (eat q8.1 q8.2 (Goes.act (Goes.act
-          (subst (λ z. G ps b (add_classes s (class_of false z
+          (subst (λ z. G ps b (add_classes s (class_of ClassKind.Kernel z
           ∷ [])) ys) (sym (shut N.Class w no_span (between xs ys) Nil ts)) g)))))))
-      by_parent true b s ps pa mem g =
+      by_parent ClassKind.Manager b s ps pa mem g =
           expand_named NamedMove.manager (eat pa.1 pa.2
           (eat q6.1 q6.2 (mem _ _ _ _ (eat q8.1 q8.2
-          (Goes.act (Goes.act (subst (λ z. G ps b (add_classes s (class_of true z
+          (Goes.act (Goes.act (subst (λ z. G ps b (add_classes s (class_of ClassKind.Manager z
           ∷ [])) ys) (sym (shut N.Class w no_span (between xs ys) Nil ts)) g)))))))
 
   choose : {at : Span} {p : Part} {qs : List Part} → Choice at p qs → (xs : List PlacedToken) → Known qs xs (λ ys. at ≡ between xs ys → Has p xs ys)
@@ -837,13 +838,13 @@ module _ (c : Entry) (q : Below) (zs : List PlacedToken) where
   choose Choice.all xs = λ m q. λ ys q1 e. λ b s ps g. expand Move.import_more (eat q.1 q.2 (expand Move.import_all (eat q1.1 q1.2 g)))
   choose Choice.no_classes xs = λ e. λ b s ps g. expand Move.no_classes (subst (λ z. G ps b z xs) (sym (add_none s)) g)
   choose (Choice.more_classes {c = k} {cs = cs}) xs = λ m h. λ ys r e. λ b s ps g. expand Move.classes (h _ _ _ (r _ _ _ (subst (λ z. G ps b z ys) (sym (add_twice s (k ∷ []) cs)) g)))
-  choose (Choice.one_class {name = w} {manager = m}
+  choose (Choice.one_class {name = w} {kind = m}
       {ts = ts}) xs = λ m1 h1. λ m2 h2. λ m3 h3. λ m4 h4. λ m5 h5. λ m6 h6. λ m7 h7. λ ys h8 e.
       rw e (class_by m w ts xs m1 m2 m3 m4 m5 m6 m7 ys h1 h2 h3 h4 h5 h6 h7 h8)
   choose Choice.no_mods xs = λ e. λ b s ps g. expand Move.no_mods g
   choose Choice.mods xs = λ m q. λ ys h e. λ b s ps g. expand Move.mods (eat q.1 q.2 (h _ _ _ g))
   choose Choice.no_members xs = λ e. λ x a s ps g. expand_named NamedMove.no_member g
-  choose (Choice.member {manager = m} {some = u} {name = w}) xs = λ n h. λ ys k e. λ x a s ps g. h (inside m w u) x a s ps (k _ _ _ _ g)
+  choose (Choice.member {kind = m} {some = u} {name = w}) xs = λ n h. λ ys k e. λ x a s ps g. h (inside m w u) x a s ps (k _ _ _ _ g)
   choose Choice.the_ctor xs = λ n h. λ ys k e. λ x a s ps g. h x a s ps (k _ _ _ _ g)
   choose {at = at} (Choice.field {w = w} {t = t} {ts = ts}) xs = λ m1 mods. λ m2 ty. λ m3 q. λ m4 k. λ ys q1 e. rw e (rw q.3 (λ i x a s ps g.
       expand_named NamedMove.member (Goes.act (mods _ _ _
@@ -857,7 +858,7 @@ module _ (c : Entry) (q : Below) (zs : List PlacedToken) where
       (expand Move.method_rest (eat q4.1 q4.2 (k _ _ _ _
       (eat q6.1 q6.2 (bl _ _ _ (Goes.act (Goes.act (Goes.act
       (subst (λ z. G (Call (Y.Members i) ∷ ps) (At x (add a z)) s ys) (sym (method_tree body ts (between xs ys) refl refl)) g)))))))))))))))))
-  choose {at = at} (Choice.ctor {manager = m} {name = w} {p = p} {ps = ts} {b = body}) xs = λ m1 mods. λ m2 q. λ m3 q3. λ m4 op. λ m5 q5. λ ys cb e. rw e (λ x a s ps g.
+  choose {at = at} (Choice.ctor {kind = m} {name = w} {p = p} {ps = ts} {b = body}) xs = λ m1 mods. λ m2 q. λ m3 q3. λ m4 op. λ m5 q5. λ ys cb e. rw e (λ x a s ps g.
       let n : (q.0.token ≡ Token.Word w) × (is_name w ≡ true) = (q.2.0 ∙ sym (ap (λ v. Token.Word v) q.3), subst (λ v. is_name v ≡ true) (sym q.3) q.2.1) in
       expand_named NamedMove.member (Goes.act (mods _ _ _
       (expand_named (NamedMove.name_member {i = inside m w true} {w = w} n.1)
@@ -869,8 +870,8 @@ module _ (c : Entry) (q : Below) (zs : List PlacedToken) where
       ∷ ps) (At x (add a z)) s ys) (sym (ap (λ z. spanned (between xs ys) z)
       (add_adds (fresh N.Ctor w) ts body) ∙ shut N.Ctor w no_span (between xs ys) Nil
       (join ts (one body)))) g)))))))))))))))
-  choose Choice.kernel_opening xs = λ m h. λ ys k e. λ x a s ps g. h false refl x a s ps (k _ _ _ _ g)
-  choose Choice.manager_opening xs = λ ys h e. λ x a s ps g. h true refl x a s ps g
+  choose Choice.kernel_opening xs = λ m h. λ ys k e. λ x a s ps g. h ClassKind.Kernel refl x a s ps (k _ _ _ _ g)
+  choose Choice.manager_opening xs = λ ys h e. λ x a s ps g. h ClassKind.Manager refl x a s ps g
   choose {at = at} (Choice.handed {w = w} {p = p} {t = t}) xs = λ m1 f. λ m2 h. λ ys q e. rw e (λ m o x a s ps g. handed_by m xs m1 m2 ys p w t x a s ps o f h q g)
   choose Choice.handed_type xs = λ ys q e. (q.0, q.1, q.2, rw e (ap (λ v. Node N.Plain v (between xs ys) Nil) (sym (ap written q.2))))
   choose {at = at} (Choice.ctor_block {p = p} {ts = ts}) xs = λ m1 q1. λ m2 q2. λ m3 q3. λ m4 q4. λ m5 q5. λ m6 q6. λ m7 k. λ ys q8 e. rw e (λ x a s ps g.

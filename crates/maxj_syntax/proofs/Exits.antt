@@ -1,6 +1,6 @@
 -- The exits of the parser.
 use Rattle.std.proofs.Common.{◌≡◌, ℕ, zero, suc, ◌+◌, ◌<◌, ◌≤◌, ◌-◌, List, [], ◌∷◌, Bool, true}
-use Rattle.std.proofs.Common.{false, Option, Some, refl, sym, ap, subst, ◌∙◌, length, arith}
+use Rattle.std.proofs.Common.{false, Option, Some, None, refl, sym, ap, subst, ◌∙◌, length, arith}
 use Rattle.std.proofs.Common.{reverse, drop, get_or, drop-cons, add-one, ◌==◌, slice_get}
 use Rattle.std.proofs.lemmas.List.{length-drop}
 use Rattle.std.proofs.Math.Seq.{drop-length}
@@ -23,7 +23,7 @@ use Rattle.maxj_syntax.specs.declared.symbol.TokenClass.TheVariants as C
 use Rattle.maxj_tokens.specs.Tokens.{written, Token}
 use Rattle.maxj_syntax.specs.Kinds.{kind_of}
 use Rattle.maxj_syntax.specs.TokenClasses.{class_has}
-use Rattle.maxj_syntax.specs.Choosing.{admits}
+use Rattle.maxj_syntax.specs.Choosing.{admits, kind_at}
 use Rattle.text_scan.proofs.ByteTests.{clash}
 use Rattle.maxj_syntax.proofs.ClassLemmas.{accepts, accepted}
 use Rattle.maxj_syntax.specs.declared.parser.Settled.{Settled}
@@ -211,6 +211,20 @@ pub misplaced_end : (ts : List PlacedToken) (size n : ℕ) (s : Settled) (after 
 misplaced_end ts size n s after builder h never r =
     let z : drop n ts ≡ [] = ap (λ m. drop m ts) h ∙ drop-length ts in
     record { number = length ts; bad = bad_end ts (drop n ts) s after builder z never r; at = end_place ts size (length ts) refl }
+
+-- the next token
+pub head_at : (ts : List PlacedToken) (n : ℕ) → head_of (drop n ts) ≡ slice_get ts n
+head_at [] zero = refl
+head_at [] (suc n) = refl
+head_at (t ∷ ts) zero = refl
+head_at (t ∷ ts) (suc n) = head_at ts n
+
+-- its kind, where there is one, and none at the end
+pub kind_here : (ts : List PlacedToken) (n : ℕ) (t : PlacedToken) → slice_get ts n ≡ Some t → Some (kind_of t.token) ≡ kind_at (head_of (drop n ts))
+kind_here ts n t e = ap kind_at (sym (head_at ts n ∙ e))
+
+pub kind_at_end : (ts : List PlacedToken) (n : ℕ) → n ≡ length ts → None ≡ kind_at (head_of (drop n ts))
+kind_at_end ts n h = ap (λ l. kind_at (head_of l)) (sym (ap (λ m. drop m ts) h ∙ drop-length ts))
 
 pub read_token : (ts : List PlacedToken) (at : ℕ) (t : PlacedToken) (s : Settled) (f : Effect)
     (after : List Symbol) (old new : Builder) → slice_get ts at ≡ Some t → IsTaken s t.token f

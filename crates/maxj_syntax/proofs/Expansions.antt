@@ -16,6 +16,7 @@ use Rattle.maxj_syntax.specs.Choosing.{member_choice, member_choices, member_gua
 use Rattle.maxj_syntax.specs.Choosing.{word_choice, name_choice, ctor_choice, memory_choice}
 use Rattle.maxj_syntax.specs.Choosing.{type_choice}
 use Rattle.maxj_syntax.specs.Building.{IsExpanded}
+use Rattle.maxj_syntax.specs.declared.symbol.ClassKind.{ClassKind}
 
 first_picked : (g : List TokenClass) (gs : List (List TokenClass)) (c : List Symbol) (cs : List (List Symbol)) (k : Option Kind) → admits g k ≡ true → pick (g ∷ gs) (c ∷ cs) k ≡ Some c
 first_picked g gs c cs k e = rw e refl
@@ -48,15 +49,15 @@ pub same_name : (i : Inside) (t : Option PlacedToken) → name_next (Y.Head i) t
 same_name i None = refl
 same_name i (Some t) = refl
 
-pub same_param : (m : Bool) (t : Option PlacedToken) → name_next (Y.FirstParam m) t ≡ name_next Y.ClassName t
+pub same_param : (m : ClassKind) (t : Option PlacedToken) → name_next (Y.FirstParam m) t ≡ name_next Y.ClassName t
 same_param m None = refl
 same_param m (Some t) = refl
 
 abbrev pub kernel_inside : List ℕ → Inside
-kernel_inside w = record { manager = false; class = w; unmade = true }
+kernel_inside w = record { kind = ClassKind.Kernel; class = w; unmade = true }
 
 abbrev pub manager_inside : List ℕ → Inside
-manager_inside w = record { manager = true; class = w; unmade = true }
+manager_inside w = record { kind = ClassKind.Manager; class = w; unmade = true }
 
 pub parent_kernel : (w : List ℕ) (t : Option PlacedToken) (old new : List Symbol)
     → admits (C.Word W.Kernel ∷ []) (kind_at t) ≡ true → new ≡ (word W.Kernel

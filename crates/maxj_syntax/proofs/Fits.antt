@@ -33,6 +33,7 @@ use Rattle.maxj_syntax.specs.Choosing.{begins_member, member_choices, member_gua
 use Rattle.text_scan.proofs.ByteTests.{or_true, clash, not_true, bytes_same, bytes_refl}
 use Rattle.maxj_syntax.proofs.Sets.{within_has, apart_has, or_has_left, or_has_right, classes_have, have_classes}
 use Rattle.maxj_syntax.proofs.ClassLemmas.{accepted, accepts}
+use Rattle.maxj_syntax.specs.declared.symbol.ClassKind.{ClassKind}
 
 pub and_left : (a b : Bool) → (a && b) ≡ true → a ≡ true
 and_left true b e = refl
@@ -241,9 +242,9 @@ Fits r = (choices_fit (set_of (first r)) (nullable r) (set_of (peek r)) (choices
 -- Made by tools/source_grammar.py from tools/source_grammar.txt: each rule passes the test.
 pub rule_fits : (r : Rule) → Fits r
 rule_fits R.File = (refl, refl, refl)
-rule_fits (R.Opening false) = (refl, refl, refl)
+rule_fits (R.Opening ClassKind.Kernel) = (refl, refl, refl)
 rule_fits (R.Opening _) = (refl, refl, refl)
-rule_fits (R.Opened false) = (refl, refl, refl)
+rule_fits (R.Opened ClassKind.Kernel) = (refl, refl, refl)
 rule_fits (R.Opened _) = (refl, refl, refl)
 rule_fits (R.Operand Level.Prefixes) = (refl, refl, refl)
 rule_fits (R.Operand _) = (refl, refl, refl)
@@ -288,25 +289,25 @@ named_fits (Y.Members i) = part i.unmade
     part true = (refl, refl, refl, refl)
     part false = (refl, refl, refl, refl)
 named_fits (Y.Head i) = (refl, refl, refl, refl)
-named_fits (Y.After i own memory) = part i.manager i.class i.unmade own memory
+named_fits (Y.After i own memory) = part i.kind i.class i.unmade own memory
   where
-    part : (b : Bool) (w : List ℕ) (u o m : Bool) → NamedFits (Y.After (record { manager = b; class = w; unmade = u }) o m)
-    part true w u true true = (refl, refl, refl, refl)
-    part true w u true false = (refl, refl, refl, refl)
-    part true w u false true = (refl, refl, refl, refl)
-    part true w u false false = (refl, refl, refl, refl)
-    part false w u true true = (refl, refl, refl, refl)
-    part false w u true false = (refl, refl, refl, refl)
-    part false w u false true = (refl, refl, refl, refl)
-    part false w u false false = (refl, refl, refl, refl)
+    part : (b : ClassKind) (w : List ℕ) (u o m : Bool) → NamedFits (Y.After (record { kind = b; class = w; unmade = u }) o m)
+    part ClassKind.Manager w u true true = (refl, refl, refl, refl)
+    part ClassKind.Manager w u true false = (refl, refl, refl, refl)
+    part ClassKind.Manager w u false true = (refl, refl, refl, refl)
+    part ClassKind.Manager w u false false = (refl, refl, refl, refl)
+    part ClassKind.Kernel w u true true = (refl, refl, refl, refl)
+    part ClassKind.Kernel w u true false = (refl, refl, refl, refl)
+    part ClassKind.Kernel w u false true = (refl, refl, refl, refl)
+    part ClassKind.Kernel w u false false = (refl, refl, refl, refl)
 named_fits (Y.FirstParam m) = (refl, refl, refl, refl)
 
 -- the list that begins with a name
 bound_fits : (n : Y.Named) (w : List ℕ) → binds n ≡ true → choice_fits (set_of (named_first n)) (named_nullable n) (set_of (named_peek n)) (bound n w) ≡ true
 bound_fits Y.ClassName w e = refl
 bound_fits (Y.Head i) w e = refl
-bound_fits (Y.FirstParam true) w e = refl
-bound_fits (Y.FirstParam false) w e = refl
+bound_fits (Y.FirstParam ClassKind.Manager) w e = refl
+bound_fits (Y.FirstParam ClassKind.Kernel) w e = refl
 bound_fits (Y.Parent v) w e = absurd (cc)
 bound_fits (Y.Members i) w e = absurd (cc)
 bound_fits (Y.After i a b) w e = absurd (cc)

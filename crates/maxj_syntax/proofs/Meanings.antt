@@ -17,6 +17,7 @@ use Rattle.maxj_syntax.specs.Symbols as Y
 use Rattle.maxj_syntax.specs.Moves.{is_own}
 use Rattle.maxj_syntax.specs.Steps.{Entry, At, Below, Ground, On, between, no_span, fresh, add, spanned, tree_of, start_of, add_classes, memory_type, read_top, read_below, act_top, act_below}
 use Rattle.maxj_syntax.proofs.Segments.{Seg}
+use Rattle.maxj_syntax.specs.declared.symbol.ClassKind.{ClassKind}
 
 -- what a rule does to the stack: a new tree on top, another tree on top, one in place of the two on top, one in place of the
 -- three, nothing, classes at the ground, or the one on top goes there as a class
@@ -166,20 +167,20 @@ IsBegun t x y = (t ≡ fresh N.Field []) × Reads Part.Mods x y
 abbrev pub IsHead : NodeKind → Tree → List PlacedToken → List PlacedToken → Type 0
 IsHead k t x y = (w : List ℕ) × (a : Tree) × (t ≡ Node k w no_span (one a)) × Seg (Part.Mods ∷ HeadPart k a ∷ Part.Id w ∷ []) x y
 
-abbrev pub handed_word : Bool → List ℕ
-handed_word false = codes "KernelParameters"
-handed_word true = codes "EngineParameters"
+abbrev pub handed_word : ClassKind → List ℕ
+handed_word ClassKind.Kernel = codes "KernelParameters"
+handed_word ClassKind.Manager = codes "EngineParameters"
 
 -- the first parameter of a constructor, up to its name
-abbrev pub IsHanded : Bool → Tree → List PlacedToken → List PlacedToken → Type 0
+abbrev pub IsHanded : ClassKind → Tree → List PlacedToken → List PlacedToken → Type 0
 IsHanded m t x y = (a : Tree) × (t ≡ Node N.Param [] no_span (one a)) × Seg (Part.MaybeFinal ∷ Part.HandedType (handed_word m) a ∷ []) x y
 
 -- and with its name
-abbrev pub IsHandedBy : Bool → List ℕ → Tree → List PlacedToken → List PlacedToken → Type 0
+abbrev pub IsHandedBy : ClassKind → List ℕ → Tree → List PlacedToken → List PlacedToken → Type 0
 IsHandedBy m p t x y = (a : Tree) × (t ≡ Node N.Param p no_span (one a)) × Seg (Part.MaybeFinal ∷ Part.HandedType (handed_word m) a ∷ Part.Id p ∷ []) x y
 
 -- a constructor whose parameters begin at x
-abbrev pub IsConstructed : Bool → Tree → Tree → List PlacedToken → List PlacedToken → List PlacedToken → Type 0
+abbrev pub IsConstructed : ClassKind → Tree → Tree → List PlacedToken → List PlacedToken → List PlacedToken → Type 0
 IsConstructed m t v z x y =
     (p : List ℕ) × (ps : Trees) × (b : Tree) × (v ≡ spanned (between z y) (adds t (join ps (one b)))) × Seg (Part.Opening m p ps ∷ Part.Sign_ (codes ")") ∷ Part.CtorBlock p b ∷ []) x y
 
@@ -286,14 +287,14 @@ abbrev pub NamedMean : (n : Y.Named) → Entry → Below → List PlacedToken �
 NamedMean Y.ClassName b s xs k ys = tree_of b ≡ fresh N.Class [] → Seg (Part.Mods ∷ Part.Word_ (codes "class") ∷ []) (start_of b) xs → Reads (Part.Class_ k) (start_of b) ys
 NamedMean (Y.Parent w) b s xs k ys =
     tree_of b ≡ fresh N.Class w → Seg (Part.Mods ∷ Part.Word_ (codes "class") ∷ Part.Id w ∷ Part.Word_ (codes "extends") ∷ []) (start_of b) xs → Reads (Part.Class_ k) (start_of b) ys
-NamedMean (Y.Members i) b s xs v ys = (ts : Trees) × (v ≡ adds (tree_of b) ts) × Reads (Part.Members i.manager i.class i.unmade ts) xs ys
+NamedMean (Y.Members i) b s xs v ys = (ts : Trees) × (v ≡ adds (tree_of b) ts) × Reads (Part.Members i.kind i.class i.unmade ts) xs ys
 NamedMean (Y.Head i) b (Ground cs) xs v ys = Unit {0}
-NamedMean (Y.Head i) b (On c s) xs v ys = IsBegun (tree_of b) (start_of b) xs → (ts : Trees) × (v ≡ adds (tree_of c) ts) × Reads (Part.Members i.manager i.class i.unmade ts) (start_of b) ys
+NamedMean (Y.Head i) b (On c s) xs v ys = IsBegun (tree_of b) (start_of b) xs → (ts : Trees) × (v ≡ adds (tree_of c) ts) × Reads (Part.Members i.kind i.class i.unmade ts) (start_of b) ys
 NamedMean (Y.After i o m) b (On c (On d s)) xs v ys =
     IsBegun (tree_of c) (start_of c) (start_of b) → (w : List ℕ)
     → tree_of b ≡ Node N.Plain w (between (start_of b) xs) Nil
     → Reads (Part.Id w) (start_of b) xs → o ≡ is_own i w → m ≡ bytes_eq w (codes "Memory")
-    → (ts : Trees) × (v ≡ adds (tree_of d) ts) × Reads (Part.Members i.manager i.class i.unmade ts) (start_of c) ys
+    → (ts : Trees) × (v ≡ adds (tree_of d) ts) × Reads (Part.Members i.kind i.class i.unmade ts) (start_of c) ys
 NamedMean (Y.After i o m) b (On c (Ground cs)) xs v ys = Unit {0}
 NamedMean (Y.After i o m) b (Ground cs) xs v ys = Unit {0}
 NamedMean (Y.FirstParam m) b (Ground cs) xs v ys = Unit {0}

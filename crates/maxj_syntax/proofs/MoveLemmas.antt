@@ -1,7 +1,8 @@
 -- Made by tools/source_grammar.py from tools/source_grammar.txt.
 -- The table holds the family of moves, and no more.
-use Rattle.std.proofs.Common.{true, false, List, inl, inr, refl, subst}
+use Rattle.std.proofs.Common.{List, inl, inr, refl, subst}
 use Rattle.maxj_syntax.specs.declared.level.Level.{Level}
+use Rattle.maxj_syntax.specs.declared.symbol.ClassKind.{ClassKind}
 use Rattle.maxj_syntax.specs.declared.symbol.Form.{Form}
 use Rattle.maxj_syntax.specs.declared.symbol.Site.{Site}
 use Rattle.maxj_syntax.specs.declared.symbol.Rule.{Rule}
@@ -292,10 +293,10 @@ to_move R.MoreParams qs a = elim a [
 ]
 to_move R.Param qs a = elim a [ inl e0 ↦ subst (λ l. Move R.Param l) e0 Move.param | inr a0 ↦ absurd a0 ]
 to_move R.MaybeFinal qs a = elim a [ inl e0 ↦ subst (λ l. Move R.MaybeFinal l) e0 Move.final | inr a0 ↦ elim a0 [ inl e1 ↦ subst (λ l. Move R.MaybeFinal l) e1 Move.not_final | inr a1 ↦ absurd a1 ] ]
-to_move (R.Opening false) qs a = elim a [ inl e0 ↦ subst (λ l. Move (R.Opening false) l) e0 Move.kernel_opening | inr a0 ↦ absurd a0 ]
-to_move (R.Opening true) qs a = elim a [ inl e0 ↦ subst (λ l. Move (R.Opening true) l) e0 Move.manager_opening | inr a0 ↦ absurd a0 ]
-to_move (R.Opened false) qs a = elim a [ inl e0 ↦ subst (λ l. Move (R.Opened false) l) e0 Move.kernel_opened | inr a0 ↦ absurd a0 ]
-to_move (R.Opened true) qs a = elim a [ inl e0 ↦ subst (λ l. Move (R.Opened true) l) e0 Move.manager_opened | inr a0 ↦ absurd a0 ]
+to_move (R.Opening ClassKind.Kernel) qs a = elim a [ inl e0 ↦ subst (λ l. Move (R.Opening ClassKind.Kernel) l) e0 Move.kernel_opening | inr a0 ↦ absurd a0 ]
+to_move (R.Opening ClassKind.Manager) qs a = elim a [ inl e0 ↦ subst (λ l. Move (R.Opening ClassKind.Manager) l) e0 Move.manager_opening | inr a0 ↦ absurd a0 ]
+to_move (R.Opened ClassKind.Kernel) qs a = elim a [ inl e0 ↦ subst (λ l. Move (R.Opened ClassKind.Kernel) l) e0 Move.kernel_opened | inr a0 ↦ absurd a0 ]
+to_move (R.Opened ClassKind.Manager) qs a = elim a [ inl e0 ↦ subst (λ l. Move (R.Opened ClassKind.Manager) l) e0 Move.manager_opened | inr a0 ↦ absurd a0 ]
 to_move R.SuperRest qs a = elim a [ inl e0 ↦ subst (λ l. Move R.SuperRest l) e0 Move.super_rest | inr a0 ↦ absurd a0 ]
 to_move R.TypeName qs a = elim a [
   | inl e0 ↦ subst (λ l. Move R.TypeName l) e0 Move.type_name

@@ -4,6 +4,7 @@ use Rattle.maxj_syntax.specs.Symbols.{Inside, Symbol, Call}
 use Rattle.maxj_syntax.specs.Symbols as Y
 use Rattle.maxj_syntax.specs.Moves.{NamedMove}
 use Rattle.maxj_syntax.specs.Choosing.{Among, IsBound, Choice, named_choices, member_choice, member_choices, ctor_choice, memory_choice, type_choice, after_choices}
+use Rattle.maxj_syntax.specs.declared.symbol.ClassKind.{ClassKind}
 
 member_in : (i : Inside) (u : Bool) → Among (member_choice i) (member_choices u i)
 member_in i true = inl refl
@@ -37,13 +38,13 @@ from_named (NamedMove.after_memory {i = i} {o = o}) = inl (memory_in i o)
 from_named (NamedMove.after_ctor {i = i} {m = m}) = inl (ctor_in i m)
 from_named (NamedMove.first_param {w = w} e) = inr (w, e, refl, refl)
 
-members : (m : Bool) (w : List ℕ) (u : Bool) (qs : List Symbol)
-    → Among qs (member_choices u (record { manager = m; class = w; unmade = u }))
-    → NamedMove (Y.Members (record { manager = m; class = w; unmade = u })) qs
-members m w true qs a = elim a [ inl e ↦ subst (λ l. NamedMove (Y.Members (record { manager = m; class = w; unmade = true })) l) e NamedMove.member | inr b ↦ absurd b ]
+members : (m : ClassKind) (w : List ℕ) (u : Bool) (qs : List Symbol)
+    → Among qs (member_choices u (record { kind = m; class = w; unmade = u }))
+    → NamedMove (Y.Members (record { kind = m; class = w; unmade = u })) qs
+members m w true qs a = elim a [ inl e ↦ subst (λ l. NamedMove (Y.Members (record { kind = m; class = w; unmade = true })) l) e NamedMove.member | inr b ↦ absurd b ]
 members m w false qs a = elim a [
-  | inl e ↦ subst (λ l. NamedMove (Y.Members (record { manager = m; class = w; unmade = false })) l) e NamedMove.member
-  | inr b ↦ elim b [ inl e ↦ subst (λ l. NamedMove (Y.Members (record { manager = m; class = w; unmade = false })) l) e NamedMove.no_member | inr d ↦ absurd d ]
+  | inl e ↦ subst (λ l. NamedMove (Y.Members (record { kind = m; class = w; unmade = false })) l) e NamedMove.member
+  | inr b ↦ elim b [ inl e ↦ subst (λ l. NamedMove (Y.Members (record { kind = m; class = w; unmade = false })) l) e NamedMove.no_member | inr d ↦ absurd d ]
 ]
 
 afters : (i : Inside) (o m : Bool) (qs : List Symbol) → Among qs (after_choices i o m) → NamedMove (Y.After i o m) qs
@@ -79,7 +80,7 @@ plains (Y.Parent w) qs a = elim a [
   | inl e ↦ subst (λ l. NamedMove (Y.Parent w) l) e NamedMove.kernel
   | inr b ↦ elim b [ inl e ↦ subst (λ l. NamedMove (Y.Parent w) l) e NamedMove.manager | inr d ↦ absurd d ]
 ]
-plains (Y.Members i) qs a = members i.manager i.class i.unmade qs a
+plains (Y.Members i) qs a = members i.kind i.class i.unmade qs a
 plains (Y.Head i) qs a = elim a [
   | inl e ↦ subst (λ l. NamedMove (Y.Head i) l) e NamedMove.void_method
   | inr b ↦ elim b [ inl e ↦ subst (λ l. NamedMove (Y.Head i) l) e NamedMove.word_member | inr d ↦ absurd d ]

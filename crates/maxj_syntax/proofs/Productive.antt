@@ -21,6 +21,7 @@ use Rattle.maxj_syntax.specs.Choosing.{Among, Is, Choice, named_choices, bound, 
 use Rattle.maxj_syntax.proofs.Fits.{and_left, and_right}
 use Rattle.maxj_syntax.proofs.Ranks.{Listed, mark_list, name_list, act_list, before, pick_list, ranked}
 use Rattle.text_scan.proofs.ByteTests.{bytes_refl}
+use Rattle.maxj_syntax.specs.declared.symbol.ClassKind.{ClassKind}
 
 -- the symbols speak of names alone
 abbrev FineCall : Y.Named → Type 0
@@ -43,53 +44,59 @@ AllFine (p ∷ ps) = Fine p × AllFine ps
 rest_of : (p : Symbol) (ps : List Symbol) → Listed ps → Listed (p ∷ []) → Listed (p ∷ ps)
 rest_of p ps b a = before p ps a b
 
-first_param_list : (m : Bool) → Listed (Call (Y.FirstParam m) ∷ [])
+first_param_list : (m : ClassKind) → Listed (Call (Y.FirstParam m) ∷ [])
 first_param_list m = pick_list (Call (Y.FirstParam m)) (bound (Y.FirstParam m) (codes "a")) (inr (codes "a", refl, refl, refl))
     (name_list _ _ _ refl (before _ _ (opened m) (mark_list _ _ _ (act_list _ _ (mark_list _ _ _ (mark_list _ _ _ (mark_list _ _ _ (name_list _ _ _ refl (ranked R.SuperRest refl)))))))))
   where
-    opened : (m : Bool) → Listed (Sub (R.Opened m) ∷ [])
-    opened true = ranked (R.Opened true) refl
-    opened false = ranked (R.Opened false) refl
+    opened : (m : ClassKind) → Listed (Sub (R.Opened m) ∷ [])
+    opened ClassKind.Manager = ranked (R.Opened ClassKind.Manager) refl
+    opened ClassKind.Kernel = ranked (R.Opened ClassKind.Kernel) refl
 
-opening_list : (m : Bool) → Listed (Sub (R.Opening m) ∷ [])
-opening_list false = pick_list (Sub (R.Opening false)) _ (inl refl) (act_list _ _ (before _ _ (ranked R.MaybeFinal refl) (mark_list _ _ _ (act_list _ _ (first_param_list false)))))
-opening_list true = pick_list (Sub (R.Opening true)) _ (inl refl) (act_list _ _ (before _ _ (ranked R.MaybeFinal refl) (mark_list _ _ _ (act_list _ _ (first_param_list true)))))
+opening_list : (m : ClassKind) → Listed (Sub (R.Opening m) ∷ [])
+opening_list ClassKind.Kernel =
+    pick_list (Sub (R.Opening ClassKind.Kernel)) _ (inl refl) (act_list _ _ (before _ _
+    (ranked R.MaybeFinal refl) (mark_list _ _ _ (act_list _ _
+    (first_param_list ClassKind.Kernel)))))
+opening_list ClassKind.Manager =
+    pick_list (Sub (R.Opening ClassKind.Manager)) _ (inl refl) (act_list _ _ (before _ _
+    (ranked R.MaybeFinal refl) (mark_list _ _ _ (act_list _ _
+    (first_param_list ClassKind.Manager)))))
 
-made_members : (m : Bool) (w : List ℕ) → Listed (Call (Y.Members (record { manager = m; class = w; unmade = false })) ∷ [])
-made_members m w = pick_list (Call (Y.Members (record { manager = m; class = w; unmade = false }))) [] (inl (inr (inl refl))) ([], Runs.end)
+made_members : (m : ClassKind) (w : List ℕ) → Listed (Call (Y.Members (record { kind = m; class = w; unmade = false })) ∷ [])
+made_members m w = pick_list (Call (Y.Members (record { kind = m; class = w; unmade = false }))) [] (inl (inr (inl refl))) ([], Runs.end)
 
 -- a constructor behind its name
-ctor_list : (m : Bool) (w : List ℕ) (k : Bool) → Listed (Call (Y.After (record { manager = m; class = w; unmade = true }) true k) ∷ [])
+ctor_list : (m : ClassKind) (w : List ℕ) (k : Bool) → Listed (Call (Y.After (record { kind = m; class = w; unmade = true }) true k) ∷ [])
 ctor_list m w k = pick_list (Call (Y.After (record
-    { manager = m; class = w; unmade = true }) true k)) _ (inl (here k))
+    { kind = m; class = w; unmade = true }) true k)) _ (inl (here k))
     (act_list _ _ (act_list _ _ (mark_list _ _ _ (before _ _ (opening_list m)
     (act_list _ _ (made_members m w))))))
   where
     here : (k : Bool) → Among (Act Named ∷ Act (Turn N.Ctor) ∷ Mark (C.Sign S.Open) Skip
         ∷ Sub (R.Opening m) ∷ Act Into ∷ Call (Y.Members
-        (record { manager = m; class = w; unmade = false }))
-        ∷ []) (after_choices (record { manager = m; class = w; unmade = true }) true k)
+        (record { kind = m; class = w; unmade = false }))
+        ∷ []) (after_choices (record { kind = m; class = w; unmade = true }) true k)
     here true = inl refl
     here false = inl refl
 
-head_list : (m : Bool) (w : List ℕ) (u : Bool) → is_name w ≡ true → Listed (Call (Y.Head (record { manager = m; class = w; unmade = u })) ∷ [])
+head_list : (m : ClassKind) (w : List ℕ) (u : Bool) → is_name w ≡ true → Listed (Call (Y.Head (record { kind = m; class = w; unmade = u })) ∷ [])
 head_list m w true n =
-    let i : Inside = record { manager = m; class = w; unmade = true } in
+    let i : Inside = record { kind = m; class = w; unmade = true } in
     let k = bytes_eq w (codes "Memory") in
     pick_list (Call (Y.Head i)) (bound (Y.Head i) w) (inr (w, n, refl, refl)) (name_list _ _ _ n (subst (λ o. Listed (Call (Y.After i o k) ∷ [])) (sym (bytes_refl w)) (ctor_list m w k)))
 head_list m w false n =
-    let i : Inside = record { manager = m; class = w; unmade = false } in
+    let i : Inside = record { kind = m; class = w; unmade = false } in
     pick_list (Call (Y.Head i)) _ (inl (inl refl)) (mark_list _ _ _ (act_list _ _ (mark_list _ _ _ (act_list _ _ (before _ _ (ranked R.MethodRest refl) (act_list _ _ (made_members m w)))))))
 
-members_list : (m : Bool) (w : List ℕ) (u : Bool) → is_name w ≡ true → Listed (Call (Y.Members (record { manager = m; class = w; unmade = u })) ∷ [])
-members_list m w true n = pick_list (Call (Y.Members (record { manager = m; class = w; unmade = true }))) _ (inl (inl refl)) (act_list _ _ (before _ _ (ranked R.Mods refl) (head_list m w true n)))
+members_list : (m : ClassKind) (w : List ℕ) (u : Bool) → is_name w ≡ true → Listed (Call (Y.Members (record { kind = m; class = w; unmade = u })) ∷ [])
+members_list m w true n = pick_list (Call (Y.Members (record { kind = m; class = w; unmade = true }))) _ (inl (inl refl)) (act_list _ _ (before _ _ (ranked R.Mods refl) (head_list m w true n)))
 members_list m w false n = made_members m w
 
 after_list : (i : Inside) (o k : Bool) → is_name i.class ≡ true → Listed (Call (Y.After i o k) ∷ [])
 after_list i o k n = pick_list (Call (Y.After i o k)) _ (inl (last o k))
     (before _ _ (ranked R.Dims refl) (act_list _ _ (mark_list _ _ _
     (before _ _ (ranked R.Declares refl) (act_list _ _
-    (members_list i.manager i.class i.unmade n))))))
+    (members_list i.kind i.class i.unmade n))))))
   where
     last : (o k : Bool) → Among (Sub R.Dims ∷ Act Into ∷ Mark C.Name Text ∷ Sub R.Declares ∷ Act Into ∷ Call (Y.Members i) ∷ []) (after_choices i o k)
     last true true = inr (inr (inl refl))
@@ -99,7 +106,7 @@ after_list i o k n = pick_list (Call (Y.After i o k)) _ (inl (last o k))
 
 parent_list : (w : List ℕ) → is_name w ≡ true → Listed (Call (Y.Parent w) ∷ [])
 parent_list w n = pick_list (Call (Y.Parent w)) _ (inl (inl refl))
-    (mark_list _ _ _ (mark_list _ _ _ (before _ _ (members_list false w true n)
+    (mark_list _ _ _ (mark_list _ _ _ (before _ _ (members_list ClassKind.Kernel w true n)
     (mark_list _ _ _ (act_list _ _ (act_list _ _ ([], Runs.end)))))))
 
 class_name_list : Listed (Call Y.ClassName ∷ [])
@@ -131,8 +138,8 @@ sub_list R.Params = ranked R.Params refl
 sub_list R.MoreParams = ranked R.MoreParams refl
 sub_list R.Param = ranked R.Param refl
 sub_list R.MaybeFinal = ranked R.MaybeFinal refl
-sub_list (R.Opened false) = ranked (R.Opened false) refl
-sub_list (R.Opened true) = ranked (R.Opened true) refl
+sub_list (R.Opened ClassKind.Kernel) = ranked (R.Opened ClassKind.Kernel) refl
+sub_list (R.Opened ClassKind.Manager) = ranked (R.Opened ClassKind.Manager) refl
 sub_list R.SuperRest = ranked R.SuperRest refl
 sub_list R.TypeName = ranked R.TypeName refl
 sub_list R.MemoryType = ranked R.MemoryType refl
@@ -225,8 +232,8 @@ sub_list R.Tighter = ranked R.Tighter refl
 call_list : (n : Y.Named) → FineCall n → Listed (Call n ∷ [])
 call_list Y.ClassName f = class_name_list
 call_list (Y.Parent w) f = parent_list w f
-call_list (Y.Members i) f = members_list i.manager i.class i.unmade f
-call_list (Y.Head i) f = head_list i.manager i.class i.unmade f
+call_list (Y.Members i) f = members_list i.kind i.class i.unmade f
+call_list (Y.Head i) f = head_list i.kind i.class i.unmade f
 call_list (Y.After i o m) f = after_list i o m f
 call_list (Y.FirstParam m) f = first_param_list m
 
@@ -267,9 +274,9 @@ all_plain (c ∷ cs) = plain c && all_plain cs
 -- Made by tools/source_grammar.py from tools/source_grammar.txt: the choices speak of no name.
 rules_plain : (r : Rule) → all_plain (choices r) ≡ true
 rules_plain R.File = refl
-rules_plain (R.Opening false) = refl
+rules_plain (R.Opening ClassKind.Kernel) = refl
 rules_plain (R.Opening _) = refl
-rules_plain (R.Opened false) = refl
+rules_plain (R.Opened ClassKind.Kernel) = refl
 rules_plain (R.Opened _) = refl
 rules_plain (R.Operand Level.Prefixes) = refl
 rules_plain (R.Operand _) = refl

@@ -30,6 +30,7 @@ use Rattle.maxj_syntax.specs.Productions.{is_name}
 use Rattle.maxj_syntax.specs.Table.{choices}
 use Rattle.maxj_syntax.specs.Choosing.{Among, Is, Choice}
 use Rattle.maxj_syntax.proofs.Fits.{and_left, and_right}
+use Rattle.maxj_syntax.specs.declared.symbol.ClassKind.{ClassKind}
 
 -- Made by tools/source_grammar.py from tools/source_grammar.txt: ranks and lowest choices.
 abbrev pub rank : Rule → ℕ
@@ -50,10 +51,10 @@ rank R.Params = 1
 rank R.MoreParams = 1
 rank R.Param = 3
 rank R.MaybeFinal = 1
-rank (R.Opening false) = 99
-rank (R.Opening true) = 99
-rank (R.Opened false) = 2
-rank (R.Opened true) = 1
+rank (R.Opening ClassKind.Kernel) = 99
+rank (R.Opening ClassKind.Manager) = 99
+rank (R.Opened ClassKind.Kernel) = 2
+rank (R.Opened ClassKind.Manager) = 1
 rank R.SuperRest = 2
 rank R.TypeName = 2
 rank R.MemoryType = 1
@@ -160,10 +161,10 @@ lowest R.Params = []
 lowest R.MoreParams = []
 lowest R.Param = (Act (Begin N.Param) ∷ Sub R.MaybeFinal ∷ Sub R.TypeName ∷ Act Into ∷ Mark C.Name Text ∷ Act End ∷ [])
 lowest R.MaybeFinal = (Mark (C.Word W.Final) Skip ∷ [])
-lowest (R.Opening false) = []
-lowest (R.Opening true) = []
-lowest (R.Opened false) = (Act End ∷ Act Into ∷ Sub R.MoreParams ∷ [])
-lowest (R.Opened true) = (Act End ∷ Act Into ∷ [])
+lowest (R.Opening ClassKind.Kernel) = []
+lowest (R.Opening ClassKind.Manager) = []
+lowest (R.Opened ClassKind.Kernel) = (Act End ∷ Act Into ∷ Sub R.MoreParams ∷ [])
+lowest (R.Opened ClassKind.Manager) = (Act End ∷ Act Into ∷ [])
 lowest R.SuperRest = (Mark (C.Sign S.Close) Skip ∷ Mark (C.Sign S.Semicolon) Skip ∷ Sub R.Stmts ∷ Mark (C.Sign S.CloseBrace) Skip ∷ Act End ∷ Act Into ∷ Act End ∷ [])
 lowest R.TypeName = (Mark (C.NameBut W.Memory) (Push N.Plain) ∷ Sub R.Dims ∷ [])
 lowest R.MemoryType = (Mark (C.Sign S.Less) Skip ∷ Mark (C.Word W.DFEVar) Skip ∷ Mark (C.Sign S.Greater) Skip ∷ Act End ∷ [])
@@ -298,10 +299,10 @@ lowest_among R.Params e = inr (inl refl)
 lowest_among R.MoreParams e = inr (inl refl)
 lowest_among R.Param e = inl refl
 lowest_among R.MaybeFinal e = inl refl
-lowest_among (R.Opening false) e = absurd (cc)
-lowest_among (R.Opening true) e = absurd (cc)
-lowest_among (R.Opened false) e = inl refl
-lowest_among (R.Opened true) e = inl refl
+lowest_among (R.Opening ClassKind.Kernel) e = absurd (cc)
+lowest_among (R.Opening ClassKind.Manager) e = absurd (cc)
+lowest_among (R.Opened ClassKind.Kernel) e = inl refl
+lowest_among (R.Opened ClassKind.Manager) e = inl refl
 lowest_among R.SuperRest e = inl refl
 lowest_among R.TypeName e = inl refl
 lowest_among R.MemoryType e = inl refl
@@ -401,9 +402,9 @@ small n _ = false
 -- Made by tools/source_grammar.py from tools/source_grammar.txt: its rules have smaller ranks.
 pub lowest_small : (r : Rule) → small (rank r) (lowest r) ≡ true
 lowest_small R.File = refl
-lowest_small (R.Opening false) = refl
+lowest_small (R.Opening ClassKind.Kernel) = refl
 lowest_small (R.Opening _) = refl
-lowest_small (R.Opened false) = refl
+lowest_small (R.Opened ClassKind.Kernel) = refl
 lowest_small (R.Opened _) = refl
 lowest_small (R.Operand Level.Prefixes) = refl
 lowest_small (R.Operand _) = refl

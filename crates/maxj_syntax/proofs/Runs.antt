@@ -31,6 +31,7 @@ use Rattle.maxj_syntax.specs.Steps.{Entry, Below, Goes, between, spanned, read_t
 use Rattle.text_scan.proofs.ByteTests.{bytes_same, true_or_false}
 use Rattle.maxj_syntax.proofs.Meanings.{adds}
 use Rattle.maxj_syntax.proofs.Sound.{adds_is}
+use Rattle.maxj_syntax.specs.declared.symbol.ClassKind.{ClassKind}
 
 -- the symbols of two lists, one list after the other
 pub append : {ps qs : List Symbol} {b m c : Entry} {s r q : Below} {xs ms ys : List PlacedToken} → Goes ps b s xs m r ms → Goes qs m r ms c q ys → Goes (ps ++ qs) b s xs c q ys
@@ -223,9 +224,9 @@ literal_token _ w t i = absurd i
 abbrev pub constructing : List ℕ → List Symbol
 constructing p = Act (Begin N.Block) ∷ sign S.OpenBrace ∷ word W.Super ∷ sign S.Open ∷ Name p Skip ∷ Sub Rule.SuperRest ∷ []
 
-abbrev pub more_of : Bool → List Symbol
-more_of false = Sub Rule.MoreParams ∷ []
-more_of true = []
+abbrev pub more_of : ClassKind → List Symbol
+more_of ClassKind.Kernel = Sub Rule.MoreParams ∷ []
+more_of ClassKind.Manager = []
 
-abbrev pub inside : Bool → List ℕ → Bool → Inside
-inside m w u = record { manager = m; class = w; unmade = u }
+abbrev pub inside : ClassKind → List ℕ → Bool → Inside
+inside m w u = record { kind = m; class = w; unmade = u }

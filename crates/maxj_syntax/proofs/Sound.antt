@@ -26,6 +26,7 @@ use Rattle.maxj_syntax.proofs.Meanings.{shape, named_shape, top_of, adds, Reads,
 use Rattle.maxj_syntax.proofs.Meanings.{IsNew, IsNewName, IsWordName, IsMemory, IsLess, IsGreater}
 use Rattle.maxj_syntax.proofs.Meanings.{IsBegun, IsHead, handed_word, IsHandedBy, Target, Follows}
 use Rattle.maxj_syntax.proofs.Meanings.{Result, NamedResult}
+use Rattle.maxj_syntax.specs.declared.symbol.ClassKind.{ClassKind}
 
 join_one : (cs : Trees) (u : Tree) (us : Trees) → join (add_last cs u) us ≡ join cs (Cons u us)
 join_one Nil u us = refl
@@ -226,7 +227,7 @@ handed_tree {w = w} {x = x} {y = y} e i = subst (λ v. Reads (Part.HandedType w 
 void_tree : {t : PlacedToken} {x y : List PlacedToken} → x ≡ t ∷ y → t.token ≡ Token.Word (codes "void") → Reads (Part.Result (Node N.Plain (written t.token) (between x y) Nil)) x y
 void_tree {x = x} {y = y} e i = subst (λ v. Reads (Part.Result (Node N.Plain v (between x y) Nil)) x y) (sym (ap written i)) (made Choice.void_result (tok e i end))
 
-handed_by : (m : Bool) {p : List ℕ} {q : Tree} {x y : List PlacedToken} → IsHandedBy m p q x y → Reads (Part.Handed (handed_word m) p (spanned (between x y) q)) x y
+handed_by : (m : ClassKind) {p : List ℕ} {q : Tree} {x y : List PlacedToken} → IsHandedBy m p q x y → Reads (Part.Handed (handed_word m) p (spanned (between x y) q)) x y
 handed_by m {p = p} {x = x} {y = y} g = subst (λ z. Reads (Part.Handed (handed_word m) p (spanned (between x y) z)) x y) (sym g.1) (made Choice.handed g.2)
 
 memory_base : {q : Tree} {x y m n z : List PlacedToken} → IsMemory q x y
@@ -465,9 +466,9 @@ step Move.not_final b s xs = (tt, refl, refl, made Choice.not_final end)
 step Move.kernel_opening b s xs = λ f m0 h0. λ t m e i. λ v n h. (_, refl, refl, h (_, refl, link h0 (handed_tree e i)))
 step Move.manager_opening b s xs = λ f m0 h0. λ t m e i. λ v n h. (_, refl, refl, h (_, refl, link h0 (handed_tree e i)))
 step Move.kernel_opened b (Ground cs) xs = λ v m h. (_, refl, refl, tt)
-step Move.kernel_opened (At y q) (On (At x a) s) xs = λ v m h. (_, refl, refl, λ p g. (Cons (spanned (between y xs) q) h.0, h.1, made Choice.kernel_opening (link (handed_by false g) h.2)))
+step Move.kernel_opened (At y q) (On (At x a) s) xs = λ v m h. (_, refl, refl, λ p g. (Cons (spanned (between y xs) q) h.0, h.1, made Choice.kernel_opening (link (handed_by ClassKind.Kernel g) h.2)))
 step Move.manager_opened b (Ground cs) xs = (_, refl, refl, tt)
-step Move.manager_opened (At y q) (On (At x a) s) xs = (_, refl, refl, λ p g. (one (spanned (between y xs) q), refl, made Choice.manager_opening (handed_by true g)))
+step Move.manager_opened (At y q) (On (At x a) s) xs = (_, refl, refl, λ p g. (one (spanned (between y xs) q), refl, made Choice.manager_opening (handed_by ClassKind.Manager g)))
 step Move.super_rest b (Ground cs) xs = λ t1 m1 e1 i1. λ t2 m2 e2 i2. λ v m3 h3. λ t4 m4 e4 i4. (_, refl, refl, tt)
 step Move.super_rest (At y q) (On (At x a) s) xs = λ t1 m1 e1 i1. λ t2 m2 e2 i2. λ v m3 h3. λ t4 m4 e4 i4. (
   _,
@@ -676,7 +677,7 @@ class_mean : {w : List ℕ} {a : Tree} {x xs n : List PlacedToken} {k : ClassTre
     → Seg (Part.Mods ∷ Part.Word_ (codes "class") ∷ []) x xs → Reads (Part.Class_ k) x ys
 class_mean {t = t} e i f j ys h g q = h (ap (λ z. with_text (written t.token) z) g ∙ ap (λ z. fresh N.Class (written z)) i.0) (then q (tok e i (tok f j end)))
 
-class_body : {w : List ℕ} {a v : Tree} {x xs m n l o : List PlacedToken} (b : Bool)
+class_body : {w : List ℕ} {a v : Tree} {x xs m n l o : List PlacedToken} (b : ClassKind)
     → Reads (Part.Word_ (parent b)) xs m → Reads (Part.Sign_ (codes "{")) m n → (ts : Trees)
     × (v ≡ adds a ts) × Reads (Part.Members b w true ts) n l → Reads (Part.Sign_ (codes "}")) l o
     → a ≡ fresh N.Class w → Seg (Part.Mods ∷ Part.Word_ (codes "class") ∷ Part.Id w ∷ Part.Word_ (codes "extends") ∷ []) x xs → Reads (Part.Class_ (class_of b (spanned (between x o) v))) x o
@@ -694,28 +695,28 @@ named_step : {n : Y.Named} {qs : List Symbol} → NamedMove n qs → (b : Entry)
 named_step (NamedMove.class_name {w = w} ni) (At x a) (Ground cs) xs = λ t m e i. λ u n f j. λ v l h. (_, refl, refl, class_mean e i f j l h)
 named_step (NamedMove.class_name {w = w} ni) (At x a) (On c s) xs = λ t m e i. λ u n f j. λ v l h. (_, refl, refl, class_mean e i f j l h)
 named_step NamedMove.kernel (At x a) (Ground cs) xs = λ t m e i. λ u n f j. λ v l h. λ z o g k. (
-  class_of false (spanned (between x o) v),
+  class_of ClassKind.Kernel (spanned (between x o) v),
   refl,
   refl,
-  class_body false (tok e i end) (tok f j end) h (tok g k end),
+  class_body ClassKind.Kernel (tok e i end) (tok f j end) h (tok g k end),
 )
 named_step NamedMove.kernel (At x a) (On c s) xs = λ t m e i. λ u n f j. λ v l h. λ z o g k. (
-  class_of false (spanned (between x o) v),
+  class_of ClassKind.Kernel (spanned (between x o) v),
   refl,
   refl,
-  class_body false (tok e i end) (tok f j end) h (tok g k end),
+  class_body ClassKind.Kernel (tok e i end) (tok f j end) h (tok g k end),
 )
 named_step NamedMove.manager (At x a) (Ground cs) xs = λ t m e i. λ u n f j. λ v l h. λ z o g k. (
-  class_of true (spanned (between x o) v),
+  class_of ClassKind.Manager (spanned (between x o) v),
   refl,
   refl,
-  class_body true (tok e i end) (tok f j end) h (tok g k end),
+  class_body ClassKind.Manager (tok e i end) (tok f j end) h (tok g k end),
 )
 named_step NamedMove.manager (At x a) (On c s) xs = λ t m e i. λ u n f j. λ v l h. λ z o g k. (
-  class_of true (spanned (between x o) v),
+  class_of ClassKind.Manager (spanned (between x o) v),
   refl,
   refl,
-  class_body true (tok e i end) (tok f j end) h (tok g k end),
+  class_body ClassKind.Manager (tok e i end) (tok f j end) h (tok g k end),
 )
 named_step NamedMove.member (At x a) s xs = λ u m h. λ v n k. (_, refl, refl, k (refl, h))
 named_step NamedMove.no_member (At x a) s xs = (_, refl, refl, (Nil, refl, made Choice.no_members end))
@@ -776,8 +777,8 @@ named_step (NamedMove.after_ctor {i = i}) (At p a0) (On (At y q) (On (At x a) s)
       let own = own_name i w0 o0 in
       let tree = ctor_tree i w0 a0 q v p xs (join h.1 (one h.2)) g.0 e0 own.1 (between y n) h.3 in
       let name : Reads (Part.Id i.class) p xs = subst (λ c. Reads (Part.Id c) p xs) own.1 r0 in
-      let ctor : Reads (Part.Ctor i.manager i.class v) y n = subst (λ u. Reads (Part.Ctor i.manager i.class u) y n) (sym tree) (made Choice.ctor (link g.1 (link name (tok e j h.4)))) in
-      (Cons v r.0, r.1, subst (λ u. Reads (Part.Members i.manager i.class u (Cons v r.0)) y z) (sym own.0) (made Choice.the_ctor (link ctor r.2))),
+      let ctor : Reads (Part.Ctor i.kind i.class v) y n = subst (λ u. Reads (Part.Ctor i.kind i.class u) y n) (sym tree) (made Choice.ctor (link g.1 (link name (tok e j h.4)))) in
+      (Cons v r.0, r.1, subst (λ u. Reads (Part.Members i.kind i.class u (Cons v r.0)) y z) (sym own.0) (made Choice.the_ctor (link ctor r.2))),
 )
 named_step (NamedMove.first_param ni) b (Ground cs) xs = λ t m e j. λ v n h. λ u1 m1 e1 i1. λ u2 m2 e2 i2. λ u3 m3 e3 i3. λ u4 m4 e4 i4. λ u5 m5 e5 i5. λ z l k. (_, refl, refl, tt)
 named_step (NamedMove.first_param {w = w} ni) (At y q) (On (At x a) s) xs = λ t m e j. λ v n h. λ u1 m1 e1 i1. λ u2 m2 e2 i2. λ u3 m3 e3 i3. λ u4 m4 e4 i4. λ u5 m5 e5 i5. λ z l k. (

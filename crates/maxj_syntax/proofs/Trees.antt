@@ -16,6 +16,8 @@ use Rattle.maxj_tokens.specs.Scanning.{PlacedToken, span_of}
 use Rattle.maxj_syntax.specs.Tree.{Tree, Node, Trees, Nil, Cons, one, ClassTree, IsAt, AreAt, ClassIs, ClassesAre}
 use Rattle.maxj_syntax.specs.Steps.{Entry, At, Below, Ground, On, act_top, act_below, add_last, no_span, tree_of, start_of, add_classes, class_of, memory_type, between}
 use Rattle.maxj_syntax.specs.Building.{IsOpen, AreUnder, AreOpen, IsLeaf}
+use Rattle.maxj_syntax.specs.declared.symbol.ClassKind.{ClassKind}
+use Rattle.maxj_syntax.specs.Productions.{is_manager}
 
 -- the nodes with their words
 
@@ -211,10 +213,10 @@ add_class nodes classes tokens (o ∷ os) (Ground cs) c t a b = absurd a
 add_class nodes classes tokens (o ∷ os) (On e s) c t a b = (a.0, add_class nodes classes tokens os s c t a.1 b)
 
 pub kept : (tokens xs : List PlacedToken) (nodes more : List Cell) (classes all : List Class)
-    (old mid os new : List Unfinished) (o p : Unfinished) (m : Bool) (c : Class) (n : ℕ)
+    (old mid os new : List Unfinished) (o p : Unfinished) (m : ClassKind) (c : Class) (n : ℕ)
     (b : Entry) (s : Below) → old ≡ mid ++ o ∷ [] → mid ≡ os ++ p ∷ [] → more ≡ nodes
     ++ cell_in tokens o.node ∷ [] → all ≡ classes ++ c ∷ [] → new ≡ os ++ p ∷ []
-    → c.name ≡ word_in tokens o.node.word → c.manager ≡ m → c.node ≡ n → n ≡ length nodes
+    → c.name ≡ word_in tokens o.node.word → c.manager ≡ is_manager m → c.node ≡ n → n ≡ length nodes
     → AreOpen nodes classes tokens (reverse old) b s
     → AreOpen more all tokens (reverse new) (act_top (Keep m) xs b s) (act_below (Keep m) b s)
 kept tokens xs nodes more classes all old mid os new o p m c n (At x t) (Ground cs) e f g d l u v w z h =

@@ -24,6 +24,7 @@ use Rattle.maxj_syntax.specs.Symbols as Y
 use Rattle.maxj_syntax.specs.Moves.{sign, word, is_own, made, and_members}
 use Rattle.maxj_syntax.specs.Table.{choices, guards}
 use Rattle.maxj_syntax.specs.Lookahead.{first, nullable, peek, weight}
+use Rattle.maxj_syntax.specs.declared.symbol.ClassKind.{ClassKind}
 
 -- sets of kinds as numbers: the kind with the number k is in the set where the bit k is 1
 
@@ -54,10 +55,10 @@ abbrev pub member_choice : Inside → List Symbol
 member_choice i = Act (Begin N.Field) ∷ Sub R.Mods ∷ Call (Y.Head i) ∷ []
 
 abbrev pub body : Inside → List Symbol
-body i = sign S.OpenBrace ∷ Call (Y.Members i) ∷ sign S.CloseBrace ∷ Act End ∷ Act (Keep i.manager) ∷ []
+body i = sign S.OpenBrace ∷ Call (Y.Members i) ∷ sign S.CloseBrace ∷ Act End ∷ Act (Keep i.kind) ∷ []
 
 abbrev pub ctor_choice : Inside → List Symbol
-ctor_choice i = Act Named ∷ Act (Turn N.Ctor) ∷ sign S.Open ∷ Sub (R.Opening i.manager) ∷ Act Into ∷ Call (Y.Members (made i)) ∷ []
+ctor_choice i = Act Named ∷ Act (Turn N.Ctor) ∷ sign S.Open ∷ Sub (R.Opening i.kind) ∷ Act Into ∷ Call (Y.Members (made i)) ∷ []
 
 abbrev pub memory_choice : Inside → List Symbol
 memory_choice i = sign S.Less ∷ word W.DFEVar ∷ sign S.Greater ∷ Act End ∷ Sub R.Dims ∷ and_members i
@@ -100,8 +101,8 @@ member_guards false = begins_member ∷ [] ∷ []
 abbrev pub named_choices : Y.Named → List (List Symbol)
 named_choices Y.ClassName = []
 named_choices (Y.Parent w) = (word W.Kernel
-    ∷ body (record { manager = false; class = w; unmade = true }))
-    ∷ (word W.CustomManager ∷ body (record { manager = true; class = w; unmade = true })) ∷ []
+    ∷ body (record { kind = ClassKind.Kernel; class = w; unmade = true }))
+    ∷ (word W.CustomManager ∷ body (record { kind = ClassKind.Manager; class = w; unmade = true })) ∷ []
 named_choices (Y.Members i) = member_choices i.unmade i
 named_choices (Y.Head i) =
     void_choice i ∷ word_choice i ∷ []

@@ -6,6 +6,7 @@ use Rattle.maxj_tokens.specs.declared.sign.Sign.TheVariants as S
 use Rattle.maxj_syntax.specs.declared.kind.Word.TheVariants as W
 use Rattle.maxj_syntax.specs.declared.symbol.TokenClass.{TokenClass}
 use Rattle.maxj_syntax.specs.declared.symbol.TokenClass.TheVariants as C
+use Rattle.maxj_syntax.specs.declared.symbol.ClassKind.{ClassKind}
 use Rattle.maxj_syntax.specs.declared.symbol.Form.{Form}
 use Rattle.maxj_syntax.specs.declared.symbol.Site.{Site}
 use Rattle.maxj_syntax.specs.declared.symbol.Rule.{Rule}
@@ -30,10 +31,10 @@ first R.Params = (C.Word W.Final ∷ C.Name ∷ C.TypeWord ∷ [])
 first R.MoreParams = (C.Sign S.Comma ∷ [])
 first R.Param = (C.Word W.Final ∷ C.Name ∷ C.TypeWord ∷ [])
 first R.MaybeFinal = (C.Word W.Final ∷ [])
-first (R.Opening false) = (C.Word W.Final ∷ C.Word W.KernelParameters ∷ [])
-first (R.Opening true) = (C.Word W.Final ∷ C.Word W.EngineParameters ∷ [])
-first (R.Opened false) = (C.Sign S.Comma ∷ [])
-first (R.Opened true) = []
+first (R.Opening ClassKind.Kernel) = (C.Word W.Final ∷ C.Word W.KernelParameters ∷ [])
+first (R.Opening ClassKind.Manager) = (C.Word W.Final ∷ C.Word W.EngineParameters ∷ [])
+first (R.Opened ClassKind.Kernel) = (C.Sign S.Comma ∷ [])
+first (R.Opened ClassKind.Manager) = []
 first R.SuperRest = (C.Sign S.Close ∷ [])
 first R.TypeName = (C.Name ∷ C.TypeWord ∷ [])
 first R.MemoryType = (C.Sign S.Less ∷ [])
@@ -194,10 +195,10 @@ nullable R.Params = true
 nullable R.MoreParams = true
 nullable R.Param = false
 nullable R.MaybeFinal = true
-nullable (R.Opening false) = false
-nullable (R.Opening true) = false
-nullable (R.Opened false) = true
-nullable (R.Opened true) = true
+nullable (R.Opening ClassKind.Kernel) = false
+nullable (R.Opening ClassKind.Manager) = false
+nullable (R.Opened ClassKind.Kernel) = true
+nullable (R.Opened ClassKind.Manager) = true
 nullable R.SuperRest = false
 nullable R.TypeName = false
 nullable R.MemoryType = true
@@ -304,10 +305,10 @@ peek R.Params = (C.Word W.Final ∷ C.Name ∷ C.TypeWord ∷ C.Sign S.Comma ∷
 peek R.MoreParams = (C.Sign S.Comma ∷ [])
 peek R.Param = []
 peek R.MaybeFinal = (C.Word W.Final ∷ [])
-peek (R.Opening false) = []
-peek (R.Opening true) = []
-peek (R.Opened false) = (C.Sign S.Comma ∷ [])
-peek (R.Opened true) = []
+peek (R.Opening ClassKind.Kernel) = []
+peek (R.Opening ClassKind.Manager) = []
+peek (R.Opened ClassKind.Kernel) = (C.Sign S.Comma ∷ [])
+peek (R.Opened ClassKind.Manager) = []
 peek R.SuperRest = []
 peek R.TypeName = (C.Sign S.OpenBracket ∷ C.Sign S.Less ∷ [])
 peek R.MemoryType = (C.Sign S.Less ∷ [])
@@ -547,10 +548,10 @@ weight R.Params = 5
 weight R.MoreParams = 1
 weight R.Param = 4
 weight R.MaybeFinal = 1
-weight (R.Opening false) = 3
-weight (R.Opening true) = 3
-weight (R.Opened false) = 4
-weight (R.Opened true) = 3
+weight (R.Opening ClassKind.Kernel) = 3
+weight (R.Opening ClassKind.Manager) = 3
+weight (R.Opened ClassKind.Kernel) = 4
+weight (R.Opened ClassKind.Manager) = 3
 weight R.SuperRest = 1
 weight R.TypeName = 1
 weight R.MemoryType = 1

@@ -18,6 +18,7 @@ use Rattle.maxj_syntax.specs.declared.symbol.Rule.TheVariants as R
 use Rattle.maxj_syntax.specs.Productions.{Above, is_name}
 use Rattle.maxj_syntax.specs.Symbols.{Inside, Symbol, Mark, Name, Sub, Call, Act}
 use Rattle.maxj_syntax.specs.Symbols as Y
+use Rattle.maxj_syntax.specs.declared.symbol.ClassKind.{ClassKind}
 
 abbrev pub sign : Sign → Symbol
 sign s = Mark (C.Sign s) Skip
@@ -92,14 +93,14 @@ pub data Move : Rule → List Symbol → Type 0 where
   param : Move R.Param (Act (Begin N.Param) ∷ Sub R.MaybeFinal ∷ Sub R.TypeName ∷ Act Into ∷ Mark C.Name Text ∷ Act End ∷ [])
   final : Move R.MaybeFinal (word W.Final ∷ [])
   not_final : Move R.MaybeFinal []
-  kernel_opening : Move (R.Opening false) (Act (Begin N.Param) ∷ Sub R.MaybeFinal
-      ∷ Mark (C.Word W.KernelParameters) (Push N.Plain) ∷ Act Into ∷ Call (Y.FirstParam false)
-      ∷ [])
-  manager_opening : Move (R.Opening true) (Act (Begin N.Param) ∷ Sub R.MaybeFinal
-      ∷ Mark (C.Word W.EngineParameters) (Push N.Plain) ∷ Act Into ∷ Call (Y.FirstParam true)
-      ∷ [])
-  kernel_opened : Move (R.Opened false) (Act End ∷ Act Into ∷ Sub R.MoreParams ∷ [])
-  manager_opened : Move (R.Opened true) (Act End ∷ Act Into ∷ [])
+  kernel_opening : Move (R.Opening ClassKind.Kernel) (Act (Begin N.Param) ∷ Sub R.MaybeFinal
+      ∷ Mark (C.Word W.KernelParameters) (Push N.Plain) ∷ Act Into
+      ∷ Call (Y.FirstParam ClassKind.Kernel) ∷ [])
+  manager_opening : Move (R.Opening ClassKind.Manager) (Act (Begin N.Param) ∷ Sub R.MaybeFinal
+      ∷ Mark (C.Word W.EngineParameters) (Push N.Plain) ∷ Act Into
+      ∷ Call (Y.FirstParam ClassKind.Manager) ∷ [])
+  kernel_opened : Move (R.Opened ClassKind.Kernel) (Act End ∷ Act Into ∷ Sub R.MoreParams ∷ [])
+  manager_opened : Move (R.Opened ClassKind.Manager) (Act End ∷ Act Into ∷ [])
   super_rest : Move R.SuperRest (sign S.Close ∷ sign S.Semicolon ∷ Sub R.Stmts ∷ sign S.CloseBrace ∷ Act End ∷ Act Into ∷ Act End ∷ [])
   -- types
   type_name : Move R.TypeName (Mark (C.NameBut W.Memory) (Push N.Plain) ∷ Sub R.Dims ∷ [])
@@ -302,7 +303,7 @@ abbrev pub is_own : Inside → List ℕ → Bool
 is_own i w = i.unmade && bytes_eq w i.class
 
 abbrev pub made : Inside → Inside
-made i = record { manager = i.manager; class = i.class; unmade = false }
+made i = record { kind = i.kind; class = i.class; unmade = false }
 
 -- the end of a field or method, and the members behind it
 abbrev pub and_members : Inside → List Symbol
@@ -312,13 +313,13 @@ and_members i = Act Into ∷ Mark C.Name Text ∷ Sub R.Declares ∷ Act Into �
 pub data NamedMove : Y.Named → List Symbol → Type 0 where
   class_name : {w : List ℕ} → is_name w ≡ true → NamedMove Y.ClassName (Name w Text ∷ word W.Extends ∷ Call (Y.Parent w) ∷ [])
   kernel : {w : List ℕ} → NamedMove (Y.Parent w) (word W.Kernel ∷ sign S.OpenBrace
-      ∷ Call (Y.Members (record { manager = false; class = w; unmade = true }))
-      ∷ sign S.CloseBrace ∷ Act End ∷ Act (Keep false) ∷ [])
+      ∷ Call (Y.Members (record { kind = ClassKind.Kernel; class = w; unmade = true }))
+      ∷ sign S.CloseBrace ∷ Act End ∷ Act (Keep ClassKind.Kernel) ∷ [])
   manager : {w : List ℕ} → NamedMove (Y.Parent w) (word W.CustomManager ∷ sign S.OpenBrace
-      ∷ Call (Y.Members (record { manager = true; class = w; unmade = true }))
-      ∷ sign S.CloseBrace ∷ Act End ∷ Act (Keep true) ∷ [])
+      ∷ Call (Y.Members (record { kind = ClassKind.Manager; class = w; unmade = true }))
+      ∷ sign S.CloseBrace ∷ Act End ∷ Act (Keep ClassKind.Manager) ∷ [])
   member : {i : Inside} → NamedMove (Y.Members i) (Act (Begin N.Field) ∷ Sub R.Mods ∷ Call (Y.Head i) ∷ [])
-  no_member : {m : Bool} {w : List ℕ} → NamedMove (Y.Members (record { manager = m; class = w; unmade = false })) []
+  no_member : {m : ClassKind} {w : List ℕ} → NamedMove (Y.Members (record { kind = m; class = w; unmade = false })) []
   void_method : {i : Inside} → NamedMove (Y.Head i) (Mark (C.Word W.Void) (Push N.Plain)
       ∷ Act Into ∷ Mark C.Name Text ∷ Act (Turn N.Method) ∷ Sub R.MethodRest ∷ Act Into
       ∷ Call (Y.Members i) ∷ [])
@@ -329,9 +330,9 @@ pub data NamedMove : Y.Named → List Symbol → Type 0 where
   after_type : {i : Inside} {o m : Bool} → NamedMove (Y.After i o m) (Sub R.Dims ∷ and_members i)
   after_memory : {i : Inside} {o : Bool} → NamedMove (Y.After i o true) (sign S.Less ∷ word W.DFEVar ∷ sign S.Greater ∷ Act End ∷ Sub R.Dims ∷ and_members i)
   after_ctor : {i : Inside} {m : Bool} → NamedMove (Y.After i true m) (Act Named
-      ∷ Act (Turn N.Ctor) ∷ sign S.Open ∷ Sub (R.Opening i.manager) ∷ Act Into
+      ∷ Act (Turn N.Ctor) ∷ sign S.Open ∷ Sub (R.Opening i.kind) ∷ Act Into
       ∷ Call (Y.Members (made i)) ∷ [])
-  first_param : {m : Bool} {w : List ℕ} → is_name w ≡ true
+  first_param : {m : ClassKind} {w : List ℕ} → is_name w ≡ true
       → NamedMove (Y.FirstParam m) (Name w Text ∷ Sub (R.Opened m) ∷ sign S.Close
       ∷ Act (Begin N.Block) ∷ sign S.OpenBrace ∷ word W.Super ∷ sign S.Open ∷ Name w Skip
       ∷ Sub R.SuperRest ∷ [])

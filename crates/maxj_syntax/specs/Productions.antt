@@ -8,6 +8,7 @@ use Rattle.maxj_tokens.specs.Tokens.{Token, is_word, is_among}
 use Rattle.maxj_tokens.specs.Scanning.{PlacedToken, span_of}
 use Rattle.maxj_syntax.specs.Tree.{Tree, Node, Trees, Nil, Cons, join, one, two, ClassTree}
 use Rattle.maxj_syntax.specs.Derivation.{Derives}
+use Rattle.maxj_syntax.specs.declared.symbol.ClassKind.{ClassKind}
 
 -- the words that are no names
 abbrev pub reserved_words : List (List ℕ)
@@ -86,10 +87,10 @@ pub data Part : Type 0 where
   Classes : List ClassTree → Part
   Class_ : ClassTree → Part
   Mods : Part
-  Members : Bool → List ℕ → Bool → Trees → Part  -- of a manager or a kernel, its name, and whether the constructor is among them
+  Members : ClassKind → List ℕ → Bool → Trees → Part  -- of a manager or a kernel, its name, and whether the constructor is among them
   Member : Tree → Part
-  Ctor : Bool → List ℕ → Tree → Part
-  Opening : Bool → List ℕ → Trees → Part  -- the parameters of a constructor, and the name of the first one
+  Ctor : ClassKind → List ℕ → Tree → Part
+  Opening : ClassKind → List ℕ → Trees → Part  -- the parameters of a constructor, and the name of the first one
   Handed : List ℕ → List ℕ → Tree → Part  -- the first parameter of a constructor: its type, and its name
   HandedType : List ℕ → Tree → Part  -- this word as a type
   CtorBlock : List ℕ → Tree → Part  -- the block whose `super` statement has this name
@@ -152,9 +153,13 @@ abbrev pub absent : ℕ → Tree
 absent n = Node N.Empty [] (record { from = n; to = n }) Nil
 
 -- the word behind `extends`
-abbrev pub parent : Bool → List ℕ
-parent true = codes "CustomManager"
-parent false = codes "Kernel"
+abbrev pub parent : ClassKind → List ℕ
+parent ClassKind.Manager = codes "CustomManager"
+parent ClassKind.Kernel = codes "Kernel"
+
+abbrev pub is_manager : ClassKind → Bool
+is_manager ClassKind.Manager = true
+is_manager ClassKind.Kernel = false
 
 pub data Choice (at : Span) : Part → List Part → Type 0 where
   -- files
@@ -174,19 +179,19 @@ pub data Choice (at : Span) : Part → List Part → Type 0 where
   no_classes : Choice at (Classes []) []
   more_classes : {c : ClassTree} {cs : List ClassTree} → Choice at (Classes (c ∷ cs)) (Class_ c ∷ Classes cs ∷ [])
   -- classes
-  one_class : {name : List ℕ} {manager : Bool} {ts : Trees}
-      → Choice at (Class_ (record { name = name; manager = manager; tree = Node N.Class name at ts }))
-      (Mods ∷ Word_ (codes "class") ∷ Id name ∷ Word_ (codes "extends") ∷ Word_ (parent manager)
-      ∷ Sign_ (codes "{") ∷ Members manager name true ts ∷ Sign_ (codes "}") ∷ [])
+  one_class : {name : List ℕ} {kind : ClassKind} {ts : Trees}
+      → Choice at (Class_ (record { name = name; manager = is_manager kind; tree = Node N.Class name at ts }))
+      (Mods ∷ Word_ (codes "class") ∷ Id name ∷ Word_ (codes "extends") ∷ Word_ (parent kind)
+      ∷ Sign_ (codes "{") ∷ Members kind name true ts ∷ Sign_ (codes "}") ∷ [])
   no_mods : Choice at Mods []
   mods : {w : List ℕ} → Choice at Mods (WordOf modifiers w ∷ Mods ∷ [])
-  no_members : {manager : Bool} {name : List ℕ} → Choice at (Members manager name false Nil) []
-  member : {manager some : Bool} {name : List ℕ} {a : Tree} {ts : Trees}
-      → Choice at (Members manager name some (Cons a ts)) (Member a
-      ∷ Members manager name some ts ∷ [])
-  the_ctor : {manager : Bool} {name : List ℕ} {a : Tree} {ts : Trees}
-      → Choice at (Members manager name true (Cons a ts)) (Ctor manager name a
-      ∷ Members manager name false ts ∷ [])
+  no_members : {kind : ClassKind} {name : List ℕ} → Choice at (Members kind name false Nil) []
+  member : {kind : ClassKind} {some : Bool} {name : List ℕ} {a : Tree} {ts : Trees}
+      → Choice at (Members kind name some (Cons a ts)) (Member a
+      ∷ Members kind name some ts ∷ [])
+  the_ctor : {kind : ClassKind} {name : List ℕ} {a : Tree} {ts : Trees}
+      → Choice at (Members kind name true (Cons a ts)) (Ctor kind name a
+      ∷ Members kind name false ts ∷ [])
   field : {w : List ℕ} {t : Tree} {ts : Trees}
       → Choice at (Member (Node N.Field w at (Cons t ts))) (Mods ∷ Type_ t ∷ Id w ∷ MaybeInit ts
       ∷ Sign_ (codes ";") ∷ [])
@@ -194,11 +199,13 @@ pub data Choice (at : Span) : Part → List Part → Type 0 where
       → Choice at (Member (Node N.Method w at (Cons r (join ps (one b))))) (Mods ∷ Result r
       ∷ Id w ∷ Sign_ (codes "(") ∷ MaybeParams ps ∷ Sign_ (codes ")") ∷ Block b ∷ [])
   -- constructors
-  ctor : {manager : Bool} {name p : List ℕ} {ps : Trees} {b : Tree}
-      → Choice at (Ctor manager name (Node N.Ctor name at (join ps (one b)))) (Mods ∷ Id name
-      ∷ Sign_ (codes "(") ∷ Opening manager p ps ∷ Sign_ (codes ")") ∷ CtorBlock p b ∷ [])
-  kernel_opening : {p : List ℕ} {a : Tree} {ps : Trees} → Choice at (Opening false p (Cons a ps)) (Handed (codes "KernelParameters") p a ∷ MoreParams ps ∷ [])
-  manager_opening : {p : List ℕ} {a : Tree} → Choice at (Opening true p (one a)) (Handed (codes "EngineParameters") p a ∷ [])
+  ctor : {kind : ClassKind} {name p : List ℕ} {ps : Trees} {b : Tree}
+      → Choice at (Ctor kind name (Node N.Ctor name at (join ps (one b)))) (Mods ∷ Id name
+      ∷ Sign_ (codes "(") ∷ Opening kind p ps ∷ Sign_ (codes ")") ∷ CtorBlock p b ∷ [])
+  kernel_opening : {p : List ℕ} {a : Tree} {ps : Trees}
+      → Choice at (Opening ClassKind.Kernel p (Cons a ps))
+      (Handed (codes "KernelParameters") p a ∷ MoreParams ps ∷ [])
+  manager_opening : {p : List ℕ} {a : Tree} → Choice at (Opening ClassKind.Manager p (one a)) (Handed (codes "EngineParameters") p a ∷ [])
   handed : {w p : List ℕ} {t : Tree} → Choice at (Handed w p (Node N.Param p at (one t))) (MaybeFinal ∷ HandedType w t ∷ Id p ∷ [])
   handed_type : {w : List ℕ} → Choice at (HandedType w (Node N.Plain w at Nil)) (Word_ w ∷ [])
   ctor_block : {p : List ℕ} {ts : Trees}

@@ -13,10 +13,11 @@ use Rattle.maxj_tokens.specs.Tokens.{Token, written}
 use Rattle.maxj_tokens.specs.Scanning.{PlacedToken, span_of, from_of}
 use Rattle.maxj_syntax.specs.Tree.{Tree, Node, Trees, Nil, Cons, one, ClassTree}
 use Rattle.maxj_syntax.specs.TokenClasses.{Accepts, leaf_kind}
-use Rattle.maxj_syntax.specs.Productions.{is_name, absent}
+use Rattle.maxj_syntax.specs.Productions.{is_name, absent, is_manager}
 use Rattle.maxj_syntax.specs.Symbols.{Symbol, Mark, Name, Sub, Call, Act}
 use Rattle.maxj_syntax.specs.Symbols as Y
 use Rattle.maxj_syntax.specs.Moves.{Move, NamedMove}
+use Rattle.maxj_syntax.specs.declared.symbol.ClassKind.{ClassKind}
 
 -- a tree that is being built, and the tokens from its begin on
 pub data Entry : Type 0 where
@@ -66,8 +67,8 @@ abbrev pub add_classes : Below → List ClassTree → Below
 add_classes (Ground ds) cs = Ground (ds ++ cs)
 add_classes (On e s) cs = On e (add_classes s cs)
 
-abbrev pub class_of : Bool → Tree → ClassTree
-class_of m t = record { name = text_of t; manager = m; tree = t }
+abbrev pub class_of : ClassKind → Tree → ClassTree
+class_of m t = record { name = text_of t; manager = is_manager m; tree = t }
 
 -- the type of memories
 abbrev pub memory_type : List PlacedToken → List PlacedToken → Tree

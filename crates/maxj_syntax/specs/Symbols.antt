@@ -11,10 +11,11 @@ use Rattle.maxj_syntax.specs.declared.symbol.Fixed.{Fixed}
 use Rattle.maxj_syntax.specs.declared.symbol.Fixed.TheVariants as F
 use Rattle.maxj_syntax.specs.declared.symbol.Symbol.{Symbol as SymbolOf}
 use Rattle.maxj_syntax.specs.declared.symbol.Symbol.TheVariants as Y
+use Rattle.maxj_syntax.specs.declared.symbol.ClassKind.{ClassKind}
 
--- where a member of a class stands: whether that is a manager, its name, and whether its constructor is still to come
+-- where a member of a class stands: what the class is, its name, and whether its constructor is still to come
 pub record Inside : Type 0 where
-  pub manager : Bool
+  pub kind : ClassKind
   pub class : List ℕ
   pub unmade : Bool
 
@@ -25,7 +26,7 @@ pub data Named : Type 0 where
   Members : Inside → Named
   Head : Inside → Named
   After : Inside → Bool → Bool → Named  -- whether the name before is that of the class and of its constructor, and whether it is `Memory`
-  FirstParam : Bool → Named
+  FirstParam : ClassKind → Named
 
 -- what the parser is to read next
 pub data Symbol : Type 0 where
@@ -36,13 +37,13 @@ pub data Symbol : Type 0 where
   Act : Action → Symbol
 
 abbrev pub inside_view : InsideOf → Inside
-inside_view i = record { manager = i.manager; class = i.class.now; unmade = i.unmade }
+inside_view i = record { kind = i.kind; class = i.class.now; unmade = i.unmade }
 
 abbrev pub named_view : NamedOf → Named
 named_view (R.Parent w) = Parent w.now
 named_view (R.Members i) = Members (inside_view i)
 named_view (R.Head i) = Head (inside_view i)
-named_view (R.After i own memory) = After (inside_view i) own memory
+named_view (R.After i first) = After (inside_view i) first.own first.memory
 
 abbrev pub fixed_view : Fixed → Symbol
 fixed_view (F.Mark c e) = Mark c e

@@ -1,6 +1,6 @@
 -- Made by tools/source_grammar.py from tools/source_grammar.txt.
 -- The table of the parser: the choices of each rule, and the tokens with which each is taken.
-use Rattle.std.specs.Prelude.{List, [], ◌∷◌, ◌++◌, true, false}
+use Rattle.std.specs.Prelude.{List, [], ◌∷◌, ◌++◌}
 use Rattle.maxj_syntax.specs.declared.level.Level.{Level}
 use Rattle.maxj_tokens.specs.declared.sign.Sign.TheVariants as S
 use Rattle.maxj_syntax.specs.declared.kind.Word.TheVariants as W
@@ -9,6 +9,7 @@ use Rattle.maxj_syntax.specs.declared.symbol.TokenClass.{TokenClass}
 use Rattle.maxj_syntax.specs.declared.symbol.TokenClass.TheVariants as C
 use Rattle.maxj_syntax.specs.declared.symbol.Effect.TheVariants.{Skip, Leaf, Push, Over, Text}
 use Rattle.maxj_syntax.specs.declared.symbol.Action.TheVariants.{Begin, Wrap, Turn, Into, End, Inner, Named, Hole, Memory, Declare}
+use Rattle.maxj_syntax.specs.declared.symbol.ClassKind.{ClassKind}
 use Rattle.maxj_syntax.specs.declared.symbol.Form.{Form}
 use Rattle.maxj_syntax.specs.declared.symbol.Site.{Site}
 use Rattle.maxj_syntax.specs.declared.symbol.Rule.{Rule}
@@ -39,12 +40,12 @@ choices R.Params = (Sub R.Param ∷ Act Into ∷ Sub R.MoreParams ∷ []) ∷ []
 choices R.MoreParams = (sign S.Comma ∷ Sub R.Param ∷ Act Into ∷ Sub R.MoreParams ∷ []) ∷ [] ∷ []
 choices R.Param = (Act (Begin N.Param) ∷ Sub R.MaybeFinal ∷ Sub R.TypeName ∷ Act Into ∷ Mark C.Name Text ∷ Act End ∷ []) ∷ []
 choices R.MaybeFinal = (word W.Final ∷ []) ∷ [] ∷ []
-choices (R.Opening false) =
-    (Act (Begin N.Param) ∷ Sub R.MaybeFinal ∷ Mark (C.Word W.KernelParameters) (Push N.Plain) ∷ Act Into ∷ Call (Y.FirstParam false) ∷ []) ∷ []
-choices (R.Opening true) =
-    (Act (Begin N.Param) ∷ Sub R.MaybeFinal ∷ Mark (C.Word W.EngineParameters) (Push N.Plain) ∷ Act Into ∷ Call (Y.FirstParam true) ∷ []) ∷ []
-choices (R.Opened false) = (Act End ∷ Act Into ∷ Sub R.MoreParams ∷ []) ∷ []
-choices (R.Opened true) = (Act End ∷ Act Into ∷ []) ∷ []
+choices (R.Opening ClassKind.Kernel) =
+    (Act (Begin N.Param) ∷ Sub R.MaybeFinal ∷ Mark (C.Word W.KernelParameters) (Push N.Plain) ∷ Act Into ∷ Call (Y.FirstParam ClassKind.Kernel) ∷ []) ∷ []
+choices (R.Opening ClassKind.Manager) =
+    (Act (Begin N.Param) ∷ Sub R.MaybeFinal ∷ Mark (C.Word W.EngineParameters) (Push N.Plain) ∷ Act Into ∷ Call (Y.FirstParam ClassKind.Manager) ∷ []) ∷ []
+choices (R.Opened ClassKind.Kernel) = (Act End ∷ Act Into ∷ Sub R.MoreParams ∷ []) ∷ []
+choices (R.Opened ClassKind.Manager) = (Act End ∷ Act Into ∷ []) ∷ []
 choices R.SuperRest = (sign S.Close ∷ sign S.Semicolon ∷ Sub R.Stmts ∷ sign S.CloseBrace ∷ Act End ∷ Act Into ∷ Act End ∷ []) ∷ []
 choices R.TypeName =
     (Mark (C.NameBut W.Memory) (Push N.Plain) ∷ Sub R.Dims ∷ [])
@@ -306,10 +307,10 @@ guards R.Params = (C.Word W.Final ∷ C.Name ∷ C.TypeWord ∷ []) ∷ [] ∷ [
 guards R.MoreParams = (C.Sign S.Comma ∷ []) ∷ [] ∷ []
 guards R.Param = [] ∷ []
 guards R.MaybeFinal = (C.Word W.Final ∷ []) ∷ [] ∷ []
-guards (R.Opening false) = [] ∷ []
-guards (R.Opening true) = [] ∷ []
-guards (R.Opened false) = [] ∷ []
-guards (R.Opened true) = [] ∷ []
+guards (R.Opening ClassKind.Kernel) = [] ∷ []
+guards (R.Opening ClassKind.Manager) = [] ∷ []
+guards (R.Opened ClassKind.Kernel) = [] ∷ []
+guards (R.Opened ClassKind.Manager) = [] ∷ []
 guards R.SuperRest = [] ∷ []
 guards R.TypeName = (C.NameBut W.Memory ∷ []) ∷ (C.Word W.Memory ∷ []) ∷ [] ∷ []
 guards R.MemoryType = (C.Sign S.Less ∷ []) ∷ [] ∷ []

@@ -9,7 +9,7 @@ ghost use Rattle.maxj_syntax.specs.Building.{Acts, Takes, Adds, Wraps, Does, Tex
 
 use crate::draft::{Draft, NodeWord, word_of, written};
 use crate::nodes::Nodes;
-use crate::symbol::{Action, Effect};
+use crate::symbol::{Action, ClassKind, Effect};
 use crate::tree::{Class, NodeKind};
 use maxj_tokens::{Placed, Token, Tokens};
 use mx_base::{List, NoMemory, Span, Text};
@@ -298,10 +298,10 @@ fn declare(
 fn keep(
     alloc: Global,
     builder: &mut Builder,
-    manager: bool,
+    kind: ClassKind,
     tokens: &Tokens<'_>,
 ) -> Result<(), NoMemory>
-    ensures trees { IfOk result (λ _. (xs : Items PlacedToken) → Acts tokens.now (Action.Keep manager) xs builder.old builder.new) }
+    ensures trees { IfOk result (λ _. (xs : Items PlacedToken) → Acts tokens.now (Action.Keep kind) xs builder.old builder.new) }
     ensures numbers { IfOk result (λ _. StaysInRange builder.old builder.new) }
 {
     if let Some(top) = builder.unfinished.pop() {
@@ -310,7 +310,7 @@ fn keep(
             let node = builder.nodes.push(top.node)?;
             builder.classes.push(Class {
                 name: Text::from_vec(name),
-                manager,
+                manager: kind.is_manager(),
                 node,
             })?;
             builder.unfinished.push(below)?;
@@ -345,7 +345,7 @@ pub fn act(
         Action::Hole => hole(alloc, builder, tokens, at),
         Action::Memory => memory(alloc, builder, tokens, at),
         Action::Declare => declare(alloc, builder, tokens, at),
-        Action::Keep(manager) => keep(alloc, builder, manager, tokens),
+        Action::Keep(kind) => keep(alloc, builder, kind, tokens),
     }
 }
 

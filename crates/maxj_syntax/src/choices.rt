@@ -122,6 +122,7 @@ use crate::alphabet::WRAP_INDEX;
 use crate::kind::Word;
 use crate::level::Level;
 use crate::symbol::Action;
+use crate::symbol::ClassKind;
 use crate::symbol::Effect;
 use crate::symbol::Fixed;
 use crate::symbol::Form;
@@ -202,7 +203,7 @@ pub fn choices_of(rule: Rule) -> &'static [&'static [Fixed]]
             &[Fixed::Mark(TokenClass::Word(Word::Final), Effect::Skip)],
             &[],
         ],
-        Rule::Opening(false) => &[&[
+        Rule::Opening(ClassKind::Kernel) => &[&[
             PARAMETER,
             MAYBE_FINAL,
             Fixed::Mark(
@@ -210,9 +211,9 @@ pub fn choices_of(rule: Rule) -> &'static [&'static [Fixed]]
                 Effect::Push(NodeKind::Plain),
             ),
             INTO,
-            Fixed::FirstParam(false),
+            Fixed::FirstParam(ClassKind::Kernel),
         ]],
-        Rule::Opening(true) => &[&[
+        Rule::Opening(ClassKind::Manager) => &[&[
             PARAMETER,
             MAYBE_FINAL,
             Fixed::Mark(
@@ -220,10 +221,10 @@ pub fn choices_of(rule: Rule) -> &'static [&'static [Fixed]]
                 Effect::Push(NodeKind::Plain),
             ),
             INTO,
-            Fixed::FirstParam(true),
+            Fixed::FirstParam(ClassKind::Manager),
         ]],
-        Rule::Opened(false) => &[&[END, INTO, MORE_PARAMS]],
-        Rule::Opened(true) => &[&[END, INTO]],
+        Rule::Opened(ClassKind::Kernel) => &[&[END, INTO, MORE_PARAMS]],
+        Rule::Opened(ClassKind::Manager) => &[&[END, INTO]],
         Rule::SuperRest => &[&[CLOSE, SEMICOLON, STMTS, BRACE_END, END, INTO, END]],
         Rule::TypeName => &[
             &[

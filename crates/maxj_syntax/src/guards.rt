@@ -6,7 +6,7 @@ ghost use Rattle.maxj_syntax.specs.Table.{guards};
 
 use crate::kind::Word;
 use crate::level::Level;
-use crate::symbol::{Form, Rule, Site, TokenClass};
+use crate::symbol::{ClassKind, Form, Rule, Site, TokenClass};
 use maxj_tokens::Sign;
 
 /// The classes of tokens with which each choice of a rule is taken; none at all says that it is taken otherwise.
@@ -42,10 +42,10 @@ pub fn guards_of(rule: Rule) -> &'static [&'static [TokenClass]]
         Rule::MoreParams => &[&[TokenClass::Sign(Sign::Comma)], &[]],
         Rule::Param => &[&[]],
         Rule::MaybeFinal => &[&[TokenClass::Word(Word::Final)], &[]],
-        Rule::Opening(false) => &[&[]],
-        Rule::Opening(true) => &[&[]],
-        Rule::Opened(false) => &[&[]],
-        Rule::Opened(true) => &[&[]],
+        Rule::Opening(ClassKind::Kernel) => &[&[]],
+        Rule::Opening(ClassKind::Manager) => &[&[]],
+        Rule::Opened(ClassKind::Kernel) => &[&[]],
+        Rule::Opened(ClassKind::Manager) => &[&[]],
         Rule::SuperRest => &[&[]],
         Rule::TypeName => &[
             &[TokenClass::NameBut(Word::Memory)],

@@ -13,7 +13,7 @@ use crate::choosing::admits;
 use crate::class::class_has;
 use crate::kind::{Kind, Word, kind_of};
 use crate::stack::{push_all, sign, step, sub, word};
-use crate::symbol::{Action, Effect, Inside, Named, Rule, Symbol, TokenClass};
+use crate::symbol::{Action, ClassKind, Effect, Inside, Named, Rule, Symbol, TokenClass};
 use crate::tree::NodeKind;
 use maxj_tokens::{Placed, Sign, Token};
 use mx_base::NoMemory;
@@ -78,16 +78,16 @@ pub fn push_class_name<'a>(
 /// The name of a constructor's first parameter, and the rest of the constructor.
 fn put_first_param<'a>(
     stack: &mut Vec<Symbol<'a>>,
-    manager: bool,
+    kind: ClassKind,
     name: &'a [u8],
 ) -> Result<(), NoMemory>
-    ensures { OnOk result (todo stack.new.items ≡ bound (views.FirstParam manager) name.now ++ todo stack.old.items) }
+    ensures { OnOk result (todo stack.new.items ≡ bound (views.FirstParam kind) name.now ++ todo stack.old.items) }
 {
     push_all(
         stack,
         &[
             Symbol::Name(name, Effect::Text),
-            sub(Rule::Opened(manager)),
+            sub(Rule::Opened(kind)),
             sign(Sign::Close),
             step(Action::Begin(NodeKind::Block)),
             sign(Sign::OpenBrace),
@@ -102,16 +102,16 @@ fn put_first_param<'a>(
 /// The same where a name comes next. False says that none does.
 pub fn push_first_param<'a>(
     stack: &mut Vec<Symbol<'a>>,
-    manager: bool,
+    kind: ClassKind,
     next: Option<Placed<'a>>,
 ) -> Result<bool, NoMemory>
-    ensures { IfOk result (λ taken. IsExpanded (views.Call (views.FirstParam manager))
+    ensures { IfOk result (λ taken. IsExpanded (views.Call (views.FirstParam kind))
         (option_map placed_view next.entry) (todo stack.old.items) (todo stack.new.items) taken) }
 {
     let Some(name) = next_name(next) else {
         return Ok(false)
     };
-    put_first_param(stack, manager, name)?;
+    put_first_param(stack, kind, name)?;
     Ok(true)
 }
 
@@ -131,7 +131,7 @@ fn put_body<'a>(
             Symbol::Named(Named::Members(inside)),
             sign(Sign::CloseBrace),
             step(Action::End),
-            step(Action::Keep(inside.manager)),
+            step(Action::Keep(inside.kind)),
         ],
     )
 }
@@ -148,7 +148,7 @@ pub fn push_parent<'a>(
     let kind = next_kind(next);
     if admits(&[TokenClass::Word(Word::Kernel)], kind) {
         let kernel = Inside {
-            manager: false,
+            kind: ClassKind::Kernel,
             class,
             unmade: true,
         };
@@ -157,7 +157,7 @@ pub fn push_parent<'a>(
     }
     if admits(&[TokenClass::Word(Word::CustomManager)], kind) {
         let manager = Inside {
-            manager: true,
+            kind: ClassKind::Manager,
             class,
             unmade: true,
         };

@@ -13,7 +13,7 @@ use crate::choosing::{admits, admits_if};
 use crate::heads::{next_kind, next_name};
 use crate::kind::Word;
 use crate::stack::{mark, push_all, sign, step, sub, word};
-use crate::symbol::{Action, Effect, Inside, Named, Rule, Symbol, TokenClass};
+use crate::symbol::{Action, Effect, FirstName, Inside, Named, Rule, Symbol, TokenClass};
 use crate::tree::NodeKind;
 use maxj_tokens::{Placed, Sign};
 use mx_base::NoMemory;
@@ -112,16 +112,15 @@ fn put_name<'a>(
     stack: &mut Vec<Symbol<'a>>,
     inside: Inside<'a>,
     name: &'a [u8],
-    own: bool,
-    memory: bool,
+    first: FirstName,
 ) -> Result<(), NoMemory>
-    ensures { OnOk result (todo stack.new.items ≡ name_choice (inside_view inside.entry) name.now own memory ++ todo stack.old.items) }
+    ensures { OnOk result (todo stack.new.items ≡ name_choice (inside_view inside.entry) name.now first.own first.memory ++ todo stack.old.items) }
 {
     push_all(
         stack,
         &[
             Symbol::Name(name, Effect::Push(NodeKind::Plain)),
-            Symbol::Named(Named::After(inside, own, memory)),
+            Symbol::Named(Named::After(inside, first)),
         ],
     )
 }
@@ -150,7 +149,11 @@ pub fn push_head<'a>(
         (todo stack.old.items) (todo stack.new.items) taken) }
 {
     if let Some(name) = next_name(next) {
-        put_name(stack, inside, name, is_own(inside, name), is_memory(name))?;
+        let first = FirstName {
+            own: is_own(inside, name),
+            memory: is_memory(name),
+        };
+        put_name(stack, inside, name, first)?;
         return Ok(true);
     }
     let kind = next_kind(next);
@@ -170,7 +173,7 @@ fn put_ctor<'a>(stack: &mut Vec<Symbol<'a>>, inside: Inside<'a>) -> Result<(), N
     ensures { OnOk result (todo stack.new.items ≡ ctor_choice (inside_view inside.entry) ++ todo stack.old.items) }
 {
     let made = Inside {
-        manager: inside.manager,
+        kind: inside.kind,
         class: inside.class,
         unmade: false,
     };
@@ -180,7 +183,7 @@ fn put_ctor<'a>(stack: &mut Vec<Symbol<'a>>, inside: Inside<'a>) -> Result<(), N
             step(Action::Named),
             step(Action::Turn(NodeKind::Ctor)),
             sign(Sign::Open),
-            sub(Rule::Opening(inside.manager)),
+            sub(Rule::Opening(inside.kind)),
             step(Action::Into),
             Symbol::Named(Named::Members(made)),
         ],
@@ -229,20 +232,19 @@ fn put_memory<'a>(stack: &mut Vec<Symbol<'a>>, inside: Inside<'a>) -> Result<(),
 pub fn push_after<'a>(
     stack: &mut Vec<Symbol<'a>>,
     inside: Inside<'a>,
-    own: bool,
-    memory: bool,
+    first: FirstName,
     next: Option<Placed<'a>>,
 ) -> Result<bool, NoMemory>
     ensures { IfOk result (λ taken. IsExpanded (views.Call
-        (views.After (inside_view inside.entry) own memory)) (option_map placed_view next.entry)
+        (views.After (inside_view inside.entry) first.own first.memory)) (option_map placed_view next.entry)
         (todo stack.old.items) (todo stack.new.items) taken) }
 {
     let kind = next_kind(next);
-    if admits_if(own, &[TokenClass::Sign(Sign::Open)], kind) {
+    if admits_if(first.own, &[TokenClass::Sign(Sign::Open)], kind) {
         put_ctor(stack, inside)?;
         return Ok(true);
     }
-    if admits_if(memory, &[TokenClass::Sign(Sign::Less)], kind) {
+    if admits_if(first.memory, &[TokenClass::Sign(Sign::Less)], kind) {
         put_memory(stack, inside)?;
         return Ok(true);
     }

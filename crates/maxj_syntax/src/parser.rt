@@ -8,6 +8,7 @@ ghost use Rattle.maxj_syntax.specs.Symbols as views;
 ghost use Rattle.maxj_syntax.specs.Symbols.{symbol_view, named_view};
 ghost use Rattle.maxj_syntax.specs.Productions.{is_name};
 ghost use Rattle.maxj_syntax.specs.TokenClasses.{class_has};
+ghost use Rattle.maxj_syntax.specs.Kinds.{kind_of};
 ghost use Rattle.maxj_syntax.specs.Choosing.{kind_at};
 ghost use Rattle.maxj_syntax.specs.Building.{todo, IsExpanded, IsChosen, IsRule, IsTaken};
 ghost use Rattle.maxj_syntax.specs.Building.{IsRefused, token_of_word, Reached, Settles, EndsIn};
@@ -20,7 +21,7 @@ ghost use Rattle.maxj_tokens.specs.Faults.{HasNone, IsOutside};
 use crate::build::{self, Builder};
 use crate::choosing::choice;
 use crate::class::class_has;
-use crate::heads::{next_kind, push_class_name, push_first_param, push_parent};
+use crate::heads::{push_class_name, push_first_param, push_parent};
 use crate::kind::{Kind, Word, kind_of};
 use crate::members::{push_after, push_head, push_member};
 use crate::stack::push_fixed;
@@ -62,7 +63,7 @@ fn push_named<'a>(
         Named::Parent(class) => push_parent(stack, class, next),
         Named::Members(inside) => push_member(stack, inside, next),
         Named::Head(inside) => push_head(stack, inside, next),
-        Named::After(inside, own, memory) => push_after(stack, inside, own, memory, next),
+        Named::After(inside, first) => push_after(stack, inside, first, next),
     }
 }
 
@@ -98,7 +99,7 @@ fn expand<'a>(
     match rule {
         Symbol::Fixed(Fixed::Sub(rule)) => push_choice(stack, rule, kind),
         Symbol::Fixed(Fixed::ClassName) => push_class_name(stack, next),
-        Symbol::Fixed(Fixed::FirstParam(manager)) => push_first_param(stack, manager, next),
+        Symbol::Fixed(Fixed::FirstParam(kind)) => push_first_param(stack, kind, next),
         Symbol::Named(named) => push_named(stack, named, next),
         _ => Ok(false),
     }
@@ -119,15 +120,19 @@ fn token_at<'a>(tokens: &Tokens<'a>, at: usize) -> Option<Placed<'a>>
     tokens.get(at)
 }
 
+/// Expands rules and does steps before the token with the number `at`, which is of this kind, until
+/// the stack begins with a token or is empty.
 fn settle<'a>(
     alloc: Global,
     stack: &mut Vec<Symbol<'a>>,
     builder: &mut Builder,
     tokens: &Tokens<'a>,
     at: usize,
+    kind: Option<Kind>,
 ) -> Result<Settled<'a>, NoMemory>
     requires ends { All EndsIn tokens.now }
     requires within { at ≤ length tokens.now }
+    requires kind { kind ≡ kind_at (head_of (drop at tokens.now)) }
     requires reached { Reached tokens.now (drop at tokens.now) (todo stack.old.items) builder.old }
     requires ranged { Ranged tokens.now (todo stack.old.items) builder.old }
     ensures reached { IfOk result (λ s. Settles s tokens.now (drop at tokens.now) (todo stack.new.items) builder.new) }
@@ -135,7 +140,6 @@ fn settle<'a>(
         SettlesRanged s tokens.now (todo stack.new.items) builder.new) }
 {
     let next = token_at(tokens, at);
-    let kind = next_kind(next);
     while let Some(top) = stack.pop() {
         match top {
             Symbol::Name(name, effect) => return Ok(Settled::Name(name, effect)),
@@ -164,26 +168,28 @@ fn is_word(token: &Token<'_>, name: &[u8]) -> bool
     }
 }
 
-/// Whether the token is this name.
-fn is_this_name(token: &Token<'_>, name: &[u8]) -> bool
+/// Whether the token, of this kind, is this name.
+fn is_this_name(token: &Token<'_>, kind: Kind, name: &[u8]) -> bool
+    requires { kind ≡ kind_of (token_view token.now) }
     ensures yes { result ≡ true → (token_view token.now ≡ token_of_word name.now) × (is_name name.now ≡ true) }
     ensures no { result ≡ false → (token_view token.now ≡ token_of_word name.now) × (is_name name.now ≡ true) → ⊥ }
 {
-    is_word(token, name) && class_has(TokenClass::Name, kind_of(token))
+    is_word(token, name) && class_has(TokenClass::Name, kind)
 }
 
-/// What the next token does, where it is the one that the stack begins with.
-fn taken(settled: Settled<'_>, token: &Token<'_>) -> Option<Effect>
+/// What the next token, of this kind, does, where it is the one that the stack begins with.
+fn taken(settled: Settled<'_>, token: &Token<'_>, kind: Kind) -> Option<Effect>
+    requires { kind ≡ kind_of (token_view token.now) }
     ensures some { IfSome result (λ e. IsTaken settled.entry (token_view token.now) e) }
     ensures none { IfNone result (IsRefused settled.entry (token_view token.now)) }
 {
     match settled {
-        Settled::Token(class, effect) => if class_has(class, kind_of(token)) {
+        Settled::Token(class, effect) => if class_has(class, kind) {
             Some(effect)
         } else {
             None
         },
-        Settled::Name(name, effect) => if is_this_name(token, name) {
+        Settled::Name(name, effect) => if is_this_name(token, kind, name) {
             Some(effect)
         } else {
             None
@@ -206,13 +212,14 @@ fn build_classes(alloc: Global, tokens: &Tokens<'_>, size: u32) -> Result<Builde
     let mut builder = build::bottom(alloc, count)?;
     for at in 0..count {
         let token = tokens.at(at);
-        let settled = settle(alloc, &mut stack, &mut builder, tokens, at)?;
-        let Some(effect) = taken(settled, &token.token) else {
+        let kind = kind_of(&token.token);
+        let settled = settle(alloc, &mut stack, &mut builder, tokens, at, Some(kind))?;
+        let Some(effect) = taken(settled, &token.token, kind) else {
             return Err(ParseError::Misplaced(token.at));
         };
         build::read(alloc, &mut builder, effect, tokens, at)?;
     }
-    match settle(alloc, &mut stack, &mut builder, tokens, count)? {
+    match settle(alloc, &mut stack, &mut builder, tokens, count, None)? {
         Settled::Empty => Ok(builder),
         _ => Err(ParseError::Misplaced(size)),
     }

@@ -1,4 +1,6 @@
 // What the parser reads: the symbols that stand on its stack.
+ghost use Rattle.std.specs.Prelude.{◌≡◌};
+ghost use Rattle.maxj_syntax.specs.Productions.{is_manager};
 
 use crate::kind::Word;
 use crate::level::Level;
@@ -48,6 +50,24 @@ pub enum Effect {
     Text,
 }
 
+/// What a class is, by the class that it extends.
+#[derive(Clone, Copy, Debug)]
+pub enum ClassKind {
+    Kernel,
+    Manager,
+}
+
+impl ClassKind {
+    pub fn is_manager(self) -> bool
+        ensures { result ≡ is_manager self }
+    {
+        match self {
+            ClassKind::Manager => true,
+            ClassKind::Kernel => false,
+        }
+    }
+}
+
 /// What a step between tokens does to them.
 #[derive(Clone, Copy, Debug)]
 pub enum Action {
@@ -71,8 +91,8 @@ pub enum Action {
     Memory,
     /// The tree on top, a name, becomes a local variable: its type, that of memories, stands where the tree below does.
     Declare,
-    /// The tree on top is a whole class: a manager or a kernel.
-    Keep(bool),
+    /// The tree on top is a whole class.
+    Keep(ClassKind),
 }
 
 /// How far a statement that begins with a primary has come.
@@ -115,9 +135,9 @@ pub enum Rule {
     Param,
     MaybeFinal,
     /// The parameter of a constructor, of a manager or a kernel.
-    Opening(bool),
+    Opening(ClassKind),
     /// What stands behind its name.
-    Opened(bool),
+    Opened(ClassKind),
     SuperRest,
     // Types.
     TypeName,
@@ -189,11 +209,20 @@ pub enum Rule {
 /// Where a member of a class stands.
 #[derive(Clone, Copy, Debug)]
 pub struct Inside<'a> {
-    pub manager: bool,
+    pub kind: ClassKind,
     /// The name of the class.
     pub class: &'a [u8],
     /// Whether the constructor is still to come.
     pub unmade: bool,
+}
+
+/// The name that a member begins with.
+#[derive(Clone, Copy, Debug)]
+pub struct FirstName {
+    /// Whether it is that of the class, where the constructor is still to come.
+    pub own: bool,
+    /// Whether it is `Memory`.
+    pub memory: bool,
 }
 
 /// A rule that speaks of a name.
@@ -204,8 +233,8 @@ pub enum Named<'a> {
     Members(Inside<'a>),
     /// A member, behind its modifiers, and the members behind it.
     Head(Inside<'a>),
-    /// A member behind its first word, a name: whether it is that of the class and of its constructor, and whether it is `Memory`.
-    After(Inside<'a>, bool, bool),
+    /// A member behind its first word, a name.
+    After(Inside<'a>, FirstName),
 }
 
 /// What the parser is to read next, where that speaks of no name.
@@ -216,8 +245,8 @@ pub enum Fixed {
     Sub(Rule),
     /// The name of a class, and the rest of its head, that speaks of it.
     ClassName,
-    /// The name of a constructor's first parameter, and the rest of the constructor, of a manager or a kernel.
-    FirstParam(bool),
+    /// The name of a constructor's first parameter, and the rest of the constructor.
+    FirstParam(ClassKind),
     Act(Action),
 }
 

@@ -1,10 +1,17 @@
-use Rattle.std.proofs.Common.{◌∷◌, drop, ap, ◌∙◌, subst}
+use Rattle.std.proofs.Common.{◌∷◌, Some, drop, ap, ◌∙◌, subst}
 use Rattle.maxj_syntax.specs.declared.symbol.Rule.{Rule}
 use Rattle.maxj_syntax.specs.Symbols.{Sub}
 use Rattle.maxj_syntax.specs.Building.{Settles, todo}
 use Rattle.maxj_syntax.proofs.Ranging.{start_ranged, token_ranged}
-use Rattle.maxj_syntax.proofs.Exits.{start_file, misplaced_token, misplaced_end, read_token, finished_file}
+use Rattle.maxj_syntax.proofs.Exits.{start_file, misplaced_token, misplaced_end, read_token, finished_file, kind_here, kind_at_end}
 use Rattle.maxj_syntax.proofs.parser.build_classes.Goals as goal
+
+pub settle-requires-clause-kind : goal.settle-requires-clause-kind
+settle-requires-clause-kind c = ap (λ k. Some k) c.kind_of-kind.ensures
+    ∙ kind_here c.args.tokens.now c.loop-at.at _ c.at-token.ensures
+
+pub settle-requires-2-clause-kind : goal.settle-requires-2-clause-kind
+settle-requires-2-clause-kind c = kind_at_end c.args.tokens.now c.len-count.result c.len-count.ensures.number
 
 pub loop-at-init : goal.loop-at-init
 loop-at-init c = record {

@@ -9,7 +9,7 @@ pub returns-then-is_word-clause-yes : goal.returns-then-is_word-clause-yes
 returns-then-is_word-clause-yes c = name_yes
     (token_view c.args.token.now) c.args.name.now c.class_has.result
     (c.is_word.ensures.yes c.if-is_word.true) (c.class_has.ensures ∙ ap
-    (λ k. class_has C.Name k) c.kind_of.ensures)
+    (λ k. class_has C.Name k) c.requires)
 
 pub returns-then-is_word-clause-no : goal.returns-then-is_word-clause-no
-returns-then-is_word-clause-no c = name_no (token_view c.args.token.now) c.args.name.now c.class_has.result (c.class_has.ensures ∙ ap (λ k. class_has C.Name k) c.kind_of.ensures)
+returns-then-is_word-clause-no c = name_no (token_view c.args.token.now) c.args.name.now c.class_has.result (c.class_has.ensures ∙ ap (λ k. class_has C.Name k) c.requires)
