@@ -1,21 +1,6 @@
 -- The ports of a kernel's module: their names and widths in order, and the nets by which a run sees
 -- them.
-use Rattle.std.specs.Prelude.{
-  ℕ,
-  ◌+◌,
-  ◌*◌,
-  Bool,
-  true,
-  false,
-  if◌then◌else◌,
-  List,
-  [],
-  ◌∷◌,
-  ◌++◌,
-  map,
-  length,
-  codes,
-}
+use Rattle.std.specs.Prelude.{ℕ, ◌+◌, ◌*◌, Bool, if◌then◌else◌, List, [], ◌∷◌, ◌++◌, map, length, codes}
 use Rattle.rtl_ir.specs.declared.design.Module.{Module}
 use Rattle.rtl_ir.specs.Run.{Channel}
 use Rattle.rtl_ir.specs.Ports.{
@@ -28,21 +13,9 @@ use Rattle.rtl_ir.specs.Ports.{
   nets_from,
 }
 use Rattle.stream_graph.specs.declared.node.Kind.{Kind}
-use Rattle.stream_graph.specs.declared.node.Kind.TheVariants as K
 use Rattle.stream_graph.specs.declared.node.Node.{Node}
+use Rattle.stream_graph.specs.PortKinds.{is_input, is_output, is_scalar}
 use Rattle.offset_edges.specs.Edges.{node_at, width_at}
-
-abbrev pub is_input : Kind → Bool
-is_input K.Input = true
-is_input _ = false
-
-abbrev pub is_output : Kind → Bool
-is_output K.Output = true
-is_output _ = false
-
-abbrev pub is_scalar : Kind → Bool
-is_scalar K.Scalar = true
-is_scalar _ = false
 
 -- the numbers, from this one on, of the nodes of a kind
 abbrev pub numbers_from : (Kind → Bool) → ℕ → List Node → List ℕ

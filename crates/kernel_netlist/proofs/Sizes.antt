@@ -4,9 +4,9 @@ use Rattle.std.specs.Prelude.{ℤ}
 use Rattle.rtl_ir.specs.declared.design.Module.{Module}
 use Rattle.rtl_ir.specs.Ports.{PortView, port_view}
 use Rattle.stream_graph.specs.declared.kernel.Kernel.{Kernel}
+use Rattle.stream_graph.specs.PortKinds.{is_input, is_output, is_scalar}
 use Rattle.offset_edges.proofs.NodeLemmas.{short_names}
 use Rattle.kernel_layout.specs.declared.layout.Layout.{Layout}
-use Rattle.kernel_control.specs.Ports.{is_input, is_output, is_scalar}
 use Rattle.kernel_stages.specs.Numbers.{stage_count, ring_count}
 use Rattle.kernel_states.proofs.Costs.{few_states}
 use Rattle.kernel_states.proofs.Kernels.{nets_few}

@@ -7,6 +7,7 @@ use Rattle.rtl_ir.specs.Names.{is_letter}
 use Rattle.rtl_ir.specs.Ports.{PortView, is_plain_byte, is_plain_name, host_input_ports, host_output_ports, output_port}
 use Rattle.kernel_control.specs.Ports.{scalar_ports}
 use Rattle.kernel_ports.proofs.Spelled.{both, ArePlain}
+use Rattle.stream_graph.proofs.NamesDiffer.{or_first, or_second}
 
 -- whether a port has this name
 abbrev pub is_named : List ℕ → PortView → Bool
@@ -148,14 +149,6 @@ both_false false b h = refl
 none_of_two : (a b : Bool) → a ≡ false → b ≡ false → a || b ≡ false
 none_of_two true b h k = absurd (cc)
 none_of_two false b h k = k
-
-or_first : (a b : Bool) → a || b ≡ false → a ≡ false
-or_first true b h = h
-or_first false b h = refl
-
-or_second : (a b : Bool) → a || b ≡ false → b ≡ false
-or_second true b h = absurd (cc)
-or_second false b h = h
 
 letters : (name : List ℕ) → is_plain_name name ≡ true → list_all is_plain_byte name ≡ true
 letters [] h = refl

@@ -14,6 +14,7 @@ use Rattle.stream_graph.specs.Kernels.{AreKernel}
 use Rattle.stream_graph.specs.Nodes.{later, name_by, IsKind, AreNodes}
 use Rattle.stream_graph.specs.Ports.{is_again, AllDiffer}
 use Rattle.stream_graph.specs.Steps.{WereLawful}
+use Rattle.stream_graph.proofs.NamesDiffer.{DidDiffer, did_later, or_first, or_second}
 use Rattle.offset_edges.specs.Edges.{node_at, kind_at}
 use Rattle.offset_edges.proofs.CallLemmas.{made_below, makes_cases, were_later}
 use Rattle.offset_edges.proofs.NodeLemmas.{of_node}
@@ -47,22 +48,6 @@ role_kept so_far n C.Chain kind i = ap role_of i
 role_kept so_far n (C.ChainDigit chain d) kind i = ap role_of i
 
 -- ---- no port has the name of an earlier one of its kind
-
-abbrev DidDiffer : List Call → Type 0
-DidDiffer [] = Unit {0}
-DidDiffer (call ∷ older) = (is_again older call ≡ false) × DidDiffer older
-
-did_later : (so_far calls : List Call) → DidDiffer so_far → AllDiffer so_far calls → DidDiffer (later so_far calls)
-did_later so_far [] w a = w
-did_later so_far (call ∷ calls) w a = did_later (call ∷ so_far) calls (a.0, w) a.1
-
-or_first : (a b : Bool) → a || b ≡ false → a ≡ false
-or_first true b h = h
-or_first false b h = refl
-
-or_second : (a b : Bool) → a || b ≡ false → b ≡ false
-or_second true b h = absurd (cc)
-or_second false b h = h
 
 -- a call whose name is new has another name than the newest call of its kind, and is new among the older ones
 again_newest : (newest : Call) (older : List Call) (call : Call) → is_again (newest ∷ older) call ≡ false

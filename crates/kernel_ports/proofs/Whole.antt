@@ -39,6 +39,7 @@ use Rattle.kernel_ports.proofs.Kernels.{AreNamed, named}
 use Rattle.kernel_ports.proofs.Spelled.{IsPortName, AreSpelled, kernel_named}
 use Rattle.kernel_ports.proofs.Apart.{AreApart, is_there, is_named}
 use Rattle.kernel_ports.proofs.Named.{ports_spelled, ports_apart}
+use Rattle.stream_graph.proofs.NamesDiffer.{or_first, or_second}
 
 -- ---- names
 
@@ -46,14 +47,6 @@ spelled_at : (vs : List PortView) → AreSpelled vs → (k : ℕ) (v : PortView)
 spelled_at [] h k v e = absurd (cc)
 spelled_at (u ∷ vs) h zero v e = let f : u ≡ v = cc in subst (λ (x : PortView). IsPortName x.name) f h.0
 spelled_at (u ∷ vs) h (suc k) v e = spelled_at vs h.1 k v e
-
-or_first : (a b : Bool) → a || b ≡ false → a ≡ false
-or_first true b h = h
-or_first false b h = refl
-
-or_second : (a b : Bool) → a || b ≡ false → b ≡ false
-or_second true b h = absurd (cc)
-or_second false b h = h
 
 not_there : (name : List ℕ) (vs : List PortView) → is_there name vs ≡ false → (k : ℕ) (v : PortView) → slice_get vs k ≡ Some v → is_named name v ≡ false
 not_there name [] h k v e = absurd (cc)

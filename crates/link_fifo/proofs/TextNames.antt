@@ -28,7 +28,7 @@ use Rattle.rtl_ir.specs.Names.{is_letter, is_digit}
 use Rattle.rtl_build.specs.Wires.{wire_name}
 use Rattle.link_fifo.specs.Netlist.{wire, frame_nets, wires_from, wire_widths, the_nets, the_mems}
 use Rattle.link_fifo.specs.TextNames.{has_dollar, is_numbered, is_fixed_name, is_text_name}
-use Rattle.link_fifo.proofs.Names.{digits_are}
+use Rattle.rtl_delays.proofs.Spelled.{digits_are}
 
 -- ---- a letter and digits
 

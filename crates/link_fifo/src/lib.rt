@@ -18,3 +18,4 @@ mod updates;
 mod wires;
 
 pub use building::fifo;
+pub use wires::add_wires;

@@ -19,8 +19,10 @@ fn wire(alloc: Global, number: usize, width: u8) -> Result<Net, NoMemory>
     })
 }
 
-// Adds wires of these widths, named by their numbers.
-fn add_wires(alloc: Global, nets: &mut List<Net>, widths: &[u8]) -> Result<(), NoMemory>
+/// Adds wires of these widths in bits, each named by its number among the nets.
+///
+/// Its error is want of memory.
+pub fn add_wires(alloc: Global, nets: &mut List<Net>, widths: &[u8]) -> Result<(), NoMemory>
     ensures { OnOk result (nets.new ≡ nets.old ++ wires_from (length nets.old) widths.now) }
 {
     for width in widths {

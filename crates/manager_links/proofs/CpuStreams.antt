@@ -14,6 +14,7 @@ use Rattle.stream_graph.specs.declared.kernel.Kernel.{Kernel}
 use Rattle.stream_graph.specs.declared.node.Kind.{Kind}
 use Rattle.stream_graph.specs.declared.node.Kind.TheVariants as K
 use Rattle.stream_graph.specs.declared.node.Node.{Node}
+use Rattle.stream_graph.specs.PortKinds.{is_input, is_output}
 use Rattle.manager_links.specs.declared.hosts.HostPort.{HostPort}
 use Rattle.manager_links.specs.declared.links.PortAt.{PortAt}
 use Rattle.manager_links.specs.declared.terminals.Slot.{Slot}
@@ -22,7 +23,7 @@ use Rattle.manager_links.specs.Hosts.{own_host, own_hosts}
 use Rattle.manager_links.specs.Joined.{is_of_kernel}
 use Rattle.manager_links.specs.Numbers.{IsSlot}
 use Rattle.manager_links.specs.Placed.{ArePartners, Joins}
-use Rattle.manager_links.specs.Ports.{is_input, is_output, node_of, IsPortAt}
+use Rattle.manager_links.specs.Ports.{node_of, IsPortAt}
 use Rattle.manager_links.specs.Rules.{IsHostToHost}
 use Rattle.manager_links.specs.Steps.{is_port, IsPortSlot}
 use Rattle.manager_links.specs.Terminals.{Terminal, Input, Output, FromCpu, ToCpu, left_terminal, right_terminal}

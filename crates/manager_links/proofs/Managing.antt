@@ -13,6 +13,7 @@ use Rattle.kernel_meaning.specs.declared.plan.Plan.{Plan}
 use Rattle.stream_graph.specs.declared.kernel.Kernel.{Kernel}
 use Rattle.stream_graph.specs.declared.node.Kind.{Kind}
 use Rattle.stream_graph.specs.declared.node.Node.{Node}
+use Rattle.stream_graph.specs.PortKinds.{is_input, is_output}
 use Rattle.manager_links.specs.declared.hosts.HostPort.{HostPort}
 use Rattle.manager_links.specs.declared.links.LinkEnds.{LinkEnds}
 use Rattle.manager_links.specs.declared.links.PortAt.{PortAt}
@@ -22,7 +23,7 @@ use Rattle.manager_links.specs.Lists.{AllDiffer}
 use Rattle.manager_links.specs.Loops.{AreOrdered, GoesBetween, IsKernelLoop, IsLinked, IsLoopBy}
 use Rattle.manager_links.specs.Ordering.{GoesFrom, GoWithin}
 use Rattle.manager_links.specs.Plans.{IsKnown, IsManaged, IsStreamName, AreKernelsOf}
-use Rattle.manager_links.specs.Ports.{IsNamed, IsPort, IsPortAt, IsPortOf, is_input, is_output, node_of}
+use Rattle.manager_links.specs.Ports.{IsNamed, IsPort, IsPortAt, IsPortOf, node_of}
 use Rattle.manager_links.specs.Projects.{AreStreams, IsCarriedOut}
 use Rattle.manager_links.specs.Rules.{AreFew, HasTwoTypes, IsHostToHost, NamesDiffer}
 use Rattle.manager_links.specs.Steps.{HaveOneType}

@@ -12,6 +12,7 @@ use Rattle.stream_graph.specs.declared.kernel.Kernel.{Kernel}
 use Rattle.stream_graph.specs.declared.node.Kind.{Kind}
 use Rattle.stream_graph.specs.declared.node.Kind.TheVariants as K
 use Rattle.stream_graph.specs.declared.node.Node.{Node}
+use Rattle.stream_graph.specs.PortKinds.{is_input, is_output}
 use Rattle.manager_links.specs.declared.ends.Ends.{Ends}
 use Rattle.manager_links.specs.declared.links.LinkEnds.{LinkEnds}
 use Rattle.manager_links.specs.declared.links.PortAt.{PortAt}
@@ -19,7 +20,7 @@ use Rattle.manager_links.specs.declared.terminals.Slot.{Slot}
 use Rattle.manager_links.specs.declared.terminals.Slot.TheVariants as S
 use Rattle.manager_links.specs.Joined.{is_of_kernel, is_link, IsLinkOf}
 use Rattle.manager_links.specs.Numbers.{IsSlot, AreEnds}
-use Rattle.manager_links.specs.Ports.{node_of, is_input, is_output, IsNamed, IsPortOf, IsPortAt, type_of}
+use Rattle.manager_links.specs.Ports.{node_of, IsNamed, IsPortOf, IsPortAt, type_of}
 use Rattle.manager_links.specs.Rules.{HasTwoTypes}
 use Rattle.manager_links.specs.Steps.{is_port, IsPortSlot}
 use Rattle.manager_links.specs.Terminals.{Terminal, Input, Output, terminal_by, left_terminal, right_terminal, terminals}

@@ -11,6 +11,7 @@ use Rattle.kernel_meaning.specs.declared.plan.Plan.{Plan}
 use Rattle.stream_graph.specs.declared.kernel.Kernel.{Kernel}
 use Rattle.stream_graph.specs.declared.node.Kind.{Kind}
 use Rattle.stream_graph.specs.declared.node.Node.{Node}
+use Rattle.stream_graph.specs.PortKinds.{is_input, is_output}
 use Rattle.offset_edges.specs.Edges.{no_node}
 use Rattle.offset_edges.proofs.NodeLemmas.{short_names}
 use Rattle.manager_links.specs.declared.hosts.HostPort.{HostPort}
@@ -21,7 +22,7 @@ use Rattle.manager_links.specs.Joined.{IsLinkOf, is_link}
 use Rattle.manager_links.specs.Lists.{AllDiffer}
 use Rattle.manager_links.specs.Loops.{AreOrdered}
 use Rattle.manager_links.specs.Plans.{IsAlone, AreKernelsOf}
-use Rattle.manager_links.specs.Ports.{IsPort, is_input, is_output, type_of}
+use Rattle.manager_links.specs.Ports.{IsPort, type_of}
 use Rattle.manager_links.specs.Projects.{AreAll, AreStreams, IsCarriedOut}
 use Rattle.manager_links.specs.Terminals.{Terminal, Input, Output}
 use Rattle.manager_links.proofs.JoinEnds.{in_map}

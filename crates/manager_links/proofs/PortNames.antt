@@ -16,6 +16,7 @@ use Rattle.stream_graph.specs.declared.node.Node.{Node}
 use Rattle.stream_graph.specs.Nodes.{later, name_by, IsKind, AreNodes}
 use Rattle.stream_graph.specs.Ports.{is_again, AllDiffer}
 use Rattle.stream_graph.specs.Steps.{WereLawful}
+use Rattle.stream_graph.proofs.NamesDiffer.{DidDiffer, did_later, or_first, or_second}
 use Rattle.offset_edges.specs.Edges.{node_at, no_node}
 use Rattle.offset_edges.proofs.CallLemmas.{made_below, makes_cases, were_later}
 use Rattle.offset_edges.proofs.NodeLemmas.{IsOf, of_node}
@@ -45,22 +46,6 @@ shows k so_far n C.Chain kind name i e = ap (λ x. terminal_by k x name) i
 shows k so_far n (C.ChainDigit chain d) kind name i e = ap (λ x. terminal_by k x name) i
 
 -- ---- no call makes the terminal of an earlier one
-
-abbrev DidDiffer : List Call → Type 0
-DidDiffer [] = Unit {0}
-DidDiffer (call ∷ older) = (is_again older call ≡ false) × DidDiffer older
-
-did_later : (so_far calls : List Call) → DidDiffer so_far → AllDiffer so_far calls → DidDiffer (later so_far calls)
-did_later so_far [] w a = w
-did_later so_far (call ∷ calls) w a = did_later (call ∷ so_far) calls (a.0, w) a.1
-
-or_first : (a b : Bool) → a || b ≡ false → a ≡ false
-or_first true b h = h
-or_first false b h = refl
-
-or_second : (a b : Bool) → a || b ≡ false → b ≡ false
-or_second true b h = absurd (cc)
-or_second false b h = h
 
 other_name : (a b : List ℕ) → bytes_eq a b ≡ false → b ≡ a → ⊥
 other_name a b e same = let yes = (bytes_decides a b).1 (sym same) in absurd (cc)

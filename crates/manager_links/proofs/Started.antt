@@ -9,13 +9,14 @@ use Rattle.kernel_meaning.specs.declared.plan.Plan.{Plan}
 use Rattle.stream_graph.specs.declared.kernel.Kernel.{Kernel}
 use Rattle.stream_graph.specs.declared.node.Kind.{Kind}
 use Rattle.stream_graph.specs.declared.node.Node.{Node}
+use Rattle.stream_graph.specs.PortKinds.{is_input, is_output}
 use Rattle.manager_links.specs.declared.joints.Joints.{Joints}
 use Rattle.manager_links.specs.declared.links.Link.{Link}
 use Rattle.manager_links.specs.declared.links.LinkEnds.{LinkEnds}
 use Rattle.manager_links.specs.declared.links.PortAt.{PortAt}
 use Rattle.manager_links.specs.Joined.{AreJoined, ends_of_link}
 use Rattle.manager_links.specs.Links.{AreLinks}
-use Rattle.manager_links.specs.Ports.{IsPort, node_of, is_input, is_output}
+use Rattle.manager_links.specs.Ports.{IsPort, node_of}
 use Rattle.manager_links.specs.Projects.{IsProject}
 use Rattle.manager_links.specs.Starts.{IsTimed, AreTimes, AreStarts, own_times, depth_of}
 use Rattle.manager_links.specs.Waiting.{IsTimedPort, AreKnownLinks, AreRising, deep_link}

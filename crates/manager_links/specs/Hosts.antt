@@ -19,8 +19,9 @@ use Rattle.kernel_meaning.specs.declared.plan.Plan.{Plan}
 use Rattle.stream_graph.specs.declared.kernel.Kernel.{Kernel}
 use Rattle.stream_graph.specs.declared.node.Kind.{Kind}
 use Rattle.stream_graph.specs.declared.node.Node.{Node}
+use Rattle.stream_graph.specs.PortKinds.{is_input, is_output}
 use Rattle.manager_links.specs.declared.hosts.HostPort.{HostPort}
-use Rattle.manager_links.specs.Ports.{IsPortAt, is_input, is_output, type_of}
+use Rattle.manager_links.specs.Ports.{IsPortAt, type_of}
 
 -- the words of a stream have the type of its port
 abbrev pub HasType : List Kernel → HostPort → Type 0

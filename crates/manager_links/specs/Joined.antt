@@ -5,9 +5,10 @@ use Rattle.kernel_meaning.specs.declared.plan.End.{End}
 use Rattle.kernel_meaning.specs.declared.plan.End.TheVariants as E
 use Rattle.kernel_meaning.specs.declared.plan.Join.{Join}
 use Rattle.stream_graph.specs.declared.kernel.Kernel.{Kernel}
+use Rattle.stream_graph.specs.PortKinds.{is_input, is_output}
 use Rattle.manager_links.specs.declared.links.Link.{Link}
 use Rattle.manager_links.specs.declared.links.LinkEnds.{LinkEnds}
-use Rattle.manager_links.specs.Ports.{IsPortAt, is_input, is_output}
+use Rattle.manager_links.specs.Ports.{IsPortAt}
 
 abbrev pub is_of_kernel : End → Bool
 is_of_kernel (E.Kernel number name) = true

@@ -7,12 +7,13 @@ use Rattle.std.specs.Option.{option_eq}
 use Rattle.kernel_meaning.specs.declared.plan.Join.{Join}
 use Rattle.kernel_meaning.specs.declared.plan.Plan.{Plan}
 use Rattle.stream_graph.specs.declared.kernel.Kernel.{Kernel}
+use Rattle.stream_graph.specs.PortKinds.{is_input, is_output}
 use Rattle.manager_links.specs.declared.ends.Ends.{Ends}
 use Rattle.manager_links.specs.declared.names.Names.{Names}
 use Rattle.manager_links.specs.declared.terminals.Slot.{Slot}
 use Rattle.manager_links.specs.declared.terminals.Slot.TheVariants as S
 use Rattle.manager_links.specs.declared.terminals.Terminals.{Terminals}
-use Rattle.manager_links.specs.Ports.{IsPortOf, is_input, is_output}
+use Rattle.manager_links.specs.Ports.{IsPortOf}
 use Rattle.manager_links.specs.Terminals.{
   Terminal,
   Input,

@@ -7,19 +7,8 @@ use Rattle.kernel_meaning.specs.declared.plan.End.{End}
 use Rattle.kernel_meaning.specs.declared.plan.End.TheVariants as E
 use Rattle.stream_graph.specs.declared.kernel.Kernel.{Kernel}
 use Rattle.stream_graph.specs.declared.node.Kind.{Kind}
-use Rattle.stream_graph.specs.declared.node.Kind.TheVariants as K
 use Rattle.stream_graph.specs.declared.node.Node.{Node}
 use Rattle.manager_links.specs.declared.links.PortAt.{PortAt}
-
--- ---- the two kinds of ports
-
-abbrev pub is_input : Kind → Bool
-is_input K.Input = true
-is_input _ = false
-
-abbrev pub is_output : Kind → Bool
-is_output K.Output = true
-is_output _ = false
 
 -- ---- ports of kernels
 

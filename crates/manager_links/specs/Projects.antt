@@ -4,12 +4,13 @@ use Rattle.kernel_calls.specs.Laws.{is_port_name}
 use Rattle.kernel_meaning.specs.declared.plan.Plan.{Plan}
 use Rattle.stream_graph.specs.declared.kernel.Kernel.{Kernel}
 use Rattle.stream_graph.specs.declared.node.Kind.{Kind}
+use Rattle.stream_graph.specs.PortKinds.{is_input, is_output}
 use Rattle.manager_links.specs.declared.hosts.HostPort.{HostPort}
 use Rattle.manager_links.specs.declared.joints.Joints.{Joints}
 use Rattle.manager_links.specs.declared.links.LinkEnds.{LinkEnds}
 use Rattle.manager_links.specs.declared.links.PortAt.{PortAt}
 use Rattle.manager_links.specs.Lists.{AllDiffer}
-use Rattle.manager_links.specs.Ports.{IsPort, is_input, is_output, is_among, type_of}
+use Rattle.manager_links.specs.Ports.{IsPort, is_among, type_of}
 use Rattle.manager_links.specs.Joined.{AreJoined}
 use Rattle.manager_links.specs.Hosts.{AreInputs, AreOutputs, HasType}
 use Rattle.manager_links.specs.Loops.{AreOrdered}

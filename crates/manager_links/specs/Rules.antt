@@ -4,12 +4,13 @@ use Rattle.std.specs.List.{Contains}
 use Rattle.kernel_meaning.specs.declared.plan.Join.{Join}
 use Rattle.kernel_meaning.specs.declared.plan.Plan.{Plan}
 use Rattle.stream_graph.specs.declared.kernel.Kernel.{Kernel}
+use Rattle.stream_graph.specs.PortKinds.{is_input, is_output}
 use Rattle.manager_links.specs.declared.error.EndName.TheVariants as N
 use Rattle.manager_links.specs.declared.error.LinkError.{LinkError}
 use Rattle.manager_links.specs.declared.error.LinkError.TheVariants as L
 use Rattle.manager_links.specs.declared.links.PortAt.{PortAt}
 use Rattle.manager_links.specs.Lists.{AllDiffer, IsFirst, IsFirstAgain}
-use Rattle.manager_links.specs.Ports.{IsPortAt, is_input, is_output, type_of}
+use Rattle.manager_links.specs.Ports.{IsPortAt, type_of}
 use Rattle.manager_links.specs.Terminals.{
   Terminal,
   left_terminal,

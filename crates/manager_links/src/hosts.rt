@@ -3,11 +3,12 @@ ghost use Rattle.std.specs.Prelude.{◌≡◌, ◌<◌, All, Some, length, slice
 ghost use Rattle.std.specs.List.{AllZip};
 ghost use Rattle.kernel_meaning.specs.declared.plan.Join.{Join as OneJoin};
 ghost use Rattle.stream_graph.specs.declared.node.Node.{Node};
+ghost use Rattle.stream_graph.specs.PortKinds.{is_input, is_output};
 ghost use Rattle.manager_links.specs.Hosts as Own;
 ghost use Rattle.manager_links.specs.Hosts.{IsHostInput, IsHostOutput, HasType, own_host};
 ghost use Rattle.manager_links.specs.Numbers.{IsSlot};
 ghost use Rattle.manager_links.specs.Placed.{ArePartners};
-ghost use Rattle.manager_links.specs.Ports.{is_input, is_output, node_of, type_of};
+ghost use Rattle.manager_links.specs.Ports.{node_of, type_of};
 ghost use Rattle.manager_links.specs.Rules.{IsHostToHost};
 ghost use Rattle.manager_links.specs.Terminals.{terminals};
 

@@ -9,7 +9,7 @@ use Rattle.kernel_meaning.specs.declared.plan.Join.{Join}
 use Rattle.kernel_meaning.specs.declared.plan.Plan.{Plan}
 use Rattle.manager_links.specs.Hosts.{HasType, IsHostInput, IsHostOutput, AreInputsBy, AreOutputsBy}
 use Rattle.manager_links.specs.Lists.{AllDiffer}
-use Rattle.manager_links.specs.Ports.{IsPortAt, is_input, is_output, type_of}
+use Rattle.manager_links.specs.Ports.{IsPortAt, type_of}
 use Rattle.manager_links.specs.Rules.{MeetsRules}
 use Rattle.manager_links.specs.Terminals.{ends_of, left_terminal, right_terminal}
 use Rattle.manager_links.specs.declared.hosts.HostPort.{HostPort}
@@ -18,6 +18,7 @@ use Rattle.manager_links.proofs.OnlyPort.{only_input, only_output}
 use Rattle.manager_links.proofs.Pieces.{differ_head, differ_tail, in_more}
 use Rattle.manager_links.proofs.Sides.{of_any}
 use Rattle.stream_graph.specs.declared.kernel.Kernel.{Kernel}
+use Rattle.stream_graph.specs.PortKinds.{is_input, is_output}
 use Rattle.maxjc_core.proofs.Lists.{zip_only}
 use Rattle.maxjc_core.proofs.OneProject.{AreSame}
 

@@ -32,7 +32,7 @@ use Rattle.std.proofs.lemmas.Bool.{false≢true}
 use Rattle.std.proofs.lemmas.List.{length-map, map-append}
 use Rattle.std.proofs.lemmas.Option.{same_Some}
 use Rattle.fix_arith.specs.Types.{width_of}
-use Rattle.kernel_control.specs.Ports.{is_scalar, numbers_from, scalars_of}
+use Rattle.kernel_control.specs.Ports.{numbers_from, scalars_of}
 use Rattle.manager_links.specs.declared.hosts.HostPort.{HostPort}
 use Rattle.manager_links.specs.declared.project.Project.{Project}
 use Rattle.mx_base.specs.Files.{Name}
@@ -48,6 +48,7 @@ use Rattle.simulation.specs.declared.plan.Plan.{Plan}
 use Rattle.stream_graph.specs.declared.kernel.Kernel.{Kernel}
 use Rattle.stream_graph.specs.declared.node.Kind.TheVariants as K
 use Rattle.stream_graph.specs.declared.node.Node.{Node}
+use Rattle.stream_graph.specs.PortKinds.{is_scalar}
 use Rattle.maxjc_core.specs.Expecting.{IsGivenBy}
 use Rattle.maxjc_core.specs.ExpectStops.{AreNodeLists, AreWithin, FitsPorts}
 use Rattle.maxjc_core.specs.InputWords.{readings_of}

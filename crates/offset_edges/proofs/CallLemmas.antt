@@ -44,6 +44,7 @@ use Rattle.kernel_calls.specs.declared.call.Call.{Call}
 use Rattle.kernel_calls.specs.declared.call.Call.TheVariants as C
 use Rattle.kernel_calls.specs.Calls.{count_of, nodes_of, bits_in, Makes}
 use Rattle.kernel_calls.specs.Laws.{IsLawful, AreLawful, IsStream}
+use Rattle.stream_graph.proofs.Facts.{makes_older}
 use Rattle.stream_graph.specs.Nodes.{later, connected_to, digits_to, name_by}
 use Rattle.stream_graph.specs.Steps.{WereLawful}
 
@@ -91,21 +92,6 @@ makes_next (C.Hold value store t) older = inl (inl (refl, refl), refl)
 makes_next (C.Counter d) older = inl (inl (refl, refl), refl)
 makes_next C.Chain older = inl (inl (refl, refl), refl)
 makes_next (C.ChainDigit chain d) older = inl (inl (refl, refl), refl)
-
-pub makes_older : (newest : Call) (older : List Call) (n : ℕ) (call : Call) → Makes older n call →
-    Makes (newest ∷ older) n call
-makes_older (C.Input name t control) older n call h = inr h
-makes_older (C.Output name value control t) older n call h = inr h
-makes_older (C.Scalar name t) older n call h = inr h
-makes_older (C.Constant bits t) older n call h = inr h
-makes_older (C.Operation op mode amount args t) older n call h = inr h
-makes_older (C.Offset value k t) older n call h = inr h
-makes_older (C.Feed t) older n call h = inr h
-makes_older (C.Connect feed value) older n call h = h
-makes_older (C.Hold value store t) older n call h = inr h
-makes_older (C.Counter d) older n call h = inr h
-makes_older C.Chain older n call h = inr h
-makes_older (C.ChainDigit chain d) older n call h = inr h
 
 -- each node is made
 pub made : (so_far : List Call) (n : ℕ) → n < count_of so_far → (call : Call) × Makes so_far n call

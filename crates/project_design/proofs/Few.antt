@@ -15,13 +15,14 @@ use Rattle.rtl_ir.specs.Ports.{first_scalar, first_input, first_output, done_por
 use Rattle.stream_graph.specs.declared.kernel.Kernel.{Kernel}
 use Rattle.stream_graph.specs.declared.node.Kind.{Kind}
 use Rattle.stream_graph.specs.declared.node.Node.{Node}
-use Rattle.kernel_control.specs.Ports.{inputs_of, outputs_of, scalars_of, is_input as input_kind, is_output as output_kind, is_scalar}
+use Rattle.stream_graph.specs.PortKinds.{is_input, is_output, is_scalar}
+use Rattle.kernel_control.specs.Ports.{inputs_of, outputs_of, scalars_of}
 use Rattle.manager_links.specs.declared.hosts.HostPort.{HostPort}
 use Rattle.manager_links.specs.declared.links.LinkEnds.{LinkEnds}
 use Rattle.manager_links.specs.declared.links.PortAt.{PortAt}
 use Rattle.manager_links.specs.declared.project.Project.{Project}
 use Rattle.manager_links.specs.Lists.{AllDiffer}
-use Rattle.manager_links.specs.Ports.{IsPort, node_of, is_input, is_output}
+use Rattle.manager_links.specs.Ports.{IsPort, node_of}
 use Rattle.manager_links.specs.Projects.{AreAll, fed, given}
 use Rattle.manager_links.proofs.Started.{port_some}
 use Rattle.project_rtl.specs.Shapes.{scalar_shape, scalar_shapes, host_shape, shape_of, port_count}
@@ -130,8 +131,8 @@ is_few project =
 
 pub streams_few : (kernel : Kernel) → stream_count kernel ≤ 8192
 streams_few kernel =
-    let i = few_numbers input_kind 0 kernel.nodes in
-    let o = few_numbers output_kind 0 kernel.nodes in
+    let i = few_numbers is_input 0 kernel.nodes in
+    let o = few_numbers is_output 0 kernel.nodes in
     let f = kernel.few in
     let both = length-append (inputs_of kernel.nodes) (outputs_of kernel.nodes) in
     omega arith

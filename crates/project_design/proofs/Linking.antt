@@ -7,6 +7,7 @@ use Rattle.std.proofs.lemmas.Option.{get_or_from_slice_get, same_Some}
 use Rattle.fix_arith.specs.Types.{width_of}
 use Rattle.stream_graph.specs.declared.kernel.Kernel.{Kernel}
 use Rattle.stream_graph.specs.declared.node.Node.{Node}
+use Rattle.stream_graph.specs.PortKinds.{is_input, is_output}
 use Rattle.offset_edges.specs.Edges.{width_at, no_node}
 use Rattle.manager_links.specs.declared.hosts.HostPort.{HostPort}
 use Rattle.manager_links.specs.declared.links.Link.{Link}
@@ -17,7 +18,7 @@ use Rattle.manager_links.specs.declared.project.Project.{Project}
 use Rattle.manager_links.specs.Hosts.{HasType}
 use Rattle.manager_links.specs.Joined.{ends_of_link}
 use Rattle.manager_links.specs.Links.{AreLinksOf}
-use Rattle.manager_links.specs.Ports.{IsPort, is_input, is_output, is_controlled, node_of, type_of}
+use Rattle.manager_links.specs.Ports.{IsPort, is_controlled, node_of, type_of}
 use Rattle.manager_links.specs.Starts.{Starts, first_edge, depth_of, controlled_depth}
 use Rattle.manager_links.proofs.Pieces.{All-front}
 use Rattle.manager_links.proofs.Started.{port_some}

@@ -1,18 +1,14 @@
 -- The FIFOs and the modules that are made.
-use Rattle.std.proofs.Common.{◌≡◌, ℕ, zero, suc, ◌+◌, ◌%◌, ◌<◌, ◌≤◌, ◌^◌, Bool, true, false, ◌&&◌}
-use Rattle.std.proofs.Common.{◌||◌, List, [], ◌∷◌, ◌++◌, map, take, get_or, length, refl, sym, ap}
+use Rattle.std.proofs.Common.{◌≡◌, ℕ, zero, suc, ◌+◌, ◌<◌, ◌≤◌, ◌^◌, true}
+use Rattle.std.proofs.Common.{List, [], ◌∷◌, ◌++◌, map, take, get_or, length, refl, sym, ap}
 use Rattle.std.proofs.Common.{◌∙◌, subst, arith, append-nil, append_assoc, length-append}
-use Rattle.std.specs.Prelude.{codes, nat_eq}
-use Rattle.std.specs.List.{list_all}
 use Rattle.std.specs.Fmt.{decimal}
-use Rattle.std.proofs.lemmas.Fmt.{decimal_by_steps}
 use Rattle.std.proofs.lemmas.List.{map_more}
-use Rattle.std.proofs.lemmas.List.Folds.{list_all-append}
-use Rattle.std.proofs.lemmas.Bool.Decides.{nat_tests}
 use Rattle.std.proofs.lemmas.Option.{get_or_from_slice_get, slice_get-get_or}
 use Rattle.rtl_ir.specs.declared.design.Module.{Module}
-use Rattle.rtl_ir.specs.Names.{is_digit, begins_name, continues_name, is_name}
+use Rattle.rtl_ir.specs.Names.{is_name}
 use Rattle.link_fifo.specs.Fifo.{IsFifoModule}
+use Rattle.rtl_delays.proofs.Spelled.{digits_are, digits_continue}
 use Rattle.stream_graph.specs.declared.kernel.Kernel.{Kernel}
 use Rattle.manager_links.specs.declared.hosts.HostPort.{HostPort}
 use Rattle.manager_links.specs.declared.links.Link.{Link}
@@ -22,36 +18,6 @@ use Rattle.project_rtl.specs.Projects.{Queue, fifo_name, AreFifos, host_queue, l
 use Rattle.project_design.specs.Building.{AddsFifos}
 
 -- ---- the names of FIFOs
-
-both : (a b : Bool) → a && b ≡ true → (a ≡ true) × (b ≡ true)
-both true b h = (refl, h)
-both false b h = absurd (cc)
-
-digit_is : (n : ℕ) → n < 10 → is_digit (48 + n) ≡ true
-digit_is n h = grind (arith, nat_tests)
-
-digits_are : (n : ℕ) → n < 2 ^ 64 → list_all is_digit (decimal n) ≡ true
-digits_are n h =
-    decimal_by_steps (λ n ds. list_all is_digit ds ≡ true)
-    (λ n lt. rw (digit_is n lt) refl)
-    (λ n ds ge all.
-    list_all-append is_digit ds ((48 + n % 10) ∷ [])
-    ∙ ap (λ b. b && list_all is_digit ((48 + n % 10) ∷ [])) all
-    ∙ rw (digit_is (n % 10) (omega arith)) refl)
-    n h
-
-digit_continues : (d : ℕ) → is_digit d ≡ true → continues_name d ≡ true
-digit_continues d h = rw h (any_or (begins_name d) (nat_eq d 36))
-  where
-    any_or : (a c : Bool) → (a || true || c) ≡ true
-    any_or true c = refl
-    any_or false c = refl
-
-digits_continue : (ds : List ℕ) → list_all is_digit ds ≡ true → list_all continues_name ds ≡ true
-digits_continue [] h = refl
-digits_continue (d ∷ ds) h =
-    let parts = both (is_digit d) (list_all is_digit ds) h in
-    rw (digit_continues d parts.0, digits_continue ds parts.1) refl
 
 pub fifo_named : (n : ℕ) → n < 2 ^ 64 → is_name (fifo_name n) ≡ true
 fifo_named n h = rw (digits_continue (decimal n) (digits_are n h)) refl

@@ -1,14 +1,14 @@
 // The nets of the top module that are no ports.
 ghost use Rattle.std.specs.Prelude.{◌≡◌, ◌≤◌, ◌++◌, ◌*◌, ◌-◌, ◌+◌, length, replicate, IfOk, OnOk};
 ghost use Rattle.std.specs.List.{flat_map};
-ghost use Rattle.rtl_build.specs.Wires.{wire_name};
-ghost use Rattle.link_fifo.specs.Netlist.{wire, wires_from};
+ghost use Rattle.link_fifo.specs.Netlist.{wires_from};
 ghost use Rattle.project_rtl.specs.Tops.{stream_widths, block_widths, wire_widths};
 ghost use Rattle.project_design.specs.Nodes.{AreWithin};
 
 use crate::nodes::{PortNodes, width};
+use link_fifo::add_wires;
 use manager_links::Project;
-use mx_base::{List, NoMemory, Text};
+use mx_base::{List, NoMemory};
 use rtl_ir::Net;
 use std::alloc::Global;
 use stream_graph::{Kernel, NodeId};
@@ -66,29 +66,6 @@ fn widths_of(alloc: Global, project: &Project) -> Result<Vec<u8>, NoMemory>
     add_bits(&mut widths, project.kernels().len() - 1)?;
     add_bits(&mut widths, 2 * project.outputs().len())?;
     Ok(widths)
-}
-
-// The wire that is net number `number`.
-fn wire(alloc: Global, number: usize, width: u8) -> Result<Net, NoMemory>
-    ensures { IfOk result (λ net. net ≡ wire (wire_name number) width) }
-{
-    let name = format!(in alloc; "w{number}")?;
-    Ok(Net {
-        name: Text::from_vec(name.into_bytes()),
-        width,
-        reg: false,
-    })
-}
-
-// Adds wires of these widths, named by their numbers.
-fn add_wires(alloc: Global, nets: &mut List<Net>, widths: &[u8]) -> Result<(), NoMemory>
-    ensures { OnOk result (nets.new ≡ nets.old ++ wires_from (length nets.old) widths.now) }
-{
-    for width in widths {
-        let net = wire(alloc, nets.len(), *width)?;
-        nets.push(net)?;
-    }
-    Ok(())
 }
 
 /// Adds the blocks of the kernels and the wires of `done`.

@@ -8,6 +8,7 @@ use Rattle.std.proofs.lemmas.Option.{same_Some}
 use Rattle.rtl_ir.specs.declared.design.Module.{Module}
 use Rattle.rtl_ir.specs.Ports.{first_output}
 use Rattle.stream_equations.specs.Equations.{count_before}
+use Rattle.stream_graph.specs.PortKinds.{is_input, is_output}
 use Rattle.kernel_control.specs.Ports.{inputs_of, outputs_of}
 use Rattle.kernel_control.specs.Refines.{greatest_time, last_time}
 use Rattle.manager_links.specs.declared.links.Link.{Link}
@@ -16,7 +17,7 @@ use Rattle.manager_links.specs.declared.links.Links.{Links}
 use Rattle.manager_links.specs.declared.links.PortAt.{PortAt}
 use Rattle.manager_links.specs.declared.project.Project.{Project}
 use Rattle.manager_links.specs.Joined.{ends_of_link}
-use Rattle.manager_links.specs.Ports.{is_input, is_output, IsPort}
+use Rattle.manager_links.specs.Ports.{IsPort}
 use Rattle.manager_links.specs.Starts.{first_edge, time_of}
 use Rattle.project_streams.specs.declared.side.Side.TheVariants.{Dry, Full}
 use Rattle.project_streams.specs.Streams.{GivenProject, ProjectValues, nodes_at}

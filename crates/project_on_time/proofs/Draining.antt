@@ -5,6 +5,7 @@ use Rattle.std.specs.Option.{option_map_or}
 use Rattle.std.proofs.lemmas.Option.{same_Some}
 use Rattle.rtl_ir.specs.declared.design.Module.{Module}
 use Rattle.stream_graph.specs.declared.kernel.Kernel.{Kernel}
+use Rattle.stream_graph.specs.PortKinds.{is_output}
 use Rattle.kernel_control.specs.Ports.{PortChannel, inputs_of, outputs_of}
 use Rattle.kernel_control.specs.Ports as kernel_ports
 use Rattle.kernel_control.specs.Refines.{last_time}
@@ -13,7 +14,6 @@ use Rattle.manager_links.specs.declared.links.LinkEnds.{LinkEnds}
 use Rattle.manager_links.specs.declared.links.Links.{Links}
 use Rattle.manager_links.specs.declared.links.PortAt.{PortAt}
 use Rattle.manager_links.specs.declared.project.Project.{Project}
-use Rattle.manager_links.specs.Ports as project_ports
 use Rattle.manager_links.specs.Ports.{IsPort, node_of}
 use Rattle.manager_links.specs.Starts.{Starts}
 use Rattle.project_streams.specs.Streams.{GivenProject, ProjectValues, nodes_at}
@@ -34,7 +34,7 @@ module _ (project : Project) (times : ℕ → ℕ → ℕ) (made : Links) (inner
   abbrev fifo : Which project → Fifo
   fifo = fifo_of project made inners given values
 
-  drained_by : (here : PortAt) → IsPort project.kernels project_ports.is_output here → IsDrained ks fifo here.kernel (port_at project inners here)
+  drained_by : (here : PortAt) → IsPort project.kernels is_output here → IsDrained ks fifo here.kernel (port_at project inners here)
   drained_by here is =
       let links = map (λ (link : LinkEnds). link.from) project.joints.links in
       let hosts = map (λ (host : HostPort). host.port) project.joints.outputs in

@@ -11,12 +11,12 @@ use Rattle.rtl_ir.specs.Parts.{own_of}
 use Rattle.rtl_ir.specs.Run.{Channel, Outer, Event, moved, Driven}
 use Rattle.rtl_ir.specs.Ports.{first_output}
 use Rattle.stream_graph.specs.declared.kernel.Kernel.{Kernel}
+use Rattle.stream_graph.specs.PortKinds.{is_input, is_output}
 use Rattle.stream_equations.specs.Equations.{count_before}
 use Rattle.manager_links.specs.declared.links.Links.{Links}
 use Rattle.manager_links.specs.declared.project.Project.{Project}
 use Rattle.manager_links.specs.Joined.{ends_of_link}
 use Rattle.manager_links.specs.Links.{AreLinksOf}
-use Rattle.manager_links.specs.Ports.{is_input, is_output}
 use Rattle.manager_links.specs.Rules.{kernel_names}
 use Rattle.manager_links.specs.Starts.{Starts, time_of}
 use Rattle.project_streams.specs.Streams.{GivenProject, ProjectValues}

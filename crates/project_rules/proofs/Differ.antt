@@ -20,9 +20,10 @@ use Rattle.stream_graph.specs.declared.kernel.Kernel.{Kernel}
 use Rattle.stream_graph.specs.declared.node.Kind.{Kind}
 use Rattle.stream_graph.specs.declared.node.Kind.TheVariants as K
 use Rattle.stream_graph.specs.declared.node.Node.{Node}
+use Rattle.stream_graph.specs.PortKinds.{is_scalar}
 use Rattle.offset_edges.specs.Edges.{node_at, kind_at, no_node}
 use Rattle.kernel_calls.specs.Laws.{is_port_name}
-use Rattle.kernel_control.specs.Ports.{is_scalar, scalars_of}
+use Rattle.kernel_control.specs.Ports.{scalars_of}
 use Rattle.kernel_ports.proofs.Kernels.{role_of, named}
 use Rattle.link_fifo.specs.Netlist.{wires_from}
 use Rattle.manager_links.specs.declared.hosts.HostPort.{HostPort}
@@ -41,7 +42,8 @@ use Rattle.project_rules.proofs.Places.{number_is, first_place}
 use Rattle.project_rules.proofs.Nets.{scalar_ports_join}
 use Rattle.project_sizes.proofs.Limits.{few_wires as most_wires}
 use Rattle.project_rules.proofs.Queues.{module_of}
-use Rattle.project_rules.proofs.Spelled.{Continues, drop_continues, name_continues, digits_are, digits_continue, hold_spelled, ticks_spelled, scalar_spelled, in_spelled}
+use Rattle.rtl_delays.proofs.Spelled.{digits_are, digits_continue}
+use Rattle.project_rules.proofs.Spelled.{Continues, drop_continues, name_continues, hold_spelled, ticks_spelled, scalar_spelled, in_spelled}
 use Rattle.project_rules.proofs.Spelled.{out_spelled, fifo_in_spelled, fifo_out_spelled, fifo_link_spelled, kernel_spelled, wire_spelled, port_continues}
 use Rattle.project_rules.proofs.Names.{first_byte, other_byte, one_place, class_of, AreApart, none_apart, IsGood, more_apart, one_differs, HasNoDollar, last_dollar}
 use Rattle.project_rules.proofs.Names.{same_behind, port_no_dollar, IsOfThrice, at_first, at_second, at_third, of_thrice, of_joined}

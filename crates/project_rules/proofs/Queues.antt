@@ -12,7 +12,7 @@ use Rattle.rtl_build.specs.Wires.{is_output as is_taken_port}
 use Rattle.stream_graph.specs.declared.kernel.Kernel.{Kernel}
 use Rattle.stream_graph.specs.declared.node.Kind.{Kind}
 use Rattle.stream_graph.specs.declared.node.Node.{Node}
-use Rattle.kernel_control.specs.Ports as own
+use Rattle.stream_graph.specs.PortKinds.{is_input, is_output}
 use Rattle.kernel_control.specs.Ports.{inputs_of, outputs_of, module_ports}
 use Rattle.link_fifo.specs.Fifo.{fifo_ports}
 use Rattle.manager_links.specs.declared.hosts.HostPort.{HostPort}
@@ -20,7 +20,7 @@ use Rattle.manager_links.specs.declared.links.LinkEnds.{LinkEnds}
 use Rattle.manager_links.specs.declared.links.Links.{Links}
 use Rattle.manager_links.specs.declared.project.Project.{Project}
 use Rattle.manager_links.specs.Hosts.{HasType}
-use Rattle.manager_links.specs.Ports.{IsPort, node_of, is_input, is_output, type_of, is_among}
+use Rattle.manager_links.specs.Ports.{IsPort, node_of, type_of, is_among}
 use Rattle.manager_links.specs.Projects.{given}
 use Rattle.project_rtl.specs.Shapes.{shape_of}
 use Rattle.project_rtl.specs.Blocks.{streams_of, place_of, stream_net, first_net}
@@ -65,7 +65,7 @@ module _ (project : Project) where
   pub is_fed : (k : ℕ) (kernel : Kernel) (i n : ℕ) → slice_get project.kernels k ≡ Some kernel → slice_get (inputs_of kernel.nodes) i ≡ Some n
       → HasTap (feeding project) (record { kernel = k; node = n })
   is_fed k kernel i n e f =
-      let x = number_is own.is_input 0 kernel.nodes i n f in
+      let x = number_is is_input 0 kernel.nodes i n f in
       let y = x.is in
       let same : x.own ≡ n = omega (arith, y) in
       let port = is_port project.kernels is_input k n kernel x.of.node e (ap (λ j. slice_get kernel.nodes j) (sym same) ∙ x.of.is) x.of.kind in
@@ -75,7 +75,7 @@ module _ (project : Project) where
   pub is_drained : (k : ℕ) (kernel : Kernel) (i n : ℕ) → slice_get project.kernels k ≡ Some kernel → slice_get (outputs_of kernel.nodes) i ≡ Some n
       → HasTap (draining project) (record { kernel = k; node = n })
   is_drained k kernel i n e f =
-      let x = number_is own.is_output 0 kernel.nodes i n f in
+      let x = number_is is_output 0 kernel.nodes i n f in
       let y = x.is in
       let same : x.own ≡ n = omega (arith, y) in
       let port = is_port project.kernels is_output k n kernel x.of.node e (ap (λ j. slice_get kernel.nodes j) (sym same) ∙ x.of.is) x.of.kind in

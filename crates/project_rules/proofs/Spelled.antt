@@ -1,46 +1,20 @@
 -- The names of the top module are names.
-use Rattle.std.proofs.Common.{◌≡◌, ℕ, zero, suc, ◌+◌, ◌%◌, ◌<◌, ◌^◌, Bool, true, false, not, ◌&&◌, ◌||◌, List, [], ◌∷◌, ◌++◌, drop, refl, ap, ◌∙◌, arith}
+use Rattle.std.proofs.Common.{◌≡◌, ℕ, zero, suc, ◌+◌, ◌<◌, ◌^◌, Bool, true, false, not, ◌&&◌, ◌||◌, List, [], ◌∷◌, ◌++◌, drop, refl, ap, ◌∙◌, arith}
 use Rattle.std.specs.Prelude.{codes, nat_eq, bytes_eq}
 use Rattle.std.specs.List.{list_all}
 use Rattle.std.specs.Fmt.{decimal}
-use Rattle.std.proofs.lemmas.Fmt.{decimal_by_steps}
 use Rattle.std.proofs.lemmas.List.Folds.{list_all-append}
 use Rattle.std.proofs.lemmas.Bool.Decides.{nat_tests}
 use Rattle.std.proofs.lemmas.Bool.{false≢true}
 use Rattle.rtl_ir.specs.Names.{is_digit, begins_name, continues_name, is_name, is_reserved}
 use Rattle.rtl_build.specs.Wires.{wire_name}
+use Rattle.rtl_delays.proofs.Spelled.{digits_are, digits_continue}
 use Rattle.kernel_calls.specs.Laws.{is_port_name}
 use Rattle.kernel_ports.proofs.Spelled.{plain_from, kernel_named}
 
 pub and_true : (a b : Bool) → a && b ≡ true → (a ≡ true) × (b ≡ true)
 and_true true b h = (refl, h)
 and_true false b h = absurd (false≢true h)
-
-digit_is : (n : ℕ) → n < 10 → is_digit (48 + n) ≡ true
-digit_is n h = grind (arith, nat_tests)
-
-pub digits_are : (n : ℕ) → n < 2 ^ 64 → list_all is_digit (decimal n) ≡ true
-digits_are n h =
-    decimal_by_steps (λ n ds. list_all is_digit ds ≡ true)
-    (λ n lt. rw (digit_is n lt) refl)
-    (λ n ds ge all.
-    list_all-append is_digit ds ((48 + n % 10) ∷ [])
-    ∙ ap (λ b. b && list_all is_digit ((48 + n % 10) ∷ [])) all
-    ∙ rw (digit_is (n % 10) (omega arith)) refl)
-    n h
-
-digit_continues : (d : ℕ) → is_digit d ≡ true → continues_name d ≡ true
-digit_continues d h = rw h (any_or (begins_name d) (nat_eq d 36))
-  where
-    any_or : (a c : Bool) → (a || true || c) ≡ true
-    any_or true c = refl
-    any_or false c = refl
-
-pub digits_continue : (ds : List ℕ) → list_all is_digit ds ≡ true → list_all continues_name ds ≡ true
-digits_continue [] h = refl
-digits_continue (d ∷ ds) h =
-    let parts = and_true (is_digit d) (list_all is_digit ds) h in
-    rw (digit_continues d parts.0, digits_continue ds parts.1) refl
 
 -- digits are no letters
 no_ire : (ds : List ℕ) → list_all is_digit ds ≡ true → bytes_eq ds (codes "ire") ≡ false

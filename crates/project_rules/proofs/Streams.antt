@@ -7,14 +7,14 @@ use Rattle.fix_arith.specs.Types.{width_of}
 use Rattle.stream_graph.specs.declared.kernel.Kernel.{Kernel}
 use Rattle.stream_graph.specs.declared.node.Kind.{Kind}
 use Rattle.stream_graph.specs.declared.node.Node.{Node}
+use Rattle.stream_graph.specs.PortKinds.{is_input, is_output}
 use Rattle.offset_edges.specs.Edges.{width_at, no_node}
-use Rattle.kernel_control.specs.Ports as own
 use Rattle.kernel_control.specs.Ports.{inputs_of, outputs_of}
 use Rattle.manager_links.specs.declared.hosts.HostPort.{HostPort}
 use Rattle.manager_links.specs.declared.links.PortAt.{PortAt}
 use Rattle.manager_links.specs.declared.project.Project.{Project}
 use Rattle.manager_links.specs.Hosts.{HasType}
-use Rattle.manager_links.specs.Ports.{IsPort, type_of, is_input, is_output}
+use Rattle.manager_links.specs.Ports.{IsPort, type_of}
 use Rattle.project_streams.specs.Streams.{nodes_at}
 use Rattle.project_rtl.specs.Blocks.{streams_of, first_net, stream_net, place_of}
 use Rattle.project_rtl.specs.Projects.{port_width}
@@ -76,7 +76,7 @@ module _ (project : Project) where
       let n = has_node project.kernels is_input port h in
       let nodes = n.kernel.nodes in
       let z : 0 + port.node ≡ port.node = omega arith in
-      let p = place_in own.is_input 0 nodes port.node (record { node = n.of.node; is = n.of.is; kind = n.of.kind }) in
+      let p = place_in is_input 0 nodes port.node (record { node = n.of.node; is = n.of.is; kind = n.of.kind }) in
       let is : slice_get (inputs_of nodes) p.place ≡ Some port.node = p.is ∙ ap (λ j. Some j) z in
       record {
         kernel = n.kernel;
@@ -105,7 +105,7 @@ module _ (project : Project) where
       let n = has_node project.kernels is_output port h in
       let nodes = n.kernel.nodes in
       let z : 0 + port.node ≡ port.node = omega arith in
-      let p = place_in own.is_output 0 nodes port.node (record { node = n.of.node; is = n.of.is; kind = n.of.kind }) in
+      let p = place_in is_output 0 nodes port.node (record { node = n.of.node; is = n.of.is; kind = n.of.kind }) in
       let is : slice_get (outputs_of nodes) p.place ≡ Some port.node = p.is ∙ ap (λ j. Some j) z in
       record {
         kernel = n.kernel;

@@ -6,6 +6,7 @@ use Rattle.rtl_ir.specs.Rules.{ByPort}
 use Rattle.rtl_ir.specs.Ports.{PortView, host_input_ports, host_output_ports, input_port, output_port}
 use Rattle.stream_graph.specs.declared.kernel.Kernel.{Kernel}
 use Rattle.stream_graph.specs.declared.node.Node.{Node}
+use Rattle.stream_graph.specs.PortKinds.{is_input, is_output}
 use Rattle.offset_edges.specs.Edges.{width_at}
 use Rattle.kernel_control.specs.Ports as own
 use Rattle.kernel_control.specs.Ports.{inputs_of, outputs_of, scalars_of, port_shape, module_ports}
@@ -15,7 +16,7 @@ use Rattle.manager_links.specs.declared.links.LinkEnds.{LinkEnds}
 use Rattle.manager_links.specs.declared.links.PortAt.{PortAt}
 use Rattle.manager_links.specs.declared.project.Project.{Project}
 use Rattle.manager_links.specs.Lists.{AllDiffer}
-use Rattle.manager_links.specs.Ports.{IsPort, is_input, is_output}
+use Rattle.manager_links.specs.Ports.{IsPort}
 use Rattle.manager_links.specs.Projects.{fed, given}
 use Rattle.project_rtl.specs.Blocks.{stream_net, first_net, scalar_count, block_size, first_scalar_port}
 use Rattle.project_rtl.specs.Tops.{range, fifo_nets, kernel_nets, host_count}

@@ -4,6 +4,7 @@ use Rattle.std.specs.Prelude.{slice_get, slice_index_or, unwrap_or}
 use Rattle.std.specs.Option.{option_map_or}
 use Rattle.rtl_ir.specs.declared.design.Module.{Module}
 use Rattle.rtl_ir.specs.Ports.{first_input, first_output}
+use Rattle.stream_graph.specs.PortKinds.{is_input, is_output}
 use Rattle.kernel_control.specs.Ports.{PortChannel, inputs_of, outputs_of, channels_of, nets_of}
 use Rattle.kernel_control.specs.Ports as kernel_ports
 use Rattle.kernel_control.specs.Refines.{timed_run}
@@ -13,7 +14,7 @@ use Rattle.manager_links.specs.declared.links.LinkEnds.{LinkEnds}
 use Rattle.manager_links.specs.declared.links.Links.{Links}
 use Rattle.manager_links.specs.declared.links.PortAt.{PortAt}
 use Rattle.manager_links.specs.declared.project.Project.{Project}
-use Rattle.manager_links.specs.Ports.{is_input, is_output, IsPort}
+use Rattle.manager_links.specs.Ports.{IsPort}
 use Rattle.manager_links.specs.Projects.{fed, given}
 use Rattle.project_streams.specs.Streams.{GivenProject, ProjectValues, nodes_at, run_of, words_of, word_from, host_to, host_word}
 use Rattle.project_rtl.specs.Shapes.{shape_of, host_shape}

@@ -10,9 +10,9 @@ use Rattle.stream_graph.specs.declared.kernel.Kernel.{Kernel}
 use Rattle.stream_graph.specs.declared.node.Kind.{Kind}
 use Rattle.stream_graph.specs.declared.node.Kind.TheVariants as K
 use Rattle.stream_graph.specs.declared.node.Node.{Node}
-use Rattle.kernel_control.specs.Ports.{numbers_from, is_input, is_output, inputs_of, outputs_of}
+use Rattle.stream_graph.specs.PortKinds.{is_input, is_output}
+use Rattle.kernel_control.specs.Ports.{numbers_from, inputs_of, outputs_of}
 use Rattle.manager_links.specs.declared.links.PortAt.{PortAt}
-use Rattle.manager_links.specs.Ports as project_ports
 use Rattle.manager_links.specs.Ports.{IsPort, node_of}
 use Rattle.project_streams.specs.Streams.{nodes_at}
 use Rattle.project_rtl.specs.Blocks.{streams_of, place_of}
@@ -129,14 +129,6 @@ number_of_kind is_kind k (x ∷ nodes) (suc j) node e kind =
 
 -- ---- the two kinds of ports
 
-pub same_input : (kind : Kind) → project_ports.is_input kind ≡ is_input kind
-same_input K.Input = refl
-same_input _ = refl
-
-pub same_output : (kind : Kind) → project_ports.is_output kind ≡ is_output kind
-same_output K.Output = refl
-same_output _ = refl
-
 not_both : (kind : Kind) → is_input kind ≡ true → is_output kind ≡ true → ⊥
 not_both K.Input i o = false≢true o
 not_both K.Output i o = false≢true i
@@ -215,43 +207,43 @@ output_placed nodes n i e =
           omega arith
     ]
 
-pub input_port : (kernels : List Kernel) (port : PortAt) → IsPort kernels project_ports.is_input port
+pub input_port : (kernels : List Kernel) (port : PortAt) → IsPort kernels is_input port
     → IsPlaced (nodes_at kernels port.kernel) (inputs_of (nodes_at kernels port.kernel)) 0 port.node
 input_port kernels port h =
     let nodes = nodes_at kernels port.kernel in
-    let n = node_of_port kernels project_ports.is_input port h in
-    let k = number_of_kind is_input 0 nodes port.node n.node n.at (sym (same_input n.node.view.kind) ∙ n.kind) in
+    let n = node_of_port kernels is_input port h in
+    let k = number_of_kind is_input 0 nodes port.node n.node n.at n.kind in
     let z : 0 + port.node ≡ port.node = omega arith in
     let at : slice_get (inputs_of nodes) k.place ≡ Some port.node = k.at ∙ ap (λ (j : ℕ). Some j) z in
     let p = input_placed nodes port.node k.place at in
     record { place = k.place; at = at; is = omega arith }
 
-pub output_port : (kernels : List Kernel) (port : PortAt) → IsPort kernels project_ports.is_output port
+pub output_port : (kernels : List Kernel) (port : PortAt) → IsPort kernels is_output port
     → IsPlaced (nodes_at kernels port.kernel) (outputs_of (nodes_at kernels port.kernel)) (length (inputs_of (nodes_at kernels port.kernel))) port.node
 output_port kernels port h =
     let nodes = nodes_at kernels port.kernel in
-    let n = node_of_port kernels project_ports.is_output port h in
-    let k = number_of_kind is_output 0 nodes port.node n.node n.at (sym (same_output n.node.view.kind) ∙ n.kind) in
+    let n = node_of_port kernels is_output port h in
+    let k = number_of_kind is_output 0 nodes port.node n.node n.at n.kind in
     let z : 0 + port.node ≡ port.node = omega arith in
     let at : slice_get (outputs_of nodes) k.place ≡ Some port.node = k.at ∙ ap (λ (j : ℕ). Some j) z in
     record { place = k.place; at = at; is = output_placed nodes port.node k.place at }
 
--- a node of a kind is a port of the project, where that is a kind of ports
-port_of_kind : (kernels : List Kernel) (of_project is_kind : Kind → Bool) (k i n : ℕ) → ((kind : Kind) → of_project kind ≡ is_kind kind)
-    → slice_get (numbers_from is_kind 0 (nodes_at kernels k)) i ≡ Some n → IsPort kernels of_project (record { kernel = k; node = n })
-port_of_kind kernels of_project is_kind k i n same e =
+-- a node of a kind is a port of that kind
+port_of_kind : (kernels : List Kernel) (is_kind : Kind → Bool) (k i n : ℕ)
+    → slice_get (numbers_from is_kind 0 (nodes_at kernels k)) i ≡ Some n → IsPort kernels is_kind (record { kernel = k; node = n })
+port_of_kind kernels is_kind k i n e =
     let h = kind_of_number is_kind 0 (nodes_at kernels k) i n e in
     let z : n - 0 ≡ n = omega arith in
     let at : node_of kernels (record { kernel = k; node = n }) ≡ Some h.node =
     node_here kernels (record { kernel = k; node = n }) ∙ ap (λ j. slice_get (nodes_at kernels k) j) (sym z) ∙ h.at in
-    subst (λ (o : Option Node). IsSomeAnd o (λ (node : Node). of_project node.view.kind ≡ true)) (sym at) (same h.node.view.kind ∙ h.kind)
+    subst (λ (o : Option Node). IsSomeAnd o (λ (node : Node). is_kind node.view.kind ≡ true)) (sym at) h.kind
 
 -- an input of a kernel is one of the project
 pub input_is_port : (kernels : List Kernel) (k i n : ℕ) → slice_get (inputs_of (nodes_at kernels k)) i ≡ Some n
-    → IsPort kernels project_ports.is_input (record { kernel = k; node = n })
-input_is_port kernels k i n e = port_of_kind kernels project_ports.is_input is_input k i n same_input e
+    → IsPort kernels is_input (record { kernel = k; node = n })
+input_is_port kernels k i n e = port_of_kind kernels is_input k i n e
 
 -- and so is an output
 pub output_is_port : (kernels : List Kernel) (k i n : ℕ) → slice_get (outputs_of (nodes_at kernels k)) i ≡ Some n
-    → IsPort kernels project_ports.is_output (record { kernel = k; node = n })
-output_is_port kernels k i n e = port_of_kind kernels project_ports.is_output is_output k i n same_output e
+    → IsPort kernels is_output (record { kernel = k; node = n })
+output_is_port kernels k i n e = port_of_kind kernels is_output k i n e

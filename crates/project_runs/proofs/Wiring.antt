@@ -10,13 +10,14 @@ use Rattle.rtl_ir.specs.Parts.{JoinedAll}
 use Rattle.rtl_ir.specs.Run.{Channel}
 use Rattle.rtl_ir.specs.Ports.{net_at}
 use Rattle.stream_graph.specs.declared.node.Node.{Node}
+use Rattle.stream_graph.specs.PortKinds.{is_input, is_output}
 use Rattle.kernel_control.specs.Ports.{inputs_of, outputs_of, scalars_of}
 use Rattle.kernel_control.specs.Ports as kernel_ports
 use Rattle.link_fifo.specs.Netlist.{input, output}
 use Rattle.manager_links.specs.declared.links.Links.{Links}
 use Rattle.manager_links.specs.declared.links.PortAt.{PortAt}
 use Rattle.manager_links.specs.declared.project.Project.{Project}
-use Rattle.manager_links.specs.Ports.{is_input, is_output, IsPort}
+use Rattle.manager_links.specs.Ports.{IsPort}
 use Rattle.project_streams.specs.Streams.{GivenProject, ProjectValues, nodes_at}
 use Rattle.project_rtl.specs.Shapes.{port_count, host_shape}
 use Rattle.project_rtl.specs.Blocks.{streams_of, place_of, first_net, stream_net, first_scalar_port}

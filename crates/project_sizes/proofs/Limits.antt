@@ -15,14 +15,14 @@ use Rattle.std.proofs.lemmas.Map.Steps.{length-le_from_distinct_below}
 use Rattle.stream_graph.specs.declared.kernel.Kernel.{Kernel}
 use Rattle.stream_graph.specs.declared.node.Kind.{Kind}
 use Rattle.stream_graph.specs.declared.node.Node.{Node}
-use Rattle.kernel_control.specs.Ports.{is_input, is_output, is_scalar, numbers_from, inputs_of, outputs_of}
+use Rattle.stream_graph.specs.PortKinds.{is_input, is_output, is_scalar}
+use Rattle.kernel_control.specs.Ports.{numbers_from, inputs_of, outputs_of}
 use Rattle.manager_links.specs.declared.hosts.HostPort.{HostPort}
 use Rattle.manager_links.specs.declared.links.LinkEnds.{LinkEnds}
 use Rattle.manager_links.specs.declared.links.PortAt.{PortAt}
 use Rattle.manager_links.specs.declared.project.Project.{Project}
 use Rattle.manager_links.specs.Lists.{AllDiffer}
 use Rattle.manager_links.specs.Ports.{IsPort}
-use Rattle.manager_links.specs.Ports as joined_ports
 use Rattle.manager_links.specs.Projects.{fed, given}
 use Rattle.manager_links.proofs.Pieces.{in_more, differ_head, differ_tail}
 use Rattle.project_rtl.specs.Shapes.{port_count}
@@ -142,7 +142,7 @@ module _ (project : Project) where
   all_fed : length project.joints.links + length project.joints.inputs ≤ 2 ^ 18
   all_fed =
       let joints = project.joints in
-      let few = few_ports project joined_ports.is_input (fed joints) project.whole.feeds.each project.whole.feeds.once in
+      let few = few_ports project is_input (fed joints) project.whole.feeds.each project.whole.feeds.once in
       let both = length-append (map (λ (link : LinkEnds). link.to) joints.links) (map (λ (host : HostPort). host.port) joints.inputs) in
       let a = length-map joints.links (λ (link : LinkEnds). link.to) in
       let b = length-map joints.inputs (λ (host : HostPort). host.port) in
@@ -151,7 +151,7 @@ module _ (project : Project) where
   all_given : length project.joints.links + length project.joints.outputs ≤ 2 ^ 18
   all_given =
       let joints = project.joints in
-      let few = few_ports project joined_ports.is_output (given joints) project.whole.gives.each project.whole.gives.once in
+      let few = few_ports project is_output (given joints) project.whole.gives.each project.whole.gives.once in
       let both = length-append (map (λ (link : LinkEnds). link.from) joints.links) (map (λ (host : HostPort). host.port) joints.outputs) in
       let a = length-map joints.links (λ (link : LinkEnds). link.from) in
       let b = length-map joints.outputs (λ (host : HostPort). host.port) in

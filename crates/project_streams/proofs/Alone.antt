@@ -6,12 +6,12 @@ use Rattle.std.proofs.lemmas.List.{length-map}
 use Rattle.std.proofs.lemmas.Option.{slice_get_within}
 use Rattle.kernel_meaning.specs.declared.plan.Join.{Join}
 use Rattle.stream_graph.specs.declared.kernel.Kernel.{Kernel}
+use Rattle.stream_graph.specs.PortKinds.{is_input, is_output}
 use Rattle.manager_links.specs.declared.links.LinkEnds.{LinkEnds}
 use Rattle.manager_links.specs.declared.links.Links.{Links}
 use Rattle.manager_links.specs.declared.project.Project.{Project}
 use Rattle.manager_links.specs.Joined.{IsLinkOf, is_link, ends_of_link}
 use Rattle.manager_links.specs.Links.{AreLinksOf}
-use Rattle.manager_links.specs.Ports.{is_input, is_output}
 use Rattle.project_streams.proofs.Ports.{node_is}
 
 same_length : (kernels : List Kernel) (joins : List Join) (links : List LinkEnds)

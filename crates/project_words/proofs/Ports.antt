@@ -7,12 +7,13 @@ use Rattle.std.proofs.lemmas.Option.{slice_get_within, slice_get_read, get_or_fr
 use Rattle.stream_graph.specs.declared.kernel.Kernel.{Kernel}
 use Rattle.stream_graph.specs.declared.node.Kind.{Kind}
 use Rattle.stream_graph.specs.declared.node.Node.{Node}
+use Rattle.stream_graph.specs.PortKinds.{is_input, is_output}
 use Rattle.offset_edges.specs.Edges.{node_at, no_node}
 use Rattle.manager_links.specs.declared.hosts.HostPort.{HostPort}
 use Rattle.manager_links.specs.declared.links.LinkEnds.{LinkEnds}
 use Rattle.manager_links.specs.declared.links.PortAt.{PortAt}
 use Rattle.manager_links.specs.declared.project.Project.{Project}
-use Rattle.manager_links.specs.Ports.{IsPort, is_input, is_output, type_of}
+use Rattle.manager_links.specs.Ports.{IsPort, type_of}
 use Rattle.project_streams.specs.Streams.{nodes_at}
 
 -- what holds of all holds at each place

@@ -21,7 +21,7 @@ both false b h = absurd (cc)
 digit_is : (n : ℕ) → n < 10 → is_digit (48 + n) ≡ true
 digit_is n h = grind (arith, nat_tests)
 
-digits_are : (n : ℕ) → n < 2 ^ 64 → list_all is_digit (decimal n) ≡ true
+pub digits_are : (n : ℕ) → n < 2 ^ 64 → list_all is_digit (decimal n) ≡ true
 digits_are n h =
     decimal_by_steps (λ n ds. list_all is_digit ds ≡ true)
     (λ n lt. rw (digit_is n lt) refl)
@@ -35,7 +35,7 @@ digit_continues d h = rw h (any_or (begins_name d) (nat_eq d 36))
     any_or true c = refl
     any_or false c = refl
 
-digits_continue : (ds : List ℕ) → list_all is_digit ds ≡ true → list_all continues_name ds ≡ true
+pub digits_continue : (ds : List ℕ) → list_all is_digit ds ≡ true → list_all continues_name ds ≡ true
 digits_continue [] h = refl
 digits_continue (d ∷ ds) h =
     let parts = both (is_digit d) (list_all is_digit ds) h in

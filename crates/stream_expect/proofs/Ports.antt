@@ -6,6 +6,7 @@ use Rattle.std.proofs.lemmas.List.{get_or-map, length-map, drop_at}
 use Rattle.std.proofs.lemmas.List.Elements.{All-drop}
 use Rattle.stream_graph.specs.declared.kernel.Kernel.{Kernel}
 use Rattle.stream_graph.specs.declared.node.Node.{Node}
+use Rattle.stream_graph.specs.PortKinds.{is_output}
 use Rattle.manager_links.specs.declared.hosts.HostPort.{HostPort}
 use Rattle.manager_links.specs.declared.links.Link.{Link}
 use Rattle.manager_links.specs.declared.links.LinkEnds.{LinkEnds}
@@ -14,7 +15,7 @@ use Rattle.manager_links.specs.declared.links.PortAt.{PortAt}
 use Rattle.manager_links.specs.declared.project.Project.{Project}
 use Rattle.manager_links.specs.Joined.{ends_of_link}
 use Rattle.manager_links.specs.Links.{AreLinksOf}
-use Rattle.manager_links.specs.Ports.{IsPort, is_output, node_of}
+use Rattle.manager_links.specs.Ports.{IsPort, node_of}
 use Rattle.manager_links.proofs.Pieces.{some_within}
 use Rattle.project_streams.specs.Streams.{nodes_at}
 use Rattle.project_words.proofs.Ports.{IsLink, IsThere, there, all_links}

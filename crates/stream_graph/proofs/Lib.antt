@@ -1,9 +1,10 @@
+pub mod NamesDiffer
 pub mod Steps
 mod Adding
 mod Behind
 pub mod CallerLemmas
 mod Constants
-mod Facts
+pub mod Facts
 mod Faulty
 mod Finishing
 mod Growing

@@ -6,6 +6,7 @@ pub mod Lines
 pub mod Met
 pub mod Nodes
 pub mod Parts
+pub mod PortKinds
 pub mod Ports
 pub mod Received
 pub mod Steps

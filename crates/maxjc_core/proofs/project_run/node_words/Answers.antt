@@ -1,7 +1,8 @@
 -- The words of the nodes of a kernel.
 use Rattle.std.proofs.Common.{◌≡◌, ◌∙◌, ◌<◌, true, false, ◌+◌, ◌-◌, ◌∷◌, [], length, map, take, drop, get_or, ap, sym, arith, length-append}
 use Rattle.std.specs.Prelude.{slice_index}
-use Rattle.kernel_control.specs.Ports.{is_scalar, scalars_of}
+use Rattle.stream_graph.specs.PortKinds.{is_scalar}
+use Rattle.kernel_control.specs.Ports.{scalars_of}
 use Rattle.offset_edges.specs.Edges.{kind_at}
 use Rattle.maxjc_core.proofs.NodeWords.{kind_read, no-scalar, counted, passed, has-word, words-passed, word-taken}
 use Rattle.maxjc_core.proofs.project_run.node_words.Goals as goal
