@@ -1,3 +1,4 @@
+pub mod Below
 mod Answered
 mod Bits
 mod Regular

@@ -7,9 +7,11 @@
 mod digits;
 mod laws;
 mod making;
+mod places;
 mod stepping;
 
 pub use digits::{CounterDigit, CounterError};
 pub use laws::chains_by_ticks;
 pub use making::{digit, simple};
+pub use places::bits_below;
 pub use stepping::step;

@@ -11,10 +11,10 @@ ghost use Rattle.kernel_eval.specs.Building.{Plans, IsAnswer};
 ghost use Rattle.kernel_eval.specs.Runs.{run_in, run_with};
 
 use crate::beginning::begin;
+use kernel_calls::is_port_name;
 use kernel_machine::Event;
 use kernel_meaning::{EvalError, Made, Plan};
 use kernel_plans::{Class as RunClass, KernelClasses, Library, branch_at};
-use kernel_rows::is_port_name;
 use maxj_syntax::{Class, NodeId, Program, SyntaxTree};
 use mx_base::{List, Text};
 use std::alloc::Global;

@@ -7,9 +7,9 @@ ghost use Rattle.fix_arith.specs.Types.{HasWidth};
 ghost use Rattle.kernel_eval.specs.Runs.{IsTyped};
 
 use fix_arith::StreamType;
+use kernel_calls::is_port_name;
 use kernel_eval::{BuildError, build_kernel, line_of};
 use kernel_meaning::Arg;
-use kernel_rows::is_port_name;
 use maxj_syntax::{Program, parse};
 use mx_base::{NoMemory, Text};
 use std::alloc::Global;

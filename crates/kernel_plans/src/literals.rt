@@ -1,14 +1,14 @@
 // The values of literals.
-ghost use Rattle.std.specs.Prelude.{◌≡◌, ◌≤◌, ◌<◌, ◌^◌, length, drop, position, true, false, IfSome, IfNone, IsTrue};
-ghost use Rattle.std.specs.List.{list_any, list_all, before_first, after_first};
+ghost use Rattle.std.specs.Prelude.{◌≡◌, ◌≤◌, ◌<◌, ◌^◌, length, position};
+ghost use Rattle.std.specs.List.{list_any, before_first, after_first};
 ghost use Rattle.grammar.specs.Bytes as numerals;
-ghost use Rattle.maxj_tokens.specs.Tokens.{is_suffix, is_dot, is_hex_integer};
+ghost use Rattle.maxj_tokens.specs.Tokens.{is_suffix, is_dot};
 ghost use Rattle.maxj_tokens.specs.Faults as faults;
 ghost use Rattle.kernel_meaning.specs.Values as Values;
 ghost use Rattle.kernel_rows.specs.Fit.{IsFit};
 
 use kernel_meaning::Value;
-use text_scan::{ByteClass, is_digit, is_in};
+use maxj_tokens::{digit_value, hex_digits, without_suffix};
 
 // The base of decimal digits, and that of hexadecimal ones.
 const TEN: u128 = 10;
@@ -94,41 +94,6 @@ fn has_suffix(word: &[u8]) -> bool
     word.iter().any(|byte| *byte == b'L' || *byte == b'l')
 }
 
-// The place of the `L` of an integer.
-fn suffix_place(word: &[u8]) -> Option<usize>
-    ensures { result ≡ position is_suffix word.now }
-{
-    word.iter().position(|byte| *byte == b'L' || *byte == b'l')
-}
-
-// The integer without its `L`.
-fn without_suffix(word: &[u8]) -> &[u8]
-    ensures { result.now ≡ before_first is_suffix word.now }
-{
-    match suffix_place(word) {
-        Some(end) => &word[..end],
-        None => word,
-    }
-}
-
-// The digits behind `0x`, where the integer is hexadecimal.
-fn hex_digits(integer: &[u8]) -> Option<&[u8]>
-    ensures some { IfSome result (λ digits.
-        (is_hex_integer integer.now ≡ true) × (digits.now ≡ drop 2 integer.now)) }
-    ensures none { IfNone result (is_hex_integer integer.now ≡ false) }
-{
-    match integer {
-        [b'0', b'x', digits @ ..] if !digits.is_empty() && are_hex(digits) => Some(digits),
-        _ => None,
-    }
-}
-
-fn are_hex(digits: &[u8]) -> bool
-    ensures { result ≡ list_all numerals.is_hex digits.now }
-{
-    digits.iter().all(|digit| is_in(ByteClass::Hex, *digit))
-}
-
 // The number that an integer says.
 fn integer_value(word: &[u8]) -> u128
     requires { faults.integer_value word.now < 2 ^ 128 }
@@ -152,16 +117,4 @@ fn digits_value(base: u128, before: u128, digits: &[u8]) -> u128
         value = value * base + u128::from(digit_value(*digit));
     }
     value
-}
-
-fn digit_value(digit: u8) -> u8
-    ensures { result ≡ numerals.hex_value digit }
-{
-    if is_digit(digit) {
-        digit - b'0'
-    } else if b'A' <= digit && digit <= b'F' {
-        digit - (b'A' - 10)
-    } else {
-        digit.saturating_sub(b'a' - 10)
-    }
 }

@@ -5,10 +5,9 @@ ghost use Rattle.kernel_meaning.specs.Outcomes as Outcomes;
 ghost use Rattle.kernel_rows.specs.Given.{IsDone};
 
 use crate::done::Done;
-use crate::names::is_port_name;
 use crate::streams::is_bit;
 use fix_arith::{StreamType, TypeError};
-use kernel_calls::Call;
+use kernel_calls::{Call, is_port_name};
 use kernel_meaning::{EvalError, State, Value};
 use std::alloc::Global;
 

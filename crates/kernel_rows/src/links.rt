@@ -5,7 +5,7 @@ ghost use Rattle.kernel_meaning.specs.declared.state.State.{State};
 ghost use Rattle.kernel_rows.specs.Given.{IsGiven};
 
 use crate::copying::copy_end;
-use crate::names::is_port_name;
+use kernel_calls::is_port_name;
 use kernel_meaning::{End, EvalError, Join, Side, State, Value};
 use std::alloc::Global;
 

@@ -6,10 +6,9 @@ ghost use Rattle.kernel_rows.specs.Given.{IsDone};
 
 use crate::done::Done;
 use crate::library::stream_made;
-use crate::names::is_port_name;
 use crate::streams::{is_bit, is_same};
 use fix_arith::{StreamType, TypeError};
-use kernel_calls::Call;
+use kernel_calls::{Call, is_port_name};
 use kernel_meaning::{EvalError, State, Value};
 use mx_base::Text;
 use std::alloc::Global;

@@ -82,7 +82,7 @@ use Rattle.kernel_refinement.specs.Built.{
   IsBuilt,
 }
 use Rattle.kernel_refinement.proofs.Parting.{parts_count}
-use Rattle.kernel_states.specs.Digits.{counts, IsCounting, IsAlone, IsPartOf}
+use Rattle.kernel_types.specs.Types.{counts, AreCounting}
 use Rattle.kernel_states.specs.States.{has_state, state_at, AreStates}
 use Rattle.kernel_states.specs.Closing.{AreCounters, AreKeepers}
 use Rattle.kernel_wiring.specs.declared.timing.Timing.{Timing}
@@ -148,12 +148,6 @@ first_tap m nodes ticks times run reset l v (o ∷ os) (t ∷ ts) tap h e =
 
 -- ---- the module
 
--- what is known of the counters of a kernel
-pub record AreSound (nodes : List Node) : Type 0 where
-  pub counting : (n : ℕ) → n < length nodes → counts (kind_at nodes n) ≡ true → IsCounting nodes n
-  pub alone : (n : ℕ) → n < length nodes → kind_at nodes n ≡ K.Counter → IsAlone nodes n
-  pub parts : (n place : ℕ) → n < length nodes → kind_at nodes n ≡ K.Part place → IsPartOf nodes n place
-
 -- the word of a counter of a chain stands in its own bits
 abbrev pub HavePlaces : Type 0
 HavePlaces =
@@ -167,7 +161,7 @@ pub record IsWhole (l m n : Module) (nodes : List Node) (ticks : ℕ → ℕ) (t
   where
     pub most : (v : ℕ) → v < length nodes → times v ≤ℤ pos (2 ^ 46)
     pub chains : (v : ℕ) → v < length nodes → kind_at nodes v ≡ K.Chain → ticks v ≡ 0
-    pub digits : AreSound nodes
+    pub digits : AreCounting nodes
     pub places : HavePlaces
     pub kept : IsKept n nodes ticks times layout storage.delays words rank run.net ports.reset.net
     pub empty : l.updates ≡ []

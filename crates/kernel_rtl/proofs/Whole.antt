@@ -88,7 +88,8 @@ use Rattle.kernel_rtl.specs.Words.{late_signals, data_nets, AddsWords}
 use Rattle.kernel_rtl.specs.Handshakes.{enable_at, input_handshake, output_handshake, handshakes_of, control_nets, AddsControl}
 use Rattle.kernel_rtl.proofs.Numbers.{all_mapped, all_weaker, IsNodeOf}
 use Rattle.kernel_rtl.proofs.Taps.{standing, IsKept}
-use Rattle.kernel_rtl.proofs.Running.{AreSound, HavePlaces, IsWhole, is_built}
+use Rattle.kernel_types.specs.Types.{AreCounting}
+use Rattle.kernel_rtl.proofs.Running.{HavePlaces, IsWhole, is_built}
 use Rattle.kernel_rtl.proofs.Finishing.{none_by_stored, all_written, all_driven, told_inputs, told_outputs, data_driven, accepted}
 use Rattle.kernel_rtl.proofs.PortNames.{has_port_names}
 use Rattle.kernel_rtl.proofs.Joining.{nodes_by, inputs_at, outputs_at, input_nodes, output_nodes, input_kinds, output_kinds}
@@ -194,7 +195,7 @@ delays_on m n run reset words delays e sound h stages are u i lu li =
 
 module _ (kernel : Kernel) (layout : Layout) (times : List ℤ) (a b c d e f : Module) (ports : KernelSignals) (storage : Storage) (timing : Timing)
     (words : List Signal) (enables : List (Option Signal)) (run : Signal)
-    (planned : IsPlanned kernel.nodes (numbers_of times) layout) (orderly : IsOrderly kernel.nodes) (digits : AreSound kernel.nodes) (places : HavePlaces)
+    (planned : IsPlanned kernel.nodes (numbers_of times) layout) (orderly : IsOrderly kernel.nodes) (digits : AreCounting kernel.nodes) (places : HavePlaces)
     (p : HasKernelPorts kernel a ports) (s : AddsStorage a b kernel.nodes layout.stages storage)
     (position : timing.position ≡ storage.position) (counted : timing.ticks ≡ ports.ticks)
     (timed : (v : ℕ) → v < length kernel.nodes → time_at timing v ≡ times_of times v)

@@ -57,7 +57,7 @@ use Rattle.kernel_ports.specs.declared.signals.KernelSignals.{KernelSignals}
 use Rattle.kernel_ports.specs.HasKernelPorts.{IsScalarPort, IsInputPort, IsOutputPort}
 use Rattle.kernel_stages.specs.Chains.{joined, chain_at, AreChains, AreWide}
 use Rattle.kernel_stages.proofs.Chaining.{chains_length}
-use Rattle.kernel_states.specs.Digits.{counts}
+use Rattle.kernel_types.specs.Types.{counts}
 use Rattle.kernel_states.specs.States.{has_state, state_at, IsState, IsStateRegister, AreStates}
 use Rattle.kernel_wiring.specs.declared.timing.Timing.{Timing}
 use Rattle.kernel_wiring.specs.Words.{has_word, is_wired, is_given, signal_at, reads_at, taps_at, control_at, IsWordOf, AreGiven, AreLate, IsLaidOut, IsReadIn}

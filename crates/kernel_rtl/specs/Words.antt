@@ -37,7 +37,7 @@ use Rattle.kernel_ports.specs.declared.signals.NodeSignal.{NodeSignal}
 use Rattle.kernel_ports.specs.declared.signals.StreamSignals.{StreamSignals}
 use Rattle.kernel_ports.specs.declared.signals.KernelSignals.{KernelSignals}
 use Rattle.kernel_ports.specs.HasKernelPorts.{IsScalarPort, IsInputPort, IsOutputPort}
-use Rattle.kernel_states.specs.Digits.{counts}
+use Rattle.kernel_types.specs.Types.{counts}
 use Rattle.kernel_states.specs.States.{state_at}
 use Rattle.kernel_wiring.specs.declared.timing.Timing.{Timing}
 use Rattle.kernel_wiring.specs.Words.{has_word, signal_at, taps_at, control_at, IsWordOf}

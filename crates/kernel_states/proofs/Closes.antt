@@ -19,7 +19,7 @@ use Rattle.offset_edges.specs.Edges.{kind_at}
 use Rattle.stream_equations.specs.Equations.{digits_at}
 use Rattle.kernel_refinement.specs.States.{IsStepping}
 use Rattle.kernel_states.specs.declared.registers.AdvanceNets.{AdvanceNets}
-use Rattle.kernel_states.specs.Digits.{counts}
+use Rattle.kernel_types.specs.Types.{counts}
 use Rattle.kernel_states.specs.Stepping.{state_after}
 use Rattle.kernel_states.specs.States.{has_state, is_state_of, AreFree, IsUnwritten}
 use Rattle.kernel_states.specs.Closing.{AreAdvanceNets, HaveWords, IsClearable, ClosesRegister, LeavesOthers, ClosesState}

@@ -1,8 +1,6 @@
 pub mod Afterwards
-pub mod Called
 pub mod Closes
 pub mod Costs
-pub mod Digital
 pub mod Freeing
 pub mod Kernels
 pub mod Suffixes

@@ -35,7 +35,7 @@ use Rattle.stream_equations.specs.Equations.{digits_at}
 use Rattle.kernel_control.specs.Nets.{HasWidth}
 use Rattle.kernel_refinement.specs.States.{IsCounter, IsKeeper, IsPosition, IsStepping}
 use Rattle.kernel_states.specs.declared.registers.AdvanceNets.{AdvanceNets}
-use Rattle.kernel_states.specs.Digits.{counts}
+use Rattle.kernel_types.specs.Types.{counts}
 use Rattle.kernel_states.specs.Stepping.{state_after}
 use Rattle.kernel_states.specs.States.{has_state, step_nets, state_at, is_state_of}
 

@@ -11,7 +11,8 @@ use Rattle.kernel_calls.specs.declared.call.Call.TheVariants as C
 use Rattle.kernel_calls.specs.Calls.{count_of, bits_in, Makes}
 use Rattle.stream_graph.specs.Nodes.{digits_to, place_of}
 use Rattle.stream_graph.specs.Steps.{WereLawful}
-use Rattle.offset_edges.proofs.CallLemmas.{makes_cases, makes_older, made_below}
+use Rattle.stream_graph.proofs.Facts.{makes_older}
+use Rattle.offset_edges.proofs.CallLemmas.{makes_cases, made_below}
 
 -- ---- the digits of a chain
 

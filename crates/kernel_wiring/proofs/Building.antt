@@ -36,7 +36,7 @@ use Rattle.counter_chains.specs.declared.digits.CounterDigit.{CounterDigit}
 use Rattle.counter_chains.specs.Chains.{bits_below}
 use Rattle.fix_arith.specs.declared.types.StreamType.{StreamType}
 use Rattle.fix_arith.specs.declared.types.RoundMode.{RoundMode}
-use Rattle.fix_arith.specs.Types.{HasWidth}
+use Rattle.fix_arith.specs.Types.{HasWidth, width_of as type_width}
 use Rattle.rtl_ir.specs.declared.design.Module.{Module}
 use Rattle.rtl_ir.specs.Value.{Family, Contents, width_of}
 use Rattle.rtl_ir.specs.Grow.{Holds}
@@ -50,7 +50,7 @@ use Rattle.stream_graph.specs.declared.node.Kind.TheVariants as K
 use Rattle.stream_graph.specs.declared.node.Node.{Node}
 use Rattle.offset_edges.specs.Edges.{kind_at, operands_at, operand_at, width_at}
 use Rattle.stream_equations.specs.Equations.{type_at, digits_at}
-use Rattle.kernel_states.specs.Digits.{IsPartOf}
+use Rattle.kernel_types.specs.Types.{IsPartOf}
 use Rattle.offset_edges.proofs.NodeLemmas.{IsOrderly}
 use Rattle.kernel_layout.specs.declared.layout.Layout.{Layout}
 use Rattle.kernel_layout.specs.declared.reads.Read.{Read}
@@ -61,7 +61,7 @@ use Rattle.kernel_wiring.specs.States.{MakesHeld}
 use Rattle.kernel_wiring.specs.Words.{is_wired, signal_at, read_signal, read_net, reads_at, taps_at, IsWordOf}
 use Rattle.kernel_wiring.specs.OneNode.{IsWired, takes, IsReadable, AddsWord}
 use Rattle.kernel_wiring.proofs.Mapped.{slice_map, length_map}
-use Rattle.kernel_wiring.proofs.Typing.{is_like, AreTyped}
+use Rattle.kernel_types.specs.Types.{is_like, AreTyped}
 
 -- the kinds whose word is their first operand's
 abbrev pub is_copy : Kind → Bool
@@ -239,7 +239,7 @@ module _ (nodes : List Node) (layout : Layout) (late : List (List Signal)) (word
         adds = adds_none m (1 + 15 * length (operands_at nodes n));
         some = sym (copy_wired (kind_at nodes n) e);
         shows = (
-          subst (λ x. IsWordOf m nodes n x) (sym is) (record { signal = one.signal; bits = one.bits ∙ first.width }),
+          subst (λ x. IsWordOf m nodes n x) (sym is) (record { signal = one.signal; bits = one.bits ∙ ap type_width first.same }),
           copy_is m (taps_at layout late words n) (signal_at words n).net s.net (kind_at nodes n) e (tap_of 0 s (copy_reads m t h r e) is),
         );
       }
@@ -302,7 +302,7 @@ module _ (nodes : List Node) (layout : Layout) (late : List (List Signal)) (word
         shows = (
           record {
             signal = own.wide.signal;
-            bits = own.wide.width ∙ ap (λ (x : Signal). x.width) reads.first ∙ one.bits ∙ first.width;
+            bits = own.wide.width ∙ ap (λ (x : Signal). x.width) reads.first ∙ one.bits ∙ ap type_width first.same;
           },
           subst (λ k. IsWired new nodes timing taps (signal_at words n).net s.net n k) (sym e) wired,
         );

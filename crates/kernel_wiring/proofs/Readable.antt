@@ -45,7 +45,8 @@ use Rattle.kernel_layout.specs.Reads.{no_read, read_at, reads_count, behind_of, 
 use Rattle.kernel_layout.proofs.Sourcing.{edge_among, among_within, among_is}
 use Rattle.kernel_wiring.specs.Words.{has_word, is_wired, reads_at, stages_at, IsLaidOut}
 use Rattle.kernel_wiring.specs.OneNode.{takes}
-use Rattle.kernel_wiring.proofs.Typing.{is_like, AreTyped}
+use Rattle.fix_arith.specs.Types.{width_of}
+use Rattle.kernel_types.specs.Types.{is_like, AreTyped}
 
 -- all nodes but offsets have words
 stays_word : (k : Kind) → is_offset k ≡ false → has_word k ≡ true
@@ -135,7 +136,7 @@ module _ (nodes : List Node) (o : IsOrderly nodes) (t : AreTyped nodes) where
       → width_at nodes (source_of nodes (operand_at nodes n 0)).node ≡ width_at nodes (operand_at nodes n 0)
       → width_at nodes (source_of nodes n).node ≡ width_at nodes n
   width_past n ticks h e r =
-      ap (λ (s : Source). width_at nodes s.node) (source_past nodes o n ticks h e) ∙ r ∙ (t.firsts n h (ap is_like e)).width
+      ap (λ (s : Source). width_at nodes s.node) (source_past nodes o n ticks h e) ∙ r ∙ ap width_of (t.firsts n h (ap is_like e)).same
 
   width_within : (m n : ℕ) → n ≤ m → n < length nodes → width_at nodes (source_of nodes n).node ≡ width_at nodes n
   width_within zero n l h = ⊎_elim

@@ -80,7 +80,7 @@ use Rattle.kernel_wiring.specs.declared.timing.Timing.{Timing}
 use Rattle.kernel_wiring.specs.Timing.{IsTiming}
 use Rattle.kernel_wiring.specs.OneNode.{IsWired, IsReadable, operand_count, AddsWord}
 use Rattle.kernel_wiring.specs.AllNodes.{AddsOnlyWires, AddsNodes}
-use Rattle.kernel_wiring.proofs.Typing.{takes_bit, AreTyped}
+use Rattle.kernel_types.specs.Types.{takes_bit, AreTyped}
 use Rattle.kernel_wiring.proofs.Mapped.{get_map, length_map}
 use Rattle.kernel_wiring.proofs.Sums.{sum_below, sum_of_list, sum_apart}
 use Rattle.kernel_wiring.proofs.Stages.{is_zero, not_zero}

@@ -6,25 +6,11 @@ ghost use Rattle.counter_chains.specs.Chains.{bits_of, bits_below};
 ghost use Rattle.kernel_control.specs.Nets.{HasWidth};
 ghost use Rattle.kernel_wiring.specs.States.{MakesHeld};
 
-use counter_chains::CounterDigit;
+use counter_chains::{CounterDigit, bits_below};
 use kernel_control::active;
 use mx_base::NoMemory;
 use rtl_build::{Netlist, Signal};
 use rtl_ir::Sign;
-
-// How many bits of a chain's word stand below the counter of this place.
-fn bits_below(digits: &[CounterDigit], place: u32) -> u8
-    requires place { place < length digits.now }
-    requires few { bits_of digits.now ≤ 128 }
-    ensures { result ≡ bits_below digits.now place }
-{
-    let later = &digits[place as usize + 1..];
-    let mut bits: u8 = 0;
-    for digit in later {
-        bits += digit.bits;
-    }
-    bits
-}
 
 /// Adds the word of a counter of a chain, of so many bits, as a part of the chain's word.
 pub(crate) fn part_word(

@@ -1,4 +1,3 @@
-mod Below
 mod Cells
 mod Finishing
 mod Holding

@@ -8,7 +8,7 @@ use Rattle.stream_graph.specs.declared.node.Node.{Node}
 use Rattle.offset_edges.specs.Edges.{kind_at, operand_at, width_at}
 use Rattle.stream_equations.specs.Equations.{digits_at}
 use Rattle.kernel_types.specs.Types.{counts, AreTyped, AreCounting, IsPartOf}
-use Rattle.kernel_words.proofs.Below.{bits_within}
+use Rattle.counter_chains.proofs.Below.{bits_within}
 
 within_got : {X : Type 0} (xs : List X) (i : ℕ) (x : X) → slice_get xs i ≡ Some x → i < length xs
 within_got [] i x e = absurd (cc)

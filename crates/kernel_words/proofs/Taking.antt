@@ -8,6 +8,7 @@ use Rattle.std.proofs.lemmas.List.{length-set, get_or-set_same, get_or-set_other
 use Rattle.stream_graph.specs.declared.node.Kind.{Kind}
 use Rattle.stream_graph.specs.declared.node.Kind.TheVariants as K
 use Rattle.stream_graph.specs.declared.node.Node.{Node}
+use Rattle.stream_graph.specs.PortKinds.{is_input}
 use Rattle.offset_edges.specs.Edges.{kind_at, operand_at}
 use Rattle.offset_edges.proofs.NodeLemmas.{IsOrderly}
 use Rattle.stream_equations.specs.Equations.{chosen, count_before, enabled, right_side}
@@ -18,7 +19,7 @@ use Rattle.kernel_words.specs.declared.run.KernelRun.{KernelRun}
 use Rattle.kernel_words.specs.declared.streams.Streams.{Streams}
 use Rattle.kernel_words.specs.Streams.{given_of, cell_at, values_of}
 use Rattle.kernel_words.specs.Sides.{is_part, IsReady}
-use Rattle.kernel_words.specs.Filling.{is_open, is_input, IsPlace, AreKnown, IsFilling, IsTaken}
+use Rattle.kernel_words.specs.Filling.{is_open, IsPlace, AreKnown, IsFilling, IsTaken}
 
 pub got : {X : Type 0} (xs : List X) (n : ℕ) (x d : X) → slice_get xs n ≡ Some x → get_or xs n d ≡ x
 got [] n x d e = absurd (cc)

@@ -1,6 +1,5 @@
 -- Streams of which some words are known already: those on which they hang are known too.
 use Rattle.std.specs.Prelude.{◌≡◌, ℕ, suc, ◌<◌, Bool, true, false, if◌then◌else◌, pos, List, length, sum_by, slice_index, Option, Some, None}
-use Rattle.stream_graph.specs.declared.node.Kind.{Kind}
 use Rattle.stream_graph.specs.declared.node.Kind.TheVariants as K
 use Rattle.stream_graph.specs.declared.node.Node.{Node}
 use Rattle.offset_edges.specs.Edges.{kind_at, operands_at, operand_at}
@@ -96,10 +95,6 @@ StayKnown nodes old new =
     (b : Place) → IsPlace nodes old.ticks b → IsKnown old b → IsKnown new b
 
 -- ---- what isn't known
-
-abbrev pub is_input : Kind → Bool
-is_input K.Input = true
-is_input _ = false
 
 -- the place is that of an operand of a node in this tick of the run, and isn't known
 pub record IsOpenOperand (nodes : List Node) (streams : Streams) (n t : ℕ) (place : Place) : Type 0 where

@@ -1,7 +1,7 @@
 // What the equations give a node in a tick.
 ghost use Rattle.std.specs.Prelude.{◌≡◌, ◌≢◌, ◌≤◌, ◌<◌, ◌^◌, ℕ, suc, true, length, slice_index, pos, ◌+ℤ◌, ◌<ℤ◌, IfSome, IfNone, Some};
 ghost use Rattle.std.specs.Option.{option_map};
-ghost use Rattle.counter_chains.specs.Chains.{bits_of, bits_below, chain_at, part_at};
+ghost use Rattle.counter_chains.specs.Chains.{chain_at, part_at};
 ghost use Rattle.mx_bits.specs.declared.op.Op.TheVariants.{Mux};
 ghost use Rattle.stream_graph.specs.declared.node.Kind.TheVariants as K;
 ghost use Rattle.offset_edges.specs.Edges.{kind_at, operand_at, operands_at, width_at};
@@ -13,7 +13,7 @@ ghost use Rattle.kernel_words.specs.Sides.{IsMux, IsReady, hold_at, mux_at, appl
 use crate::nodes::{digits_of, kind_of, operand, operand_count, type_of, width_of};
 use crate::ports::is_enabled;
 use crate::{KernelRun, Streams};
-use counter_chains::{CounterDigit, chains_by_ticks, step};
+use counter_chains::{CounterDigit, bits_below, chains_by_ticks, step};
 use fix_arith::{RoundMode, apply};
 use mx_bits::{Op, Word};
 use stream_graph::{Kernel, Kind, NodeId};
@@ -188,20 +188,6 @@ fn part_word(
             .part(high, low)
             .bits(),
     )
-}
-
-// How many bits of a chain's word stand below the counter of this place.
-fn bits_below(digits: &[CounterDigit], place: u32) -> u8
-    requires place { place < length digits.now }
-    requires few { bits_of digits.now ≤ 128 }
-    ensures { result ≡ bits_below digits.now place }
-{
-    let later = &digits[place as usize + 1..];
-    let mut bits: u8 = 0;
-    for digit in later {
-        bits += digit.bits;
-    }
-    bits
 }
 
 // The word of an operation.

@@ -1,13 +1,14 @@
 // The words of all nodes in all ticks.
 ghost use Rattle.std.specs.Prelude.{◌≡◌, ◌≤◌, ◌*◌, ◌^◌, ◌<◌, [], true, length, slice_index, ℕ, Option, IfOk, IfSome, IfNone};
 ghost use Rattle.stream_graph.specs.declared.node.Kind.TheVariants.{Input};
+ghost use Rattle.stream_graph.specs.PortKinds.{is_input};
 ghost use Rattle.offset_edges.specs.Edges.{edges_of, kind_at};
 ghost use Rattle.offset_edges.specs.Walks.{IsCausal};
 ghost use Rattle.stream_equations.specs.Equations.{StreamEquations};
 ghost use Rattle.kernel_family.specs.Steps.{IsStep, keeps, ahead};
 ghost use Rattle.kernel_words.specs.Streams.{given_of, cell_at, values_of, IsGiven, AreWords};
 ghost use Rattle.kernel_words.specs.Filling.{is_open, open_count, IsPlace, IsKnown, AreKnown, IsFilling, IsPut};
-ghost use Rattle.kernel_words.specs.Filling.{IsTaken, StayKnown, is_input, IsOpenBefore, NoOpenBefore, IsOpenOperand, NoOpenOperand};
+ghost use Rattle.kernel_words.specs.Filling.{IsTaken, StayKnown, IsOpenBefore, NoOpenBefore, IsOpenOperand, NoOpenOperand};
 
 use crate::evaluate::{tick_ahead, word_at};
 use crate::nodes::{kind_of, operand, operand_count};

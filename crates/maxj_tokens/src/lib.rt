@@ -3,6 +3,7 @@
 #![tactic(auto)]
 
 mod excess;
+mod integer;
 mod lexeme;
 mod number;
 mod profile;
@@ -13,6 +14,7 @@ mod tokens;
 mod word;
 
 pub use excess::first_excess;
+pub use integer::{digit_value, hex_digits, without_suffix};
 pub use profile::first_outside;
 pub use scanner::{ScanError, scan};
 pub use sign::Sign;

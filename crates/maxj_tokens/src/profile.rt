@@ -1,61 +1,16 @@
 // Tokens out of profile.
-ghost use Rattle.std.specs.Prelude.{◌≡◌, ◌≤◌, ◌^◌, ◌↔◌, drop, position, true, false, IsTrue, MatchOption, IfSome, IfNone};
-ghost use Rattle.std.specs.List.{before_first};
+ghost use Rattle.std.specs.Prelude.{◌≡◌, ◌≤◌, ◌^◌, ◌↔◌, IsTrue, MatchOption, IfSome, IfNone};
 ghost use Rattle.grammar.specs.Bytes as numerals;
-ghost use Rattle.maxj_tokens.specs.Tokens.{is_suffix, is_hex_integer};
 ghost use Rattle.maxj_tokens.specs.Faults.{IsFirst, HasNone, IsOutside, IsForeign, integer_value};
 ghost use Rattle.maxj_tokens.specs.Reading.{token_view};
 
+use crate::integer::{digit_value, hex_digits, without_suffix};
 use crate::token::Token;
 use crate::tokens::Tokens;
 use crate::word::is_foreign_word;
-use text_scan::{ByteClass, after, is_digit, split_front};
 
 /// The most digits of a decimal, those before its point and those behind it together.
 const MOST_DIGITS: usize = 30;
-
-/// The place of the `L` of an integer.
-fn suffix_place(word: &[u8]) -> Option<usize>
-    ensures { result ≡ position is_suffix word.now }
-{
-    word.iter().position(|byte| *byte == b'L' || *byte == b'l')
-}
-
-/// The integer without its `L`.
-fn without_suffix(word: &[u8]) -> &[u8]
-    ensures { result.now ≡ before_first is_suffix word.now }
-{
-    match suffix_place(word) {
-        Some(end) => &word[..end],
-        None => word,
-    }
-}
-
-/// The digits behind `0x`, where the integer is hexadecimal.
-fn hex_digits(integer: &[u8]) -> Option<&[u8]>
-    ensures some { IfSome result (λ digits. (is_hex_integer integer.now ≡ true) × (digits.now ≡ drop 2 integer.now)) }
-    ensures none { IfNone result (is_hex_integer integer.now ≡ false) }
-{
-    let digits = after(integer, b"0x")?;
-    let split = split_front(digits, ByteClass::Hex);
-    if split.front.is_empty() || !split.rest.is_empty() {
-        None
-    } else {
-        Some(digits)
-    }
-}
-
-fn digit_value(digit: u8) -> u8
-    ensures { result ≡ numerals.hex_value digit }
-{
-    if is_digit(digit) {
-        digit - b'0'
-    } else if b'A' <= digit && digit <= b'F' {
-        digit - (b'A' - 10)
-    } else {
-        digit.saturating_sub(b'a' - 10)
-    }
-}
 
 /// The number that digits say to a base, where it has at most 128 bits.
 fn value(base: u128, digits: &[u8]) -> Option<u128>

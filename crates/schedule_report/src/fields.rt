@@ -1,13 +1,12 @@
 // The parts of a line: numbers behind labels, and a kernel's name, counts and bits.
 ghost use Rattle.std.specs.Prelude.{◌≡◌, ◌↔◌, IsTrue, ◌^◌, ◌<◌, ◌++◌, ℕ, ℤ, negsuc, List, Some, IfSome, IfNone, decimal};
-ghost use Rattle.std.specs.List.{list_all};
-ghost use Rattle.maxj_tokens.specs.Tokens.{is_name_byte};
 ghost use Rattle.kernel_calls.specs.Laws.{is_port_name};
 ghost use Rattle.schedule_report.specs.Fields.{IsNumber, IsField, IsLast, IsTime, IsHeadLine};
 
 use itoa::Buffer;
+use kernel_calls::is_port_name;
 use std::str;
-use text_scan::{ByteClass, after, is_letter, split_front};
+use text_scan::{ByteClass, after, split_front};
 
 /// A number, and what follows it.
 #[derive(Clone, Copy)]
@@ -133,21 +132,4 @@ pub fn head_of(line: &[u8]) -> Option<Head<'_>>
         edges: edges.value as u32,
         bits,
     })
-}
-
-/// Whether the bytes are a letter and then letters, digits and `_`.
-fn is_port_name(name: &[u8]) -> bool
-    ensures { result ≡ is_port_name name.now }
-{
-    match name.split_first() {
-        Some((first, rest)) => is_letter(*first) && are_name_bytes(rest),
-        None => false,
-    }
-}
-
-/// Whether all of the bytes may stand in a name.
-fn are_name_bytes(bytes: &[u8]) -> bool
-    ensures { result ≡ list_all is_name_byte bytes.now }
-{
-    split_front(bytes, ByteClass::Word).rest.is_empty()
 }

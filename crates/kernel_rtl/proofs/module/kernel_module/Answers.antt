@@ -280,7 +280,7 @@ returns-clause-refines c =
     let digits = c.digits_are_sound.ensures in
     subst (λ (x : Module). Refines x kernel (times_of c.args.times.now)) (sym c.finished.ensures.whole)
     (refines kernel layout c.args.times.now a b w t e f ports storage timing words enables run c.requires.planned (orderly kernel.nodes kernel.made)
-    (record { counting = digits.counting; alone = digits.alone; parts = digits.parts }) c.chains_by_ticks.ensures.parts
+    digits.counting c.chains_by_ticks.ensures.parts
     c.in_ok-netlist.ensures c.in_ok-storage.ensures timed.position timed.ticks timed.times c.in_ok-added.ensures
     (controls_named kernel.nodes layout c.as_slice.result.now (late_signals storage.delays) c.as_slice-words.result.now words
     c.in_ok-enables.enables.items enables

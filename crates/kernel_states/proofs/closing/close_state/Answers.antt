@@ -13,7 +13,7 @@ use Rattle.stream_equations.specs.Equations.{digits_at}
 use Rattle.kernel_states.specs.States.{IsState, IsUnwritten}
 use Rattle.kernel_states.specs.Stepping.{state_after}
 use Rattle.kernel_states.specs.Closing.{word_at, IsClearable}
-use Rattle.kernel_states.proofs.Kernels.{counting}
+use Rattle.kernel_types.proofs.Counting.{counters}
 use Rattle.kernel_states.proofs.Taking.{on_ok_both}
 use Rattle.kernel_states.proofs.Closes.{counts_then, holds_not_count, some_counter, no_state, one_state}
 use Rattle.kernel_states.proofs.closing.close_state.Goals as goal
@@ -56,7 +56,7 @@ close_counter-requires c =
     let state = subst (IsState m nodes n) c.in-Some.is c.requires.state in
     let free = subst (IsUnwritten m) c.in-Some.is c.requires.unwritten in
     let known : digits_at nodes n ≡ digits = sym (read (λ (x : Node). x.digits) nodes n n digits no_node refl c.digits.ensures) in
-    let all = counting nodes c.args.kernel.now.made n c.requires.node (counts_then (kind_at nodes n) state.0 (λ q. c.in_default-kind.not-Hold (kind ∙ q))) in
+    let all = (counters nodes c.args.kernel.now.made).counting n c.requires.node (counts_then (kind_at nodes n) state.0 (λ q. c.in_default-kind.not-Hold (kind ∙ q))) in
     let wide : s.width ≡ bits_of digits = state.1.width ∙ all.bits ∙ ap bits_of known in
     record {
       sound = c.requires.sound;

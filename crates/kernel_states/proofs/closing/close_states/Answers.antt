@@ -16,7 +16,7 @@ use Rattle.kernel_refinement.proofs.Storing.{store_keeps, stepping_counts}
 use Rattle.kernel_states.specs.Stepping.{state_after}
 use Rattle.kernel_states.specs.States.{has_state, state_at, is_state_of, step_nets, IsState}
 use Rattle.kernel_states.specs.Closing.{word_at, LeavesOthers, ClosesState}
-use Rattle.kernel_states.proofs.Kernels.{counting}
+use Rattle.kernel_types.proofs.Counting.{counters}
 use Rattle.kernel_states.proofs.Taking.{is_stored}
 use Rattle.kernel_states.proofs.Ticking.{state_steps}
 use Rattle.kernel_states.proofs.Freeing.{each_more}
@@ -118,7 +118,7 @@ returns c =
       mems = i.mems;
       counters = λ n s lt counts e position.
           let digits = digits_at nodes n in
-          let lawful = (counting nodes c.args.kernel.now.made n lt counts).digits in
+          let lawful = ((counters nodes c.args.kernel.now.made).counting n lt counts).digits in
           let closed = i.closed n (omega (arith, lt, end)) in
           stepping_counts m by.run.net by.reset.net by.position.net (slice_index c.args.times.now n) (state_after digits) s.net position
           (closed.steps s e counts) (chain_at digits) (law.begins digits) (λ t. state_steps law.steps law.fits digits t lawful);

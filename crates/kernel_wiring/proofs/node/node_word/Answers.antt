@@ -20,10 +20,10 @@ use Rattle.offset_edges.proofs.Reading.{read, view_read, operands_read}
 use Rattle.stream_equations.specs.Equations.{type_at, digits_at}
 use Rattle.kernel_layout.specs.declared.layout.Layout.{Layout}
 use Rattle.kernel_control.specs.Nets.{HasWidth as IsWidth}
-use Rattle.kernel_states.specs.Digits.{counts, IsPartOf}
 use Rattle.kernel_wiring.specs.Words.{is_wired, signal_at, operand_signal, IsWordOf}
 use Rattle.kernel_wiring.specs.OneNode.{takes, IsReadable}
-use Rattle.kernel_wiring.proofs.Typing.{is_like, takes_bit, AreTyped, typed}
+use Rattle.kernel_types.specs.Types.{counts, is_like, takes_bit, AreTyped, IsPartOf}
+use Rattle.kernel_types.proofs.Typing.{typed}
 use Rattle.kernel_wiring.proofs.Building.{
   is_copy,
   reads_some,
@@ -176,7 +176,7 @@ operand_signal-chain-requires-clause-place c =
     let nodes = c.args.kernel.now.nodes in
     let n = c.args.node in
     let kind = kind_read nodes n c.node-view.result (K.Part c.in-Part.place) c.node-view.ensures c.in-Part.is in
-    let one = (c.digits_are_sound.ensures.parts n c.in-Part.place c.requires.node kind).one in
+    let one = (c.digits_are_sound.ensures.counting.parts n c.in-Part.place c.requires.node kind).one in
     reads_some nodes c.args.layout.now c.args.late.now c.args.words.now c.args.timing.now n c.args.netlist.now c.requires.readable
     (ap is_wired kind) 0 (omega (arith, one))
 
@@ -185,7 +185,7 @@ bounds-operands-0 c =
     let nodes = c.args.kernel.now.nodes in
     let n = c.args.node in
     let kind = kind_read nodes n c.node-view.result (K.Part c.in-Part.place) c.node-view.ensures c.in-Part.is in
-    let one = (c.digits_are_sound.ensures.parts n c.in-Part.place c.requires.node kind).one in
+    let one = (c.digits_are_sound.ensures.counting.parts n c.in-Part.place c.requires.node kind).one in
     let size = ap length (operands_read nodes n n c.operands-in-Part.result.now refl c.operands-in-Part.ensures) in
     omega (arith, one, size)
 
@@ -194,7 +194,7 @@ digits-digits-requires c =
     let nodes = c.args.kernel.now.nodes in
     let n = c.args.node in
     let kind = kind_read nodes n c.node-view.result (K.Part c.in-Part.place) c.node-view.ensures c.in-Part.is in
-    let p = c.digits_are_sound.ensures.parts n c.in-Part.place c.requires.node kind in
+    let p = c.digits_are_sound.ensures.counting.parts n c.in-Part.place c.requires.node kind in
     let one = p.one in
     subst (λ v. v < length nodes) (sym (first_read nodes n c.index-operands-0.result c.operands-in-Part.result.now c.operands-in-Part.ensures
     c.index-operands-0.is (omega (arith, one)))) p.inside
@@ -216,7 +216,7 @@ part_word-requires-clause-chain c =
     let nodes = c.args.kernel.now.nodes in
     let n = c.args.node in
     let kind = kind_read nodes n c.node-view.result (K.Part c.in-Part.place) c.node-view.ensures c.in-Part.is in
-    let p = c.digits_are_sound.ensures.parts n c.in-Part.place c.requires.node kind in
+    let p = c.digits_are_sound.ensures.counting.parts n c.in-Part.place c.requires.node kind in
     subst (λ s. HasSignal c.args.netlist.now s) (sym c.operand_signal-chain.ensures)
     (part_read c.args.netlist.now nodes c.args.layout.now c.args.late.now c.args.words.now n c.in-Part.place c.requires.readable kind p).signal
 
@@ -226,7 +226,7 @@ part_word-requires-clause-digit c =
     let n = c.args.node in
     let place = c.in-Part.place in
     let kind = kind_read nodes n c.node-view.result (K.Part place) c.node-view.ensures c.in-Part.is in
-    let p = c.digits_are_sound.ensures.parts n place c.requires.node kind in
+    let p = c.digits_are_sound.ensures.counting.parts n place c.requires.node kind in
     let one = p.one in
     let digits = digits_read nodes n c.index-operands-0.result c.operands-in-Part.result.now c.digits-digits.result.now c.operands-in-Part.ensures
     c.index-operands-0.is (omega (arith, one)) c.digits-digits.ensures in (
@@ -248,25 +248,25 @@ part_word-requires-clause-wide c =
     let nodes = c.args.kernel.now.nodes in
     let n = c.args.node in
     let kind = kind_read nodes n c.node-view.result (K.Part c.in-Part.place) c.node-view.ensures c.in-Part.is in
-    let p = c.digits_are_sound.ensures.parts n c.in-Part.place c.requires.node kind in
+    let p = c.digits_are_sound.ensures.counting.parts n c.in-Part.place c.requires.node kind in
     let one = p.one in
     let digits = digits_read nodes n c.index-operands-0.result c.operands-in-Part.result.now c.digits-digits.result.now c.operands-in-Part.ensures
     c.index-operands-0.is (omega (arith, one)) c.digits-digits.ensures in
     let read = part_read c.args.netlist.now nodes c.args.layout.now c.args.late.now c.args.words.now n c.in-Part.place c.requires.readable kind p in
     ap (λ (s : Signal). s.width) c.operand_signal-chain.ensures ∙ read.bits
-    ∙ (c.digits_are_sound.ensures.counting (operand_at nodes n 0) p.inside (ap counts p.chain)).bits ∙ ap bits_of (sym digits)
+    ∙ (c.digits_are_sound.ensures.counting.counting (operand_at nodes n 0) p.inside (ap counts p.chain)).bits ∙ ap bits_of (sym digits)
 
 pub part_word-requires-clause-few : goal.part_word-requires-clause-few
 part_word-requires-clause-few c =
     let nodes = c.args.kernel.now.nodes in
     let n = c.args.node in
     let kind = kind_read nodes n c.node-view.result (K.Part c.in-Part.place) c.node-view.ensures c.in-Part.is in
-    let p = c.digits_are_sound.ensures.parts n c.in-Part.place c.requires.node kind in
+    let p = c.digits_are_sound.ensures.counting.parts n c.in-Part.place c.requires.node kind in
     let one = p.one in
     let digits = digits_read nodes n c.index-operands-0.result c.operands-in-Part.result.now c.digits-digits.result.now c.operands-in-Part.ensures
     c.index-operands-0.is (omega (arith, one)) c.digits-digits.ensures in
     let most = ((orderly nodes c.args.kernel.now.made).widths (operand_at nodes n 0) p.inside).1 in
-    let bits = (c.digits_are_sound.ensures.counting (operand_at nodes n 0) p.inside (ap counts p.chain)).bits in
+    let bits = (c.digits_are_sound.ensures.counting.counting (operand_at nodes n 0) p.inside (ap counts p.chain)).bits in
     let same = ap bits_of digits in
     omega (arith, most, bits, same)
 
@@ -276,7 +276,7 @@ returns-in_ok-part_word-in-Part c =
     let n = c.args.node in
     let place = c.in-Part.place in
     let kind = kind_read nodes n c.node-view.result (K.Part place) c.node-view.ensures c.in-Part.is in
-    let p = c.digits_are_sound.ensures.parts n place c.requires.node kind in
+    let p = c.digits_are_sound.ensures.counting.parts n place c.requires.node kind in
     let one = p.one in
     let digits = digits_read nodes n c.index-operands-0.result c.operands-in-Part.result.now c.digits-digits.result.now c.operands-in-Part.ensures
     c.index-operands-0.is (omega (arith, one)) c.digits-digits.ensures in
@@ -345,7 +345,7 @@ hold_in m nodes layout late words n t h r e =
     let from = r.typed 0 first.some (ap (λ k. takes k 0) e) in
     let store = r.typed 1 second (ap (λ k. takes k 1) e) in
     record {
-      from = record { signal = from.signal; bits = from.bits ∙ first.width };
+      from = record { signal = from.signal; bits = from.bits ∙ ap width_of first.same };
       store = record { signal = store.signal; width = store.bits ∙ t.bits n 1 h (ap (λ k. takes_bit k 1) e) second };
     }
 

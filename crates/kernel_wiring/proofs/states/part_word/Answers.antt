@@ -1,7 +1,7 @@
 use Rattle.std.proofs.Common.{◌≡◌, ◌∙◌, ◌+◌, ◌-◌, ◌/◌, ◌%◌, ◌^◌, ap, arith}
 use Rattle.std.proofs.lemmas.Result.{IfOk-weaker}
 use Rattle.rtl_build.proofs.Growing.{same_value}
-use Rattle.kernel_wiring.proofs.Below.{bits_within}
+use Rattle.counter_chains.proofs.Below.{bits_within}
 use Rattle.kernel_wiring.proofs.states.part_word.Goals as goal
 
 pub overflow_add-low : goal.overflow_add-low

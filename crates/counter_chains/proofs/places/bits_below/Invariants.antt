@@ -1,6 +1,6 @@
 use Rattle.std.proofs.Common.{◌≡◌, ◌+◌, drop}
 use Rattle.counter_chains.specs.Chains.{bits_of}
-use Rattle.kernel_words.proofs.evaluate.bits_below.Given as goal
+use Rattle.counter_chains.proofs.places.bits_below.Given as goal
 
 -- the bits so far and those of the counters that are left are all
 abbrev pub invariant-loop-digit : goal.invariant-loop-digit

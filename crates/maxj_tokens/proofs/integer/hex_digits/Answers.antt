@@ -1,8 +1,8 @@
 use Rattle.std.proofs.Common.{◌≡◌, ◌∙◌, Bool, true, false, not, refl, ap, sym, inl, inr}
 use Rattle.maxj_tokens.specs.Tokens.{is_hex_integer}
 use Rattle.maxj_tokens.proofs.Values.{not_hex}
-use Rattle.maxj_tokens.proofs.profile.hex_digits.Goals as goal
-use Rattle.maxj_tokens.proofs.profile.hex_digits.Goals.{then-is_empty, else-is_empty}
+use Rattle.maxj_tokens.proofs.integer.hex_digits.Goals as goal
+use Rattle.maxj_tokens.proofs.integer.hex_digits.Goals.{then-is_empty, else-is_empty}
 
 is_false : (b : Bool) → not b ≡ true → b ≡ false
 is_false true e = cc

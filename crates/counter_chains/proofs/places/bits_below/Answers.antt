@@ -2,8 +2,8 @@ use Rattle.std.proofs.Common.{◌≡◌, ◌∙◌, ◌+◌, ◌-◌, ◌<◌, L
 use Rattle.std.proofs.lemmas.List.{take_rest}
 use Rattle.counter_chains.specs.declared.digits.CounterDigit.{CounterDigit}
 use Rattle.counter_chains.specs.Chains.{bits_of, bits_below}
-use Rattle.kernel_words.proofs.Below.{bits_next, none_left, later_bits, below_most}
-use Rattle.kernel_words.proofs.evaluate.bits_below.Goals as goal
+use Rattle.counter_chains.proofs.Below.{bits_next, none_left, later_bits, below_most}
+use Rattle.counter_chains.proofs.places.bits_below.Goals as goal
 
 abbrev later_of : List CounterDigit → ℕ → List CounterDigit
 later_of digits place = take (length digits - (place + 1)) (drop (place + 1) digits)
