@@ -58,6 +58,7 @@ pub enum ClassKind {
 }
 
 impl ClassKind {
+    /// Whether the class is a manager.
     pub fn is_manager(self) -> bool
         ensures { result ≡ is_manager self }
     {
