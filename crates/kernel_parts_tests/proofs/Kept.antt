@@ -48,8 +48,8 @@ use Rattle.kernel_stages.specs.Closing.{AreWords}
 use Rattle.kernel_control.specs.declared.handshakes.Handshake.{Handshake}
 use Rattle.kernel_control.specs.Nets.{HasWidth, HasBitOutput, MayEnable, IsHandshake}
 use Rattle.kernel_control.specs.Outputs.{AreUndriven}
-use Rattle.kernel_parts_tests.specs.declared.inputs.Inputs.{Inputs}
-use Rattle.kernel_parts_tests.specs.declared.control.Frame.{Frame}
+use Rattle.kernel_parts_tests.specs.declared.signals.Inputs.{Inputs}
+use Rattle.kernel_parts_tests.specs.declared.signals.Frame.{Frame}
 use Rattle.kernel_parts_tests.specs.Beds.{AddsPorts, HasInputs, HasFrame}
 
 -- a width and its signal

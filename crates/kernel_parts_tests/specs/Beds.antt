@@ -7,8 +7,8 @@ use Rattle.rtl_build.specs.Ports.{HasOutput}
 use Rattle.rtl_delays.specs.Steps.{IsSound}
 use Rattle.rtl_delays.specs.Partial.{HasPortsAlone}
 use Rattle.kernel_control.specs.Nets.{HasWidth, HasBitOutput}
-use Rattle.kernel_parts_tests.specs.declared.inputs.Inputs.{Inputs}
-use Rattle.kernel_parts_tests.specs.declared.control.Frame.{Frame}
+use Rattle.kernel_parts_tests.specs.declared.signals.Inputs.{Inputs}
+use Rattle.kernel_parts_tests.specs.declared.signals.Frame.{Frame}
 
 -- ports were added, and what the module had it still has
 pub record AddsPorts (old new : Module) : Type 0 where

@@ -4,18 +4,10 @@ ghost use Rattle.rtl_delays.specs.Partial.{HasPortsAlone};
 ghost use Rattle.kernel_parts_tests.specs.Beds.{HasInputs};
 
 use crate::ports::add_input;
+use crate::signals::Inputs;
 use mx_base::NoMemory;
-use rtl_build::{Netlist, Signal};
+use rtl_build::Netlist;
 use std::alloc::Global;
-
-// What delays follow: bits for the advances and the reset edges, a word of 8 bits and one of 16.
-#[derive(Clone, Copy)]
-pub(crate) struct Inputs {
-    pub(crate) run: Signal,
-    pub(crate) reset: Signal,
-    pub(crate) narrow: Signal,
-    pub(crate) wide: Signal,
-}
 
 // Adds a clock and the inputs: nets 0 to 4.
 pub(crate) fn add_inputs(alloc: Global, netlist: &mut Netlist) -> Result<Inputs, NoMemory>

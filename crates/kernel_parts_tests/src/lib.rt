@@ -3,12 +3,18 @@
 //! once where memory is ample.
 #![tactic(auto)]
 
+#[cfg(test)]
 mod control;
+#[cfg(test)]
 mod delays;
+#[cfg(test)]
 mod inputs;
+#[cfg(test)]
 mod ports;
 #[cfg(test)]
 mod settled;
+mod signals;
+#[cfg(test)]
 mod stages;
 #[cfg(test)]
 mod tests;

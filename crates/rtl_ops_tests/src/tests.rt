@@ -24,6 +24,22 @@ fn operand(alloc: Global, netlist: &mut Netlist, name: &[u8], width: u8) -> Resu
     Ok(())
 }
 
+// Adds three inputs for operands, a0, a1 and a2.
+fn add_operands(alloc: Global, netlist: &mut Netlist, first: u8, others: u8) -> Result<(), NoMemory>
+    requires some { 1 ≤ first }
+    requires at_most { first ≤ 128 }
+    requires some_others { 1 ≤ others }
+    requires at_most_others { others ≤ 128 }
+    ensures { OnOk result (netlist.new ≡
+        with_port (with_port (with_port netlist.old (97 ∷ 48 ∷ []) first false)
+        (97 ∷ 49 ∷ []) others false) (97 ∷ 50 ∷ []) others false) }
+{
+    operand(alloc, netlist, b"a0", first)?;
+    operand(alloc, netlist, b"a1", others)?;
+    operand(alloc, netlist, b"a2", others)?;
+    Ok(())
+}
+
 // A module of three inputs for operands.
 fn operands(alloc: Global, first: u8, others: u8) -> Result<Netlist, NoMemory>
     requires some { 1 ≤ first }
@@ -36,9 +52,7 @@ fn operands(alloc: Global, first: u8, others: u8) -> Result<Netlist, NoMemory>
     ensures inner { IfOk result (λ m. AreInner m.ports (0 ∷ 1 ∷ 2 ∷ [])) }
 {
     let mut netlist = Netlist::new(alloc, Text::from_vec(b"m".to_vec(alloc)?));
-    operand(alloc, &mut netlist, b"a0", first)?;
-    operand(alloc, &mut netlist, b"a1", others)?;
-    operand(alloc, &mut netlist, b"a2", others)?;
+    add_operands(alloc, &mut netlist, first, others)?;
     Ok(netlist)
 }
 
@@ -130,10 +144,10 @@ fn of_two(
     requires gives { GivesType op (t ∷ t ∷ []) 0 out }
 {
     let width = t.width();
-    let mut netlist = operands(alloc, width, width)?;
-    let nets = [NetId::new(0), NetId::new(1)];
-    let made = fragment(&mut netlist, op, mode, &[t, t], &nets, 0, out)?;
     let words = [word(a, width)?, word(b, width)?, word(0, width)?];
+    let nets = [NetId::new(0), NetId::new(1)];
+    let mut netlist = operands(alloc, width, width)?;
+    let made = fragment(&mut netlist, op, mode, &[t, t], &nets, 0, out)?;
     value(alloc, netlist.module(), &words, made.net())
 }
 
@@ -151,10 +165,10 @@ fn of_one(
     requires gives { GivesType op (t ∷ []) amount out }
 {
     let width = t.width();
-    let mut netlist = operands(alloc, width, 1)?;
-    let nets = [NetId::new(0)];
-    let made = fragment(&mut netlist, op, mode, &[t], &nets, amount, out)?;
     let words = [word(a, width)?, word(0, 1)?, word(0, 1)?];
+    let nets = [NetId::new(0)];
+    let mut netlist = operands(alloc, width, 1)?;
+    let made = fragment(&mut netlist, op, mode, &[t], &nets, amount, out)?;
     value(alloc, netlist.module(), &words, made.net())
 }
 
@@ -202,6 +216,7 @@ fn product_by_modes(alloc: Global, t: StreamType, a: u128, b: u128) -> Result<[u
 fn chosen(alloc: Global, selector: u128) -> Result<u128, Fail> {
     let t = StreamType::Int(8);
     let types = [StreamType::UInt(1), t, t];
+    let words = [word(selector, 1)?, word(0x11, 8)?, word(0x22, 8)?];
     let mut netlist = operands(alloc, 1, 8)?;
     let nets = [NetId::new(0), NetId::new(1), NetId::new(2)];
     let made = fragment(
@@ -213,7 +228,6 @@ fn chosen(alloc: Global, selector: u128) -> Result<u128, Fail> {
         0,
         t,
     )?;
-    let words = [word(selector, 1)?, word(0x11, 8)?, word(0x22, 8)?];
     value(alloc, netlist.module(), &words, made.net())
 }
 

@@ -1,7 +1,7 @@
 // The plan of a run file whose lists stand in another order than the ports.
 use mx_base::{List, NoMemory, Text};
 use rtl_ir::{Interface, KernelPorts, NetId, ScalarPort, StreamPorts};
-use simulation::plan_of;
+use simulation::{Plan, plan_of};
 use std::alloc::{AllocError, Global};
 use std::test::Fail;
 use word_files::RunFile;
@@ -83,15 +83,20 @@ fn interface(alloc: Global) -> Result<Interface, NoMemory> {
     })
 }
 
-#[test]
-fn a_plan_is_in_the_order_of_the_ports(rt: HostRuntime) -> Result<(), Fail> {
-    let alloc = rt.alloc();
+// The plan of the run file at the interface.
+fn planned(alloc: Global) -> Result<Plan, Fail> {
     let run = run_file(alloc)?;
     let ports = interface(alloc)?;
     run.fit(alloc, &ports)?;
-    let plan = plan_of(alloc, &run, &ports)?;
+    Ok(plan_of(alloc, &run, &ports)?)
+}
+
+#[test]
+fn a_plan_is_in_the_order_of_the_ports(rt: HostRuntime) -> Result<(), Fail> {
+    let alloc = rt.alloc();
     let inputs = pairs(alloc, (b"q.words", b"p.words"), (16, 8))?;
     let outputs = pairs(alloc, (b"y.words", b"x.words"), (2, 1))?;
+    let plan = planned(alloc)?;
     assert!(rt; plan.ticks.as_slice() == [7, 5].as_slice());
     assert!(rt; plan.scalars.as_slice() == [0xff, 1].as_slice());
     assert!(rt; plan.inputs == inputs);

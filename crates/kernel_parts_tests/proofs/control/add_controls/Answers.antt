@@ -3,7 +3,7 @@ use Rattle.rtl_ir.specs.declared.design.Module.{Module}
 use Rattle.rtl_delays.specs.Steps.{writes_reg}
 use Rattle.kernel_control.specs.Nets.{IsHandshake}
 use Rattle.kernel_parts_tests.proofs.Kept.{frame_on, handshake_on, position_extends, three_undriven, all_two}
-use Rattle.kernel_parts_tests.proofs.control.control_module.Goals as goal
+use Rattle.kernel_parts_tests.proofs.control.add_controls.Goals as goal
 
 pub add_control-requires : goal.add_control-requires
 add_control-requires c =

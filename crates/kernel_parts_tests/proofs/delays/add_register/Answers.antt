@@ -2,7 +2,7 @@ use Rattle.std.proofs.Common.{ap, sym, ◌∙◌}
 use Rattle.rtl_ir.specs.declared.design.Module.{Module}
 use Rattle.rtl_delays.specs.Steps.{writes_reg}
 use Rattle.kernel_parts_tests.proofs.Kept.{inputs_on}
-use Rattle.kernel_parts_tests.proofs.delays.register_module.Goals as goal
+use Rattle.kernel_parts_tests.proofs.delays.add_register.Goals as goal
 
 pub start_register-requires-clause-sound : goal.start_register-requires-clause-sound
 start_register-requires-clause-sound c = c.in_ok-inputs.ensures.has.sound

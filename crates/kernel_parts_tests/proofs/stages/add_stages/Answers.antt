@@ -6,7 +6,7 @@ use Rattle.kernel_stages.specs.Chains.{joined, AreChains, AreWide}
 use Rattle.kernel_stages.specs.Starting.{ComeAfter}
 use Rattle.kernel_stages.proofs.Chaining.{chains_length}
 use Rattle.kernel_parts_tests.proofs.Kept.{inputs_on, all_rising, all_widths, two_words}
-use Rattle.kernel_parts_tests.proofs.stages.stages_module.Goals as goal
+use Rattle.kernel_parts_tests.proofs.stages.add_stages.Goals as goal
 
 pub start_stages-requires : goal.start_stages-requires
 start_stages-requires c =

@@ -1,4 +1,4 @@
-use Rattle.kernel_parts_tests.proofs.delays.element_module.Goals as goal
+use Rattle.kernel_parts_tests.proofs.delays.add_elements.Goals as goal
 
 pub add_delay-requires-clause-inputs : goal.add_delay-requires-clause-inputs
 add_delay-requires-clause-inputs c = c.in_ok-inputs.ensures.has

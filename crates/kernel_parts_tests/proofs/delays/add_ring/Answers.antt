@@ -1,6 +1,6 @@
 use Rattle.std.proofs.Common.{sym, ◌∙◌}
 use Rattle.kernel_parts_tests.proofs.Kept.{inputs_on}
-use Rattle.kernel_parts_tests.proofs.delays.ring_module.Goals as goal
+use Rattle.kernel_parts_tests.proofs.delays.add_ring.Goals as goal
 
 pub start_ring-requires-clause-sound : goal.start_ring-requires-clause-sound
 start_ring-requires-clause-sound c = c.in_ok-inputs.ensures.has.sound
