@@ -2,7 +2,7 @@
 use mx_base::List;
 
 /// Asks that the number of `to` is at least the number of `from` plus `need`.
-#[derive(Clone, Copy, Debug, PartialEq, Eq)]
+#[derive(Clone, Copy, PartialEq, Eq)]
 pub struct Arc {
     pub from: u32,
     pub to: u32,

@@ -1,7 +1,7 @@
 // What a check says.
 
 /// What a check says of an answer. Arcs and nodes are told by their numbers, from 0.
-#[derive(Clone, Copy, Debug, PartialEq, Eq)]
+#[derive(Clone, Copy, PartialEq, Eq)]
 pub enum Verdict {
     /// The times are legal, the flow is one, and the times cost what it is worth.
     Good,

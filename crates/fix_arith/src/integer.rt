@@ -11,7 +11,7 @@ use mx_bits::Word;
 use std::cmp::Ordering;
 
 /// A whole number: `Natural(n)` is `n`, and `Negative(n)` is `-1 - n`, whose two's complement is `!n`.
-#[derive(Clone, Copy, Debug, PartialEq, Eq)]
+#[derive(Clone, Copy, PartialEq, Eq)]
 pub enum Integer {
     Natural(u128),
     Negative(u128),

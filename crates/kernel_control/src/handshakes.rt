@@ -2,7 +2,7 @@
 use rtl_build::Signal;
 
 /// A port of a kernel.
-#[derive(Clone, Copy, Debug, PartialEq, Eq)]
+#[derive(Clone, Copy, PartialEq, Eq)]
 pub struct Handshake {
     /// The time of the port's node, at most 2^46: the position at which it is in the first tick.
     pub time: u64,
@@ -15,7 +15,7 @@ pub struct Handshake {
 }
 
 /// The nets of a kernel's module that its control reads and writes, beside those of its ports.
-#[derive(Clone, Copy, Debug, PartialEq, Eq)]
+#[derive(Clone, Copy, PartialEq, Eq)]
 pub struct ControlNets {
     /// A register of 48 bits, which counts the advances since the last reset edge.
     pub position: Signal,

@@ -19,7 +19,7 @@ pub enum Purpose {
 }
 
 /// The condition of a loop.
-#[derive(Clone, Copy, Debug, PartialEq, Eq)]
+#[derive(Clone, Copy, PartialEq, Eq)]
 pub enum Condition {
     /// A `for` without one.
     Always,
@@ -27,7 +27,7 @@ pub enum Condition {
 }
 
 /// A loop: its place, its parts, and how many variables stay after a `for`.
-#[derive(Clone, Copy, Debug, PartialEq, Eq)]
+#[derive(Clone, Copy, PartialEq, Eq)]
 pub struct Loop {
     pub at: u32,
     pub condition: Condition,

@@ -3,7 +3,7 @@ use fix_arith::StreamType;
 use mx_base::{List, Text};
 
 /// The value of a kernel's parameter after the first.
-#[derive(Clone, Copy, Debug, PartialEq, Eq)]
+#[derive(Clone, Copy, PartialEq, Eq)]
 pub enum Arg {
     Int(i32),
     Flag(bool),

@@ -4,7 +4,7 @@ use fix_arith::RoundMode;
 use mx_base::Text;
 
 /// The operator between two operands, other than `&&` and `||`.
-#[derive(Clone, Copy, Debug, PartialEq, Eq)]
+#[derive(Clone, Copy, PartialEq, Eq)]
 pub enum Sign {
     Add,
     Subtract,

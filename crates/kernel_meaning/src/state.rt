@@ -12,7 +12,7 @@ pub struct Binding {
 }
 
 /// A digit of a chain: the number of the chain's node, and the digit's bits.
-#[derive(Clone, Copy, Debug, PartialEq, Eq)]
+#[derive(Clone, Copy, PartialEq, Eq)]
 pub struct Digit {
     pub chain: u32,
     pub bits: u8,

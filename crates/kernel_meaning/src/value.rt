@@ -4,7 +4,7 @@ use fix_arith::StreamType;
 use mx_base::Text;
 
 /// A type that is no array.
-#[derive(Clone, Copy, Debug, PartialEq, Eq)]
+#[derive(Clone, Copy, PartialEq, Eq)]
 pub enum Base {
     Int,
     Boolean,
@@ -19,7 +19,7 @@ pub enum Base {
 }
 
 /// The type of a variable: arrays of arrays, `rank` deep, of the base.
-#[derive(Clone, Copy, Debug, PartialEq, Eq)]
+#[derive(Clone, Copy, PartialEq, Eq)]
 pub struct Declared {
     pub base: Base,
     pub rank: u32,

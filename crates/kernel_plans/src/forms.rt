@@ -7,7 +7,7 @@ use crate::branch::Branch;
 use maxj_syntax::NodeKind;
 
 /// How an expression is evaluated.
-#[derive(Clone, Copy, Debug, PartialEq, Eq)]
+#[derive(Clone, Copy, PartialEq, Eq)]
 pub enum Form {
     /// By its condition.
     Choice,

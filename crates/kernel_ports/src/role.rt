@@ -8,7 +8,7 @@ use std::alloc::Global;
 use stream_graph::{Kernel, Kind, NodeId};
 
 /// What a node with ports is.
-#[derive(Clone, Copy, Debug, PartialEq, Eq)]
+#[derive(Clone, Copy, PartialEq, Eq)]
 pub(crate) enum Role {
     Scalar,
     Input,

@@ -3,7 +3,7 @@
 /// The judgement on a part of a report, of which the first that stands is said. Arcs are those of the
 /// kernel's problem, two for each edge; nodes past the kernel's own are the times up to which words
 /// are kept.
-#[derive(Clone, Copy, Debug, PartialEq, Eq)]
+#[derive(Clone, Copy, PartialEq, Eq)]
 pub enum Judgement {
     /// The part is the kernel's, its times are legal, its flow is one, and both cost the same.
     Good,

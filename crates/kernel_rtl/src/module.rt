@@ -1,11 +1,12 @@
 // The module of a kernel.
-ghost use Rattle.std.specs.Prelude.{◌≡◌, ◌+◌, ◌≤◌, ◌<◌, ◌^◌, ◌≤ℤ◌, ℕ, pos, length, IfOk, IsTrue};
+ghost use Rattle.std.specs.Prelude.{◌≡◌, ◌+◌, ◌≤◌, ◌<◌, ◌^◌, ◌≤ℤ◌, ℕ, pos, length, IfOk, OnOk, IsTrue};
 ghost use Rattle.cycle_find.specs.Constraints.{numbers_of};
 ghost use Rattle.rtl_ir.specs.Ports.{is_plain_name};
 ghost use Rattle.rtl_delays.specs.Partial.{IsPartial};
 ghost use Rattle.rtl_delays.specs.Stored.{stored_bits};
 ghost use Rattle.rtl_reading.specs.Reads.{IsPortsFirst};
 ghost use Rattle.kernel_control.specs.Refines.{Refines};
+ghost use Rattle.kernel_ports.specs.HasKernelPorts.{HasKernelPorts};
 ghost use Rattle.kernel_stages.specs.Numbers.{ring_count, all_word_bits, all_pointer_bits};
 ghost use Rattle.kernel_states.specs.States.{state_bits};
 ghost use Rattle.kernel_wiring.specs.Timing.{time_at};
@@ -16,7 +17,7 @@ use crate::storage::start_storage;
 use crate::words::{add_words, late_signals};
 use counter_chains::chains_by_ticks;
 use kernel_layout::Layout;
-use kernel_ports::kernel_ports;
+use kernel_ports::{KernelSignals, kernel_ports};
 use kernel_stages::close_stages;
 use kernel_states::{AdvanceNets, close_states, digits_are_sound};
 use kernel_wiring::{Timing, port_controls};
@@ -65,6 +66,56 @@ fn timing(
     })
 }
 
+// Adds to the ports of a kernel's module what the kernel stores, computes and tells. That it refines
+// the kernel is known where its nets and memories are numbered in 64 bits. Apart from
+// `kernel_module`, which owns the netlist, so that no error here has a netlist to drop.
+fn add_kernel(
+    alloc: Global,
+    netlist: &mut Netlist,
+    ports: &KernelSignals,
+    kernel: &Kernel,
+    layout: &Layout,
+    times: &[i64],
+) -> Result<(), NoMemory>
+    requires made { HasKernelPorts kernel.now netlist.old ports.now }
+    requires times { length kernel.now.nodes ≤ length times.now }
+    requires planned { IsPlanned kernel.now.nodes (numbers_of times.now) layout.now }
+    ensures refines { OnOk result (length netlist.new.nets < 2 ^ 64
+        → length netlist.new.mems < 2 ^ 64
+        → Refines netlist.new kernel.now (times_of times.now)) }
+    ensures ports_first { OnOk result (IsPortsFirst netlist.new) }
+    ensures stored { OnOk result (stored_bits netlist.new
+        ≡ 48 + state_bits kernel.now.nodes
+        + all_word_bits (widths_of kernel.now.nodes) layout.now.stages
+        + all_pointer_bits layout.now.stages) }
+    ensures nets { OnOk result (
+        length netlist.new.nets ≤ most_nets kernel.now.nodes layout.now.stages) }
+    ensures mems { OnOk result (length netlist.new.mems ≤ ring_count layout.now.stages) }
+    ensures partial { OnOk result (IsPartial netlist.new) }
+{
+    // What counters are, and how the words of chains hold them.
+    digits_are_sound(kernel);
+    chains_by_ticks();
+    let storage = start_storage(alloc, netlist, kernel, layout)?;
+    let timing = timing(alloc, kernel, storage.position, ports.ticks, times)?;
+    let added = add_words(alloc, netlist, kernel, layout, ports, &storage, &timing)?;
+    let words = added.as_slice();
+    let delays = storage.delays.as_slice();
+    let late = late_signals(alloc, delays)?;
+    let enables = port_controls(alloc, kernel, layout, late.as_slice(), words)?;
+    let run = control(alloc, netlist, ports, &timing, enables.as_slice())?;
+    close_stages(netlist, run, ports.reset, words, delays)?;
+    let nets = AdvanceNets {
+        run,
+        reset: ports.reset,
+        position: storage.position,
+    };
+    let states = storage.states.as_slice();
+    let whole = timing.times.as_slice();
+    close_states(netlist, kernel, states, words, whole, nets)?;
+    Ok(())
+}
+
 /// The module of a kernel at these times, by a layout at them: it refines the kernel, its ports are
 /// its first nets, in their order, and it stores the 48 bits of its position, the states of its
 /// holds, counters and chains, the words that its nodes' stages keep, and the pointers of those
@@ -93,34 +144,7 @@ pub fn kernel_module(
     ensures mems { IfOk result (λ built. length built.mems ≤ ring_count layout.now.stages) }
     ensures partial { IfOk result IsPartial }
 {
-    // What counters are, and how the words of chains hold them.
-    digits_are_sound(kernel);
-    chains_by_ticks();
     let (mut netlist, ports) = kernel_ports(alloc, kernel)?;
-    let storage = start_storage(alloc, &mut netlist, kernel, layout)?;
-    let timing = timing(alloc, kernel, storage.position, ports.ticks, times)?;
-    let added = add_words(
-        alloc,
-        &mut netlist,
-        kernel,
-        layout,
-        &ports,
-        &storage,
-        &timing,
-    )?;
-    let words = added.as_slice();
-    let delays = storage.delays.as_slice();
-    let late = late_signals(alloc, delays)?;
-    let enables = port_controls(alloc, kernel, layout, late.as_slice(), words)?;
-    let run = control(alloc, &mut netlist, &ports, &timing, enables.as_slice())?;
-    close_stages(&mut netlist, run, ports.reset, words, delays)?;
-    let nets = AdvanceNets {
-        run,
-        reset: ports.reset,
-        position: storage.position,
-    };
-    let states = storage.states.as_slice();
-    let whole = timing.times.as_slice();
-    close_states(&mut netlist, kernel, states, words, whole, nets)?;
+    add_kernel(alloc, &mut netlist, &ports, kernel, layout, times)?;
     Ok(finished(netlist))
 }

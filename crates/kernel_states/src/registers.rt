@@ -13,7 +13,7 @@ use rtl_build::{Netlist, Signal};
 use rtl_ir::Sign;
 
 /// The nets by which a kernel's module knows where it stands.
-#[derive(Clone, Copy, Debug, PartialEq, Eq)]
+#[derive(Clone, Copy, PartialEq, Eq)]
 pub struct AdvanceNets {
     /// One bit: whether the kernel advances.
     pub run: Signal,

@@ -3,7 +3,7 @@ use mx_base::List;
 use rtl_build::Signal;
 
 /// By what a kernel's module knows in which tick a node is.
-#[derive(Debug, Drop)]
+#[derive(Drop)]
 pub struct Timing {
     /// 48 bits: how often the kernel has advanced.
     pub position: Signal,

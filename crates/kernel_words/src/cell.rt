@@ -1,7 +1,7 @@
 // What is known of the word of a node in a tick.
 
 /// A word that isn't known yet, one that is undefined, or the bits of one.
-#[derive(Clone, Copy, Debug, PartialEq, Eq)]
+#[derive(Clone, Copy, PartialEq, Eq)]
 pub(crate) enum Cell {
     Open,
     Undefined,

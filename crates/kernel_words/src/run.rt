@@ -7,7 +7,7 @@ use mx_base::List;
 /// words of the source of each input, from number 0 on, where some may be undefined and there are
 /// none past the end. The items of other nodes count for nothing, beside that their words have the
 /// width of the node.
-#[derive(Debug, Drop)]
+#[derive(Drop)]
 pub struct KernelRun {
     pub ticks: u64,
     pub scalars: List<u128>,

@@ -5,7 +5,7 @@ use crate::cell::Cell;
 
 /// The words of all nodes of a kernel in all ticks of a run, 32 bytes for each. `kernel_streams`
 /// makes them.
-#[derive(Debug, Drop)]
+#[derive(Drop)]
 pub struct Streams {
     pub(crate) nodes: u32,
     pub(crate) ticks: u64,

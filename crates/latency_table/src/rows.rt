@@ -14,7 +14,7 @@ const MOST_WIDTH: u8 = 128;
 const MOST_LATENCY: u8 = 64;
 
 /// From this width on, in bits, an operation has this latency, in ticks.
-#[derive(Clone, Copy, Debug, PartialEq, Eq)]
+#[derive(Clone, Copy, PartialEq, Eq)]
 pub(crate) struct Row {
     pub(crate) from: u8,
     pub(crate) latency: u8,

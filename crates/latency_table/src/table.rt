@@ -8,7 +8,7 @@ use mx_bits::Op;
 
 /// The rows of one operation. Their widths rise strictly from 1 to 128, and their latencies are at
 /// most 64.
-#[derive(Debug, Drop)]
+#[derive(Drop)]
 pub(crate) struct Entry {
     pub(crate) op: Op,
     pub(crate) rows: List<Row>,
@@ -49,7 +49,7 @@ impl Entry {
 
 /// Latencies of operations: how many ticks after its operands an operation has its result. Each
 /// operation has rows, and a row says from which width of the operands on it has which latency.
-#[derive(Debug, Drop)]
+#[derive(Drop)]
 pub struct Table {
     pub(crate) entries: List<Entry>,
 }

@@ -1,5 +1,6 @@
 // The ports, the registers and the memory.
 ghost use Rattle.std.specs.Prelude.{◌≡◌, ◌≤◌, IfOk, OnOk};
+ghost use Rattle.rtl_build.specs.Wires.{empty};
 ghost use Rattle.link_fifo.specs.Netlist.{with_input, with_output, frame_of};
 
 use mx_base::{NoMemory, Text};
@@ -37,6 +38,35 @@ fn add_output(alloc: Global, netlist: &mut Netlist, width: u8) -> Result<(), NoM
     Ok(())
 }
 
+// Adds all of that to a module that has nothing but a name.
+fn add_frame(
+    alloc: Global,
+    netlist: &mut Netlist,
+    width: u8,
+    depth: u32,
+    place_bits: u8,
+    count_bits: u8,
+) -> Result<(), NoMemory>
+    requires some { 1 ≤ width }
+    requires narrow { width ≤ 128 }
+    requires some_places { 1 ≤ place_bits }
+    requires narrow_places { place_bits ≤ 128 }
+    requires some_counts { 1 ≤ count_bits }
+    requires narrow_counts { count_bits ≤ 128 }
+    requires empty { netlist.old ≡ empty netlist.old.name }
+    ensures { OnOk result (netlist.new
+        ≡ frame_of netlist.old.name width depth place_bits count_bits) }
+{
+    netlist.input(text(alloc, b"clk")?, 1)?;
+    netlist.input(text(alloc, b"reset")?, 1)?;
+    add_input(alloc, netlist, width)?;
+    add_output(alloc, netlist, width)?;
+    netlist.register(text(alloc, b"r8")?, place_bits)?;
+    netlist.register(text(alloc, b"r9")?, count_bits)?;
+    netlist.memory(text(alloc, b"m0")?, width, depth)?;
+    Ok(())
+}
+
 /// The module that has the ports, the registers of the place and of the count, of `place_bits` and
 /// `count_bits` bits, and the memory of `depth` words of `width` bits, and nothing else.
 pub fn frame_of(
@@ -56,12 +86,6 @@ pub fn frame_of(
     ensures { IfOk result (λ m. m ≡ frame_of name width depth place_bits count_bits) }
 {
     let mut netlist = Netlist::new(alloc, name);
-    netlist.input(text(alloc, b"clk")?, 1)?;
-    netlist.input(text(alloc, b"reset")?, 1)?;
-    add_input(alloc, &mut netlist, width)?;
-    add_output(alloc, &mut netlist, width)?;
-    netlist.register(text(alloc, b"r8")?, place_bits)?;
-    netlist.register(text(alloc, b"r9")?, count_bits)?;
-    netlist.memory(text(alloc, b"m0")?, width, depth)?;
+    add_frame(alloc, &mut netlist, width, depth, place_bits, count_bits)?;
     Ok(netlist)
 }

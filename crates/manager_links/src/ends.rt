@@ -16,7 +16,7 @@ use std::alloc::Global;
 use stream_graph::Kernel;
 
 /// The numbers of what the two ends of a join name.
-#[derive(Clone, Copy, Debug, PartialEq, Eq)]
+#[derive(Clone, Copy, PartialEq, Eq)]
 pub(crate) struct Ends {
     pub left: usize,
     pub right: usize,

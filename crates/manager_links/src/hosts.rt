@@ -23,7 +23,7 @@ use std::alloc::Global;
 use stream_graph::{Kernel, Kind, NodeId};
 
 /// A stream from or to the CPU: its name, the port that it is joined to, and the type of its words.
-#[derive(Debug, Drop)]
+#[derive(Drop)]
 pub struct HostPort {
     pub name: Text,
     pub port: PortAt,

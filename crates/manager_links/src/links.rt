@@ -10,7 +10,7 @@ pub struct PortAt {
 }
 
 /// The output that a link comes from, and the input that it goes to.
-#[derive(Clone, Copy, Debug, PartialEq, Eq)]
+#[derive(Clone, Copy, PartialEq, Eq)]
 pub struct LinkEnds {
     pub from: PortAt,
     pub to: PortAt,

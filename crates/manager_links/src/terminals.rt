@@ -15,7 +15,7 @@ use std::alloc::Global;
 use stream_graph::{Kernel, Kind, NodeId};
 
 /// What a join can end at.
-#[derive(Clone, Copy, Debug, PartialEq, Eq)]
+#[derive(Clone, Copy, PartialEq, Eq)]
 pub(crate) enum Slot {
     /// An input or an output of a kernel.
     Port(PortAt),

@@ -9,7 +9,7 @@ use maxj_tokens::{Token, Tokens};
 use mx_base::{List, Span};
 
 /// The word of a node.
-#[derive(Clone, Copy, Debug)]
+#[derive(Clone, Copy)]
 pub enum NodeWord {
     /// It has none.
     Nothing,
@@ -30,7 +30,7 @@ pub struct Draft {
 
 /// A node of 24 bytes. Its children stand in a list with those of all nodes, from where the
 /// children of the node before it end up to `end`.
-#[derive(Clone, Copy, Debug)]
+#[derive(Clone, Copy)]
 pub struct Packed {
     pub kind: NodeKind,
     pub word: NodeWord,

@@ -41,7 +41,7 @@ pub enum Word {
 }
 
 /// The kind of a token.
-#[derive(Clone, Copy, Debug, PartialEq, Eq)]
+#[derive(Clone, Copy, PartialEq, Eq)]
 pub enum Kind {
     Sign(Sign),
     Word(Word),

@@ -1,7 +1,7 @@
 // How tightly operators bind.
 
 /// The levels of operators, the tightest first.
-#[derive(Clone, Copy, Debug, PartialEq, Eq)]
+#[derive(Clone, Copy, PartialEq, Eq)]
 pub enum Level {
     /// The prefixes `-`, `~` and `!`.
     Prefixes,

@@ -8,7 +8,7 @@ use crate::tree::NodeKind;
 use maxj_tokens::Sign;
 
 /// A class of tokens.
-#[derive(Clone, Copy, Debug)]
+#[derive(Clone, Copy)]
 pub enum TokenClass {
     /// This sign.
     Sign(Sign),
@@ -37,7 +37,7 @@ pub enum TokenClass {
 }
 
 /// What a token does to the trees that are being built.
-#[derive(Clone, Copy, Debug)]
+#[derive(Clone, Copy)]
 pub enum Effect {
     Skip,
     /// A new tree of the literal.
@@ -51,7 +51,7 @@ pub enum Effect {
 }
 
 /// What a class is, by the class that it extends.
-#[derive(Clone, Copy, Debug)]
+#[derive(Clone, Copy)]
 pub enum ClassKind {
     Kernel,
     Manager,
@@ -70,7 +70,7 @@ impl ClassKind {
 }
 
 /// What a step between tokens does to them.
-#[derive(Clone, Copy, Debug)]
+#[derive(Clone, Copy)]
 pub enum Action {
     /// A new tree.
     Begin(NodeKind),
@@ -97,7 +97,7 @@ pub enum Action {
 }
 
 /// How far a statement that begins with a primary has come.
-#[derive(Clone, Copy, Debug)]
+#[derive(Clone, Copy)]
 pub enum Form {
     Place,
     Call,
@@ -107,7 +107,7 @@ pub enum Form {
 }
 
 /// Where a declaration stands.
-#[derive(Clone, Copy, Debug)]
+#[derive(Clone, Copy)]
 pub enum Site {
     Alone,
     /// As the first part of a `for`.
@@ -115,7 +115,7 @@ pub enum Site {
 }
 
 // Made by tools/source_grammar.py from tools/source_grammar.txt: the rules.
-#[derive(Clone, Copy, Debug)]
+#[derive(Clone, Copy)]
 pub enum Rule {
     // Files and classes.
     File,
@@ -208,7 +208,7 @@ pub enum Rule {
 // By hand again.
 
 /// Where a member of a class stands.
-#[derive(Clone, Copy, Debug)]
+#[derive(Clone, Copy)]
 pub struct Inside<'a> {
     pub kind: ClassKind,
     /// The name of the class.
@@ -218,7 +218,7 @@ pub struct Inside<'a> {
 }
 
 /// The name that a member begins with.
-#[derive(Clone, Copy, Debug)]
+#[derive(Clone, Copy)]
 pub struct FirstName {
     /// Whether it is that of the class, where the constructor is still to come.
     pub own: bool,
@@ -227,7 +227,7 @@ pub struct FirstName {
 }
 
 /// A rule that speaks of a name.
-#[derive(Clone, Copy, Debug)]
+#[derive(Clone, Copy)]
 pub enum Named<'a> {
     /// What stands behind the name of the class.
     Parent(&'a [u8]),
@@ -239,7 +239,7 @@ pub enum Named<'a> {
 }
 
 /// What the parser is to read next, where that speaks of no name.
-#[derive(Clone, Copy, Debug)]
+#[derive(Clone, Copy)]
 pub enum Fixed {
     /// A token of the class.
     Mark(TokenClass, Effect),
@@ -252,7 +252,7 @@ pub enum Fixed {
 }
 
 /// What the parser is to read next.
-#[derive(Clone, Copy, Debug)]
+#[derive(Clone, Copy)]
 pub enum Symbol<'a> {
     Fixed(Fixed),
     /// This name.

@@ -10,7 +10,7 @@ use mx_base::{List, Span, Text};
 use std::marker::Model;
 
 /// What a node of the tree is.
-#[derive(Clone, Copy, Debug, PartialEq, Eq)]
+#[derive(Clone, Copy, PartialEq, Eq)]
 pub enum NodeKind {
     /// A class: its name; its members.
     Class,

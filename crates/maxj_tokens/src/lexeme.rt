@@ -8,7 +8,7 @@ use crate::sign::Sign;
 use crate::token::Token;
 
 /// What a lexeme is. The bytes of all but signs are those of the source.
-#[derive(Clone, Copy, Debug)]
+#[derive(Clone, Copy)]
 pub enum LexemeKind {
     Word,
     Whole,
@@ -18,7 +18,7 @@ pub enum LexemeKind {
 }
 
 /// A token, by its place in the source: 12 bytes.
-#[derive(Clone, Copy, Debug)]
+#[derive(Clone, Copy)]
 pub struct Lexeme {
     pub kind: LexemeKind,
     /// The number of bytes of the source before it.

@@ -4,7 +4,7 @@ ghost use Rattle.maxj_tokens.specs.Tokens.{is_sign};
 ghost use Rattle.maxj_tokens.specs.Reading.{sign_bytes};
 
 /// A sign.
-#[derive(Clone, Copy, Debug, PartialEq, Eq)]
+#[derive(Clone, Copy, PartialEq, Eq)]
 pub enum Sign {
     /// `(`
     Open,

@@ -10,7 +10,7 @@ use crate::sign::{Sign, double, single, triple};
 use text_scan::{ByteClass, after, begins_name, is_digit, is_in, split_front};
 
 /// A token of a source. All but signs stand as they are written.
-#[derive(Clone, Copy, Debug)]
+#[derive(Clone, Copy)]
 pub enum Token<'a> {
     /// A name, or a word that is no name.
     Word(&'a [u8]),
@@ -24,7 +24,7 @@ pub enum Token<'a> {
 }
 
 /// A token, and the number of bytes of the source before it.
-#[derive(Clone, Copy, Debug)]
+#[derive(Clone, Copy)]
 pub struct Placed<'a> {
     pub token: Token<'a>,
     pub at: u32,

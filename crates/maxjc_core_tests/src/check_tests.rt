@@ -1,4 +1,5 @@
 // Reports on kernels, what `compile` writes of them and what `check` says of them.
+use crate::files::{files_with, put};
 use crate::kernel_sources::{SLOW, SQUARE, SUM3};
 use crate::kernel_tests::compiled;
 use crate::schedule_tests::{ITSELF, MANAGER};
@@ -163,17 +164,14 @@ fn expect_check(
 
 // Files in memory with this source and this table, which fail at these calls.
 fn project(alloc: Global, source: &[u8], table: &[u8], fails: &[u64]) -> Result<MemFiles, Fail> {
-    let mut files = MemFiles::new(alloc, fails.to_vec(alloc)?)?;
-    files.put(&text(alloc, b"source")?, source)?;
-    files.put(&text(alloc, b"table")?, table)?;
-    Ok(files)
+    files_with(alloc, &[(b"source", source), (b"table", table)], fails)
 }
 
 // How `check` ends with this report on the sum of three neighbours. The report is as before.
 fn expect_case(rt: &impl Abort, alloc: Global, case: &Case, status: Status) -> Result<(), Fail> {
     let mut files = project(alloc, SUM3, SLOW, &[])?;
     let bytes = report(alloc, case)?;
-    files.put(&text(alloc, b"report")?, &bytes)?;
+    put(alloc, &mut files, b"report", &bytes)?;
     expect_check(rt, alloc, &mut files, status, case.said)?;
     let held = read_whole(alloc, &mut files, &text(alloc, b"report")?, 10_000)?;
     assert!(rt; held == bytes);
@@ -247,7 +245,7 @@ fn a_read_that_fails_ends_the_check(rt: HostRuntime) -> Result<(), Fail> {
     let alloc = rt.alloc();
     for call in 1..7 {
         let mut files = project(alloc, SUM3, SLOW, &[call])?;
-        files.put(&text(alloc, b"report")?, &report(alloc, &SHOWN)?)?;
+        put(alloc, &mut files, b"report", &report(alloc, &SHOWN)?)?;
         expect_check(&rt, alloc, &mut files, Status::ReadFault, b"")?;
     }
     Ok(())
@@ -281,7 +279,7 @@ fn projects_are_refused_before_reports(rt: HostRuntime) -> Result<(), Fail> {
     ];
     for (source, table, said) in projects {
         let mut files = project(alloc, source, table, &[])?;
-        files.put(&text(alloc, b"report")?, b"no report")?;
+        put(alloc, &mut files, b"report", b"no report")?;
         expect_check(&rt, alloc, &mut files, Status::Refused, said)?;
     }
     Ok(())
@@ -291,7 +289,7 @@ fn projects_are_refused_before_reports(rt: HostRuntime) -> Result<(), Fail> {
 fn a_line_that_cannot_be_said(rt: HostRuntime) -> Result<(), Fail> {
     let alloc = rt.alloc();
     let mut files = project(alloc, SUM3, SLOW, &[])?;
-    files.put(&text(alloc, b"report")?, &report(alloc, &SHOWN)?)?;
+    put(alloc, &mut files, b"report", &report(alloc, &SHOWN)?)?;
     let mut say = MemSay::new(alloc, [1u64].to_vec(alloc)?)?;
     let line = words(alloc, &[b"check", b"source", b"table", b"report"])?;
     let ended = run(alloc, &line, &mut files, &mut say);

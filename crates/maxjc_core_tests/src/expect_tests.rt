@@ -1,4 +1,5 @@
 // What `expect` writes and says of runs, and what it refuses.
+use crate::files::{put, put_all};
 use crate::kernel_sources::{GUARD, NEXT, PEEK, QUOT, SHIFTED};
 use crate::kernel_tests::compiled;
 use crate::manager_tests::{CHAIN, split_and_add};
@@ -41,21 +42,24 @@ fn report_of(rt: &impl Abort, alloc: Global, row: &Row<'_>) -> Result<Vec<u8>, F
     Ok(read_whole(alloc, &mut files, &text(alloc, b"report")?, 1_000_000)?)
 }
 
-// Files in memory that hold a row, this report, output files of an earlier run and one more file,
-// and fail at these calls.
+// Puts what a row has, this report, output files of an earlier run and one more file.
+fn put_row(alloc: Global, files: &mut MemFiles, row: &Row<'_>, report: &[u8]) -> Result<(), Fail> {
+    put(alloc, files, b"source", row.source)?;
+    put(alloc, files, b"table", IMMEDIATE)?;
+    put(alloc, files, b"report", report)?;
+    put(alloc, files, b"run", row.run)?;
+    put(alloc, files, b"other", b"as before")?;
+    put_all(alloc, files, row.inputs)?;
+    for (name, _) in row.outputs {
+        put(alloc, files, name, b"as before")?;
+    }
+    Ok(())
+}
+
+// Files in memory that hold these, and fail at these calls.
 fn held(alloc: Global, row: &Row<'_>, report: &[u8], fails: &[u64]) -> Result<MemFiles, Fail> {
     let mut files = MemFiles::new(alloc, fails.to_vec(alloc)?)?;
-    files.put(&text(alloc, b"source")?, row.source)?;
-    files.put(&text(alloc, b"table")?, IMMEDIATE)?;
-    files.put(&text(alloc, b"report")?, report)?;
-    files.put(&text(alloc, b"run")?, row.run)?;
-    files.put(&text(alloc, b"other")?, b"as before")?;
-    for (name, words) in row.inputs {
-        files.put(&text(alloc, name)?, words)?;
-    }
-    for (name, _) in row.outputs {
-        files.put(&text(alloc, name)?, b"as before")?;
-    }
+    put_row(alloc, &mut files, row, report)?;
     Ok(files)
 }
 
@@ -419,7 +423,7 @@ fn files_that_are_not_held(rt: HostRuntime) -> Result<(), Fail> {
 
     let mut files = MemFiles::new(alloc, Vec::new(alloc))?;
     for name in [b"source".as_slice(), b"table", b"report"] {
-        files.put(&text(alloc, name)?, b"")?;
+        put(alloc, &mut files, name, b"")?;
         let mut say = MemSay::new(alloc, Vec::new(alloc))?;
         let ended = run_expect(alloc, &mut files, &mut say)?;
         assert!(rt; ended == Status::ReadFault);

@@ -1,4 +1,5 @@
 // Worked kernels, from their sources to the words that leave.
+use crate::files::{files_with, put, put_all};
 use crate::kernel_sources::{
     FAR, FIVE, LONG, NEXT, QUOT, SINK, SLOW, SQUARE, STENCIL, SUM3, TIES, WIDE, ZERO,
 };
@@ -199,9 +200,7 @@ pub(crate) fn compiled(
     table: &[u8],
     said: &[u8],
 ) -> Result<MemFiles, Fail> {
-    let mut files = MemFiles::new(alloc, Vec::new(alloc))?;
-    files.put(&text(alloc, b"source")?, source)?;
-    files.put(&text(alloc, b"table")?, table)?;
+    let mut files = files_with(alloc, &[(b"source", source), (b"table", table)], &[])?;
     let mut say = MemSay::new(alloc, Vec::new(alloc))?;
     let ended = run(alloc, &compile_words(alloc)?, &mut files, &mut say);
     assert!(rt; say.bytes() == said);
@@ -216,10 +215,8 @@ fn simulate(
     worked: &Worked<'_>,
     files: &mut MemFiles,
 ) -> Result<(), Fail> {
-    files.put(&text(alloc, b"run")?, worked.run)?;
-    for (name, words) in worked.inputs {
-        files.put(&text(alloc, name)?, words)?;
-    }
+    put(alloc, files, b"run", worked.run)?;
+    put_all(alloc, files, worked.inputs)?;
     let mut say = MemSay::new(alloc, Vec::new(alloc))?;
     let ended = run_with_port_1_stalled(alloc, &simulate_words(alloc)?, files, &mut say);
     let what = text(alloc, worked.compiled)?;

@@ -8,6 +8,8 @@ mod check_tests;
 #[cfg(test)]
 mod expect_tests;
 #[cfg(test)]
+mod files;
+#[cfg(test)]
 mod kernel_sources;
 #[cfg(test)]
 mod kernel_tests;

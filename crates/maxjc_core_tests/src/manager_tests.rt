@@ -1,4 +1,5 @@
 // Managers that link kernels: what is compiled, checked and simulated, and what is refused.
+use crate::files::put;
 use crate::kernel_tests::{Left, Worked, compiled, expect_worked};
 use crate::schedule_tests::MANAGER;
 use crate::simulate_tests::simulate_words;
@@ -150,8 +151,8 @@ fn streams_that_part_meet_again(rt: HostRuntime) -> Result<(), Fail> {
     assert!(rt; ended == Status::Done);
     assert!(rt; say.bytes() == b"kernel A least 0\nkernel B least 0\n".as_slice());
 
-    files.put(&text(alloc, b"run")?, RUN)?;
-    files.put(&text(alloc, b"x.txt")?, &lines_of(alloc, 200, 0, 1)?)?;
+    put(alloc, &mut files, b"run", RUN)?;
+    put(alloc, &mut files, b"x.txt", &lines_of(alloc, 200, 0, 1)?)?;
     let mut say = MemSay::new(alloc, Vec::new(alloc))?;
     let ended = run(alloc, &simulate_words(alloc)?, &mut files, &mut say);
     assert!(rt; say.bytes() == b"done after 303 edges\n".as_slice());

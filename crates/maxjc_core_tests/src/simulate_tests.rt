@@ -1,4 +1,5 @@
 // Texts that are simulated: what is said, and the words that leave.
+use crate::files::put;
 use crate::tests::IMMEDIATE;
 use maxjc_core::{Status, maxjc};
 use mx_base::{MemFiles, MemSay, Text, read_whole};
@@ -78,15 +79,20 @@ pub(crate) fn simulate_words(alloc: Global) -> Result<Vec<Text>, Fail> {
     Ok(words)
 }
 
-// Files in memory that hold the case, and an output file of an earlier run.
-fn held(alloc: Global, case: &Case<'_>) -> Result<MemFiles, Fail> {
-    let mut files = MemFiles::new(alloc, Vec::new(alloc))?;
+// Puts what a case has, and an output file of an earlier run.
+fn put_case(alloc: Global, files: &mut MemFiles, case: &Case<'_>) -> Result<(), Fail> {
     let mut bytes = case.head.to_vec(alloc)?;
     bytes.extend_from_slice(case.body)?;
-    files.put(&text(alloc, b"text")?, &bytes)?;
-    files.put(&text(alloc, b"run")?, case.run)?;
-    files.put(&text(alloc, b"x.txt")?, case.x)?;
-    files.put(&text(alloc, b"y.txt")?, b"as before")?;
+    put(alloc, files, b"text", &bytes)?;
+    put(alloc, files, b"run", case.run)?;
+    put(alloc, files, b"x.txt", case.x)?;
+    put(alloc, files, b"y.txt", b"as before")
+}
+
+// Files in memory that hold these.
+fn held(alloc: Global, case: &Case<'_>) -> Result<MemFiles, Fail> {
+    let mut files = MemFiles::new(alloc, Vec::new(alloc))?;
+    put_case(alloc, &mut files, case)?;
     Ok(files)
 }
 
@@ -288,6 +294,20 @@ const ONE_TICK: &[u8] =
 const THREE_TICKS: &[u8] =
     b"{\"ticks\":{\"Double\":3},\"inputs\":{\"x\":\"x.txt\"},\"outputs\":{\"y\":\"y.txt\"},\"edges\":1000,\"pattern\":1}";
 
+// Puts a source, a table without latencies, a run file and the words of x.
+fn put_source(
+    alloc: Global,
+    files: &mut MemFiles,
+    source: &[u8],
+    run_file: &[u8],
+    x: &[u8],
+) -> Result<(), Fail> {
+    put(alloc, files, b"source", source)?;
+    put(alloc, files, b"table", IMMEDIATE)?;
+    put(alloc, files, b"run", run_file)?;
+    put(alloc, files, b"x.txt", x)
+}
+
 // The words that a source gives, compiled and simulated under the program's pattern.
 fn expect_words(
     rt: &impl Abort,
@@ -298,10 +318,7 @@ fn expect_words(
     y: &[u8],
 ) -> Result<(), Fail> {
     let mut files = MemFiles::new(alloc, Vec::new(alloc))?;
-    files.put(&text(alloc, b"source")?, source)?;
-    files.put(&text(alloc, b"table")?, IMMEDIATE)?;
-    files.put(&text(alloc, b"run")?, run_file)?;
-    files.put(&text(alloc, b"x.txt")?, x)?;
+    put_source(alloc, &mut files, source, run_file, x)?;
     let mut say = MemSay::new(alloc, Vec::new(alloc))?;
     let ended = run(alloc, &compile_words(alloc)?, &mut files, &mut say);
     assert!(rt; ended == Status::Done);

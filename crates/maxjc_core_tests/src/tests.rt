@@ -1,3 +1,4 @@
+use crate::files::{files_with, put};
 use maxjc_core::{Status, maxjc};
 use mx_base::{MemFiles, MemSay, Text, read_whole};
 use stall_source::{Pattern, program_stalls};
@@ -41,11 +42,12 @@ pub(crate) fn words(alloc: Global, line: &[&[u8]]) -> Result<Vec<Text>, Fail> {
 
 // Files in memory that hold this source and a table without latencies, and fail at these calls.
 fn project(alloc: Global, source: &[u8], fails: &[u64]) -> Result<MemFiles, Fail> {
-    let mut files = MemFiles::new(alloc, fails.to_vec(alloc)?)?;
-    files.put(&text(alloc, b"source")?, source)?;
-    files.put(&text(alloc, b"table")?, IMMEDIATE)?;
-    files.put(&text(alloc, b"other")?, b"as before")?;
-    Ok(files)
+    let held: [(&[u8], &[u8]); 3] = [
+        (b"source", source),
+        (b"table", IMMEDIATE),
+        (b"other", b"as before"),
+    ];
+    files_with(alloc, &held, fails)
 }
 
 pub(crate) fn compile_words(alloc: Global) -> Result<Vec<Text>, Fail> {
@@ -87,7 +89,7 @@ pub(crate) fn expect_end_with(
     said: &[u8],
 ) -> Result<(), Fail> {
     let mut files = project(alloc, source, &[])?;
-    files.put(&text(alloc, b"table")?, table)?;
+    put(alloc, &mut files, b"table", table)?;
     let mut say = MemSay::new(alloc, Vec::new(alloc))?;
     let ended = run(alloc, &compile_words(alloc)?, &mut files, &mut say);
     assert!(rt; ended == status, "{:?}", text(alloc, source)?);

@@ -8,7 +8,7 @@ use std::alloc::Global;
 use stream_graph::{Kernel, Kind, NodeId};
 
 /// The node `to` reads the words of the node `from`, so many ticks ahead, below 0 for the past.
-#[derive(Clone, Copy, Debug, PartialEq, Eq)]
+#[derive(Clone, Copy, PartialEq, Eq)]
 pub struct Edge {
     pub from: u32,
     pub to: u32,

@@ -7,7 +7,7 @@ use std::alloc::Global;
 use stream_graph::{Kernel, Kind, NodeId};
 
 /// The words of a node that is no offset, so many ticks ahead, below 0 for the past.
-#[derive(Clone, Copy, Debug, PartialEq, Eq)]
+#[derive(Clone, Copy, PartialEq, Eq)]
 pub struct Source {
     pub node: u32,
     pub offset: i64,

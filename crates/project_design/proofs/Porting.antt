@@ -105,18 +105,16 @@ own_ports project = kernel_ports (kernel_names project.kernels) ++ scalar_ports 
 abbrev pub stream_ports : Project → List PortView
 stream_ports project = host_input_ports (map host_shape project.joints.inputs) ++ host_output_ports (map host_shape project.joints.outputs)
 
-pub clock_made : (m0 m1 m2 : Module) → m0 ≡ empty (codes "top$project") → m1 ≡ with_port m0 (codes "clk") 1 false → m2 ≡ with_port m1 (codes "reset") 1 false
-    → m2 ≡ with_ports (empty (codes "top$project")) (input_port (codes "clk") 1 ∷ input_port (codes "reset") 1 ∷ [])
-clock_made m0 m1 m2 e0 e1 e2 =
-    e2 ∙ ap (λ m. with_port m (codes "reset") 1 false) e1 ∙ ap (λ m. with_port (with_port m (codes "clk") 1 false) (codes "reset") 1 false) e0
+pub clock_made : (m0 m1 m2 : Module) → m1 ≡ with_port m0 (codes "clk") 1 false → m2 ≡ with_port m1 (codes "reset") 1 false
+    → m2 ≡ with_ports m0 (input_port (codes "clk") 1 ∷ input_port (codes "reset") 1 ∷ [])
+clock_made m0 m1 m2 e1 e2 = e2 ∙ ap (λ m. with_port m (codes "reset") 1 false) e1
 
-pub ports_together : (project : Project) (m2 m4 m6 m7 : Module)
-    → m2 ≡ with_ports (empty (codes "top$project")) (input_port (codes "clk") 1 ∷ input_port (codes "reset") 1 ∷ [])
+pub ports_together : (project : Project) (s m2 m4 m6 m7 : Module)
+    → m2 ≡ with_ports s (input_port (codes "clk") 1 ∷ input_port (codes "reset") 1 ∷ [])
     → m4 ≡ with_ports m2 (own_ports project) → m6 ≡ with_ports m4 (stream_ports project)
     → m7 ≡ with_port m6 (codes "done") 1 true
-    → m7 ≡ with_ports (empty (codes "top$project")) (shape_ports (shape_of project))
-ports_together project m2 m4 m6 m7 e2 e4 e6 e7 =
-    let s = empty (codes "top$project") in
+    → m7 ≡ with_ports s (shape_ports (shape_of project))
+ports_together project s m2 m4 m6 m7 e2 e4 e6 e7 =
     let a : List PortView = input_port (codes "clk") 1 ∷ input_port (codes "reset") 1 ∷ [] in
     let b = kernel_ports (kernel_names project.kernels) in
     let c = scalar_ports (flat_map scalar_shapes project.kernels) in

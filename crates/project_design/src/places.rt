@@ -7,7 +7,7 @@ use manager_links::Project;
 
 /// The numbers of the first ports of the scalars and of the streams from the host and to it, and of
 /// `done`.
-#[derive(Clone, Copy, Debug, PartialEq, Eq)]
+#[derive(Clone, Copy, PartialEq, Eq)]
 pub(crate) struct Places {
     pub scalars: u32,
     pub inputs: u32,

@@ -195,15 +195,14 @@ fn add_outputs(
     Ok(())
 }
 
-// The module `top$project` that has a clock and a reset.
-fn clocked(alloc: Global) -> Result<Netlist, NoMemory>
-    ensures { IfOk result (λ m. m ≡ with_ports (empty (codes "top$project"))
+// Adds a clock and a reset.
+fn add_clock(alloc: Global, netlist: &mut Netlist) -> Result<(), NoMemory>
+    ensures { OnOk result (netlist.new ≡ with_ports netlist.old
         (input_port (codes "clk") 1 ∷ input_port (codes "reset") 1 ∷ [])) }
 {
-    let mut netlist = Netlist::new(alloc, text(alloc, b"top$project")?);
     netlist.input(text(alloc, b"clk")?, 1)?;
     netlist.input(text(alloc, b"reset")?, 1)?;
-    Ok(netlist)
+    Ok(())
 }
 
 // The ports of the kernels of a project.
@@ -228,14 +227,24 @@ fn add_streams(alloc: Global, netlist: &mut Netlist, project: &Project) -> Resul
     Ok(())
 }
 
+// Adds the ports of the design of a project.
+fn add_ports(alloc: Global, netlist: &mut Netlist, project: &Project) -> Result<(), NoMemory>
+    ensures { OnOk result (netlist.new
+        ≡ with_ports netlist.old (shape_ports (shape_of project.now))) }
+{
+    add_clock(alloc, netlist)?;
+    add_own(alloc, netlist, project)?;
+    add_streams(alloc, netlist, project)?;
+    netlist.output(text(alloc, b"done")?, 1)?;
+    Ok(())
+}
+
 /// The module `top$project` that has the ports of the design of a project, and nothing else.
 pub fn ports_alone(alloc: Global, project: &Project) -> Result<Netlist, NoMemory>
     ensures { IfOk result (λ m. m
         ≡ with_ports (empty (codes "top$project")) (shape_ports (shape_of project.now))) }
 {
-    let mut netlist = clocked(alloc)?;
-    add_own(alloc, &mut netlist, project)?;
-    add_streams(alloc, &mut netlist, project)?;
-    netlist.output(text(alloc, b"done")?, 1)?;
+    let mut netlist = Netlist::new(alloc, text(alloc, b"top$project")?);
+    add_ports(alloc, &mut netlist, project)?;
     Ok(netlist)
 }

@@ -5,7 +5,7 @@ use kernel_words::Streams;
 use mx_base::List;
 
 /// The words of all nodes of all kernels of a project in a run, kernel by kernel.
-#[derive(Debug, Drop)]
+#[derive(Drop)]
 pub struct ProjectWords {
     pub(crate) kernels: List<Streams>,
 }

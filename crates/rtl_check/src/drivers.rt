@@ -18,7 +18,7 @@ use rtl_ir::{Design, Instance, Module, RtlError, Target};
 use std::alloc::Global;
 
 /// What is known of the sources of a net, or of the updates of a memory.
-#[derive(Clone, Copy, Debug, PartialEq, Eq)]
+#[derive(Clone, Copy, PartialEq, Eq)]
 pub enum Fed {
     /// There is none.
     Never,

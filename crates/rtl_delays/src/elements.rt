@@ -15,7 +15,7 @@ use rtl_build::{Netlist, Signal};
 use std::alloc::Global;
 
 /// A delay: a register is one of one advance, and a ring one of as many as it has words.
-#[derive(Clone, Copy, Debug, PartialEq, Eq)]
+#[derive(Clone, Copy, PartialEq, Eq)]
 pub enum Element {
     Register(Signal),
     Ring(Ring),

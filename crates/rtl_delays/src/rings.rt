@@ -17,7 +17,7 @@ use rtl_ir::{MemId, Sign};
 use std::alloc::Global;
 
 /// A memory of `words` words, a register that points to one of them, and a wire of the word there.
-#[derive(Clone, Copy, Debug, PartialEq, Eq)]
+#[derive(Clone, Copy, PartialEq, Eq)]
 pub struct Ring {
     pub pointer: Signal,
     pub memory: MemId,

@@ -38,7 +38,7 @@ pub struct Port {
 /// `Add`, `Sub`, `Mul` and `Div` are those of IEEE 1364-2005, 5.1.5, `And`, `Or` and `Xor` those of
 /// 5.1.10. `Eq` is `==` of 5.1.8 and `Lt` is `<` of 5.1.7, each with one bit as its result. A
 /// quotient by 0 is 0, where the standard has `x`.
-#[derive(Clone, Copy, Debug, PartialEq, Eq)]
+#[derive(Clone, Copy, PartialEq, Eq)]
 pub enum Sign {
     Add,
     Sub,
@@ -52,7 +52,7 @@ pub enum Sign {
 }
 
 /// The right side of an assignment. Its operands are nets and memories of the module, by number.
-#[derive(Clone, Copy, Debug, PartialEq, Eq)]
+#[derive(Clone, Copy, PartialEq, Eq)]
 pub enum Expr {
     /// The value of a net.
     Net(NetId),
@@ -78,14 +78,14 @@ pub enum Expr {
 
 /// A continuous assignment: the net `target` has the value of the expression at all times
 /// (IEEE 1364-2005, 6.1).
-#[derive(Clone, Copy, Debug, PartialEq, Eq)]
+#[derive(Clone, Copy, PartialEq, Eq)]
 pub struct Assign {
     pub target: NetId,
     pub expr: Expr,
 }
 
 /// What an update writes.
-#[derive(Clone, Copy, Debug, PartialEq, Eq)]
+#[derive(Clone, Copy, PartialEq, Eq)]
 pub enum Target {
     /// A register, by the number of its net.
     Reg(NetId),
@@ -97,7 +97,7 @@ pub enum Target {
 /// (IEEE 1364-2005, 9.2.2 and 9.4).
 ///
 /// The value of the net `value` is written, as it was before the edge.
-#[derive(Clone, Copy, Debug, PartialEq, Eq)]
+#[derive(Clone, Copy, PartialEq, Eq)]
 pub struct Update {
     pub enable: NetId,
     pub target: Target,

@@ -37,7 +37,7 @@ impl NetId {
 }
 
 /// The number of a memory in its module, from 0. A contract sees the number alone.
-#[derive(Clone, Copy, Debug, Default, PartialEq, Eq)]
+#[derive(Clone, Copy, Default, PartialEq, Eq)]
 pub struct MemId {
     number: u32,
 }
@@ -70,7 +70,7 @@ impl MemId {
 }
 
 /// The number of a module in its design, from 0. A contract sees the number alone.
-#[derive(Clone, Copy, Debug, Default, PartialEq, Eq)]
+#[derive(Clone, Copy, Default, PartialEq, Eq)]
 pub struct ModuleId {
     number: u32,
 }

@@ -4,7 +4,7 @@ use mx_base::List;
 
 /// Costs `weight` times the time from node `from` to node `to`. Its route is the arc from `from` to
 /// `to` where `mid` is `to`, else an arc from `from` to `mid` and one from `mid` to `to`.
-#[derive(Clone, Copy, Debug, PartialEq, Eq)]
+#[derive(Clone, Copy, PartialEq, Eq)]
 pub struct Term {
     pub from: u32,
     pub to: u32,

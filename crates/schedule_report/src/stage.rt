@@ -13,7 +13,7 @@ use mx_base::{List, NoMemory, Text};
 use std::alloc::Global;
 
 /// How far a report has been read.
-#[derive(Debug, Drop)]
+#[derive(Drop)]
 pub enum Stage {
     /// No line yet.
     Start,

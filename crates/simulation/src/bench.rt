@@ -81,14 +81,14 @@ impl<'a> Bench<'a> {
         ensures write_quiet { (result ≡ Err stops.WriteFault → ⊥) → F.write_faults files.new ≡ F.write_faults files.old }
         ensures write_fault { result ≡ Err stops.WriteFault → Rose (F.write_faults files.old) (F.write_faults files.new) }
     {
-        let mut sim = Sim::new(alloc, design, ports, plan.fill)?;
-        set_all(&mut sim, plan.ticks.as_slice(), plan.scalars.as_slice());
         let (kernels, inputs, outputs) = (plan.ticks.len(), plan.inputs.len(), plan.outputs.len());
-        let readers = open(alloc, plan.inputs)?;
         let stalled = vec![in alloc; false; inputs + outputs + kernels]?;
         let offers = vec![in alloc; NOTHING; inputs]?;
         let accepts = vec![in alloc; false; outputs]?;
         let events = vec![in alloc; UNMOVED; inputs + outputs]?;
+        let readers = open(alloc, plan.inputs)?;
+        let mut sim = Sim::new(alloc, design, ports, plan.fill)?;
+        set_all(&mut sim, plan.ticks.as_slice(), plan.scalars.as_slice());
         let writers = create_all(alloc, files, plan.outputs)?;
         Ok(Bench {
             sim,

@@ -8,7 +8,7 @@ use verilog_sim::SimError;
 use word_files::WordError;
 
 /// How a run ended: whether the port done was 1, and after how many edges.
-#[derive(Clone, Copy, Debug, PartialEq, Eq)]
+#[derive(Clone, Copy, PartialEq, Eq)]
 pub struct Outcome {
     pub done: bool,
     pub edges: u64,

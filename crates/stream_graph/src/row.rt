@@ -5,14 +5,14 @@ use fix_arith::{RoundMode, StreamType};
 use mx_bits::Op;
 
 /// Items of a longer list: from a place on, so many.
-#[derive(Clone, Copy, Debug, PartialEq, Eq)]
+#[derive(Clone, Copy, PartialEq, Eq)]
 pub struct Piece {
     pub from: u32,
     pub len: u32,
 }
 
 /// A call, whose name or operands stand in a longer list.
-#[derive(Clone, Copy, Debug, PartialEq, Eq)]
+#[derive(Clone, Copy, PartialEq, Eq)]
 pub enum Row {
     Input(Piece, StreamType, Option<u32>),
     Output(Piece, NodeId, Option<u32>, StreamType),

@@ -9,7 +9,7 @@ use mx_bits::{Op, Word};
 
 /// Counts what the calls of a kernel make. A count but that of the nodes stays at its last value,
 /// 2^32 - 1, once it stands there.
-#[derive(Clone, Copy, Debug, PartialEq, Eq)]
+#[derive(Clone, Copy, PartialEq, Eq)]
 pub struct Tally {
     pub nodes: u32,
     pub operands: u32,

@@ -5,7 +5,7 @@ ghost use Rattle.verilog_syntax.specs.Pieces.{keyword_bytes};
 use crate::mark::Mark;
 
 /// A word that is no name.
-#[derive(Clone, Copy, Debug)]
+#[derive(Clone, Copy)]
 pub enum Keyword {
     Module,
     Endmodule,
@@ -43,7 +43,7 @@ impl Keyword {
 }
 
 /// A token that is known beforehand.
-#[derive(Clone, Copy, Debug)]
+#[derive(Clone, Copy)]
 pub enum Piece {
     Word(Keyword),
     Sign(Mark),

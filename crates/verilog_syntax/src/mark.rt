@@ -6,7 +6,7 @@ ghost use Rattle.verilog_syntax.specs.Scanning.{mark_bytes};
 use rtl_ir::Sign;
 
 /// A sign of the Verilog subset.
-#[derive(Clone, Copy, Debug, PartialEq, Eq)]
+#[derive(Clone, Copy, PartialEq, Eq)]
 pub enum Mark {
     /// `(`
     Open,

@@ -13,7 +13,7 @@ use rtl_ir::Sign;
 use text_scan::{ByteClass, after, begins_name, is_digit, split_front};
 
 /// A token of a text. Numbers stand as they are written, since they may have any number of digits.
-#[derive(Clone, Copy, Debug)]
+#[derive(Clone, Copy)]
 pub enum Token<'a> {
     /// A name or a reserved word (IEEE 1364-2005, 3.7).
     Word(&'a [u8]),
@@ -25,7 +25,7 @@ pub enum Token<'a> {
 }
 
 /// A token, and the number of bytes of the text before it.
-#[derive(Clone, Copy, Debug)]
+#[derive(Clone, Copy)]
 pub struct Placed<'a> {
     pub token: Token<'a>,
     pub at: u32,

@@ -5,14 +5,14 @@ use mx_bits::Word;
 use rtl_ir::Sign;
 
 /// A port: its width in bits, from 1 to 128, and its name (IEEE 1364-2005, 12.3.4).
-#[derive(Clone, Copy, Debug)]
+#[derive(Clone, Copy)]
 pub enum PortTree<'a> {
     Input(u8, &'a [u8]),
     Output(u8, &'a [u8]),
 }
 
 /// The right side of an assignment, by the names of its operands.
-#[derive(Clone, Copy, Debug)]
+#[derive(Clone, Copy)]
 pub enum ExprTree<'a> {
     Plain(&'a [u8]),
     /// A number with its width (IEEE 1364-2005, 3.5.1).
@@ -32,7 +32,7 @@ pub enum ExprTree<'a> {
 }
 
 /// An update of a register or of a memory's word.
-#[derive(Clone, Copy, Debug)]
+#[derive(Clone, Copy)]
 pub enum UpdateTree<'a> {
     /// The enable, the register, and the value.
     Register(&'a [u8], &'a [u8], &'a [u8]),
@@ -41,7 +41,7 @@ pub enum UpdateTree<'a> {
 }
 
 /// A port of an instance, and the net that it is joined to.
-#[derive(Clone, Copy, Debug)]
+#[derive(Clone, Copy)]
 pub struct Connection<'a> {
     pub port: &'a [u8],
     pub net: &'a [u8],

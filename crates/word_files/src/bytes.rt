@@ -13,7 +13,7 @@ use std::alloc::Global;
 const PIECE: usize = 4_096;
 
 /// The bytes of a file from a place on, of which some are read ahead.
-#[derive(Debug, Drop)]
+#[derive(Drop)]
 pub(crate) struct FileBytes {
     pub(crate) buffer: Vec<u8>,
     pub(crate) from: usize,

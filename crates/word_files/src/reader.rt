@@ -19,7 +19,7 @@ use std::alloc::Global;
 ///
 /// After a refusal it reads no more, and answers that refusal again; likewise after the end of the
 /// file. After want of memory nothing is said of what it answers next.
-#[derive(Debug, Drop)]
+#[derive(Drop)]
 pub struct WordReader {
     pub(crate) alloc: Global,
     pub(crate) name: Text,

@@ -2,7 +2,7 @@
 use mx_base::{List, Text};
 
 /// How a text is run.
-#[derive(Debug, Drop)]
+#[derive(Drop)]
 pub struct RunFile {
     /// The ticks of each kernel, at most 2^40.
     pub ticks: List<(Text, u64)>,

@@ -17,7 +17,7 @@ const PIECE: usize = 4_096;
 /// Writes a file of words, one a line: as many lower-case hexadecimal digits as the width over 4
 /// rounded up, ended by LF; an undefined word has `x` for each digit. Whole lines of fewer than 4,096
 /// bytes wait, and are written together.
-#[derive(Debug, Drop)]
+#[derive(Drop)]
 pub struct WordWriter {
     pub(crate) name: Text,
     pub(crate) width: u8,

@@ -1,9 +1,11 @@
-use Rattle.std.specs.Prelude.{true}
-use Rattle.project_design.proofs.Porting.{ported, ports_together}
+use Rattle.std.proofs.Common.{ap, ◌∙◌}
+use Rattle.rtl_build.specs.Wires.{empty}
+use Rattle.rtl_ir.specs.Ports.{shape_ports}
+use Rattle.project_rtl.specs.Shapes.{shape_of}
+use Rattle.project_design.specs.Building.{with_ports}
 use Rattle.project_design.proofs.ports.ports_alone.Goals as goal
 
 pub returns : goal.returns
 returns c =
-    ports_together c.args.project.now c.in_ok-netlist.netlist c.add_own.new.netlist c.add_streams.new.netlist c.output.new.self
-    c.in_ok-netlist.ensures c.in_ok-add_own.ensures c.in_ok-add_streams.ensures
-    (ported c.add_streams.new.netlist c.output.new.self _ _ 1 true c.in_ok-output.ensures.port.is c.in_ok-text.ensures)
+    c.in_ok-add_ports.ensures
+    ∙ ap (λ m. with_ports m (shape_ports (shape_of c.args.project.now))) (c.new-netlist.ensures ∙ ap empty c.in_ok-text.ensures)

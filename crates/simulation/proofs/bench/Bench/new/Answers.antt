@@ -13,7 +13,7 @@ use Rattle.simulation.proofs.bench.Bench.new.Goals as goal
 
 pub returns-in_err-sim-clause-too_many : goal.returns-in_err-sim-clause-too_many
 returns-in_err-sim-clause-too_many g c = λ many.
-    let p = err_from_is_err_and c.from_residual.result c.from_residual.ensures.1 in
+    let p = err_from_is_err_and c.from_residual-in_err-sim.result c.from_residual-in_err-sim.ensures.1 in
     rw (p.1, p.2) (refusal_of _ _ c.in_err-sim.ensures.refusal, refl, tt)
 
 pub new-requires-clause-ports : goal.new-requires-clause-ports
@@ -95,7 +95,7 @@ returns-clause-begins g c = λ m s top has told.
 
 pub returns-in_err-sim-clause-stopped : goal.returns-in_err-sim-clause-stopped
 returns-in_err-sim-clause-stopped g c =
-    let p = err_from_is_err_and c.from_residual.result c.from_residual.ensures.1 in
+    let p = err_from_is_err_and c.from_residual-in_err-sim.result c.from_residual-in_err-sim.ensures.1 in
     rw (p.1) (λ told. none_created c.args.plan.outputs (g.F.Files.held c.args.files.now))
 
 pub returns-in_err-readers-clause-stopped : goal.returns-in_err-readers-clause-stopped
@@ -105,7 +105,7 @@ returns-in_err-readers-clause-stopped g c =
 
 pub returns-in_err-stalled-clause-stopped : goal.returns-in_err-stalled-clause-stopped
 returns-in_err-stalled-clause-stopped g c =
-    let p = err_from_is_err_and c.from_residual-in_err-stalled.result c.from_residual-in_err-stalled.ensures.1 in
+    let p = err_from_is_err_and c.from_residual.result c.from_residual.ensures.1 in
     rw (p.1) (λ told. none_created c.args.plan.outputs (g.F.Files.held c.args.files.now))
 
 pub returns-in_err-offers-clause-stopped : goal.returns-in_err-offers-clause-stopped
