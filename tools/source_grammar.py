@@ -405,7 +405,7 @@ def sentence(text):
 
 def rules_coded(look):
     """The rules as an enum."""
-    lines = ["#[derive(Clone, Copy, Debug)]", "pub enum Rule {"]
+    lines = ["#[derive(Clone, Copy)]", "pub enum Rule {"]
     sections = {choice.rule: choice.section for choice in reversed(look.grammar.choices)}
     section = ""
     for rule, kind in look.grammar.rules.items():
