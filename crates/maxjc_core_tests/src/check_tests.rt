@@ -1,11 +1,12 @@
 // Reports on kernels, what `compile` writes of them and what `check` says of them.
-use crate::files::{files_with, put};
+use crate::commands::{CHECK, expect_ends, expect_unsaid};
+use crate::files::{expect_file, files_with, put};
 use crate::kernel_sources::{SLOW, SQUARE, SUM3};
 use crate::kernel_tests::compiled;
 use crate::schedule_tests::{ITSELF, MANAGER};
-use crate::tests::{DOUBLE, IMMEDIATE, run, text, words};
+use crate::tests::{DOUBLE, IMMEDIATE, text};
 use maxjc_core::Status;
-use mx_base::{MemFiles, MemSay, read_whole};
+use mx_base::{MemFiles, read_whole};
 use std::alloc::Global;
 use std::process::Abort;
 use std::test::Fail;
@@ -154,12 +155,7 @@ fn expect_check(
     status: Status,
     said: &[u8],
 ) -> Result<(), Fail> {
-    let mut say = MemSay::new(alloc, Vec::new(alloc))?;
-    let line = words(alloc, &[b"check", b"source", b"table", b"report"])?;
-    let ended = run(alloc, &line, files, &mut say);
-    assert!(rt; say.bytes() == said);
-    assert!(rt; ended == status);
-    Ok(())
+    expect_ends(rt, alloc, &CHECK, files, status, said)
 }
 
 // Files in memory with this source and this table, which fail at these calls.
@@ -173,9 +169,7 @@ fn expect_case(rt: &impl Abort, alloc: Global, case: &Case, status: Status) -> R
     let bytes = report(alloc, case)?;
     put(alloc, &mut files, b"report", &bytes)?;
     expect_check(rt, alloc, &mut files, status, case.said)?;
-    let held = read_whole(alloc, &mut files, &text(alloc, b"report")?, 10_000)?;
-    assert!(rt; held == bytes);
-    Ok(())
+    expect_file(rt, alloc, &mut files, b"report", &bytes)
 }
 
 #[test]
@@ -290,9 +284,5 @@ fn a_line_that_cannot_be_said(rt: HostRuntime) -> Result<(), Fail> {
     let alloc = rt.alloc();
     let mut files = project(alloc, SUM3, SLOW, &[])?;
     put(alloc, &mut files, b"report", &report(alloc, &SHOWN)?)?;
-    let mut say = MemSay::new(alloc, [1u64].to_vec(alloc)?)?;
-    let line = words(alloc, &[b"check", b"source", b"table", b"report"])?;
-    let ended = run(alloc, &line, &mut files, &mut say);
-    assert!(rt; ended == Status::WriteFault);
-    Ok(())
+    expect_unsaid(&rt, alloc, &CHECK, &mut files)
 }

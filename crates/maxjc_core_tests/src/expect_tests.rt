@@ -1,9 +1,10 @@
 // What `expect` writes and says of runs, and what it refuses.
-use crate::files::{put, put_all};
+use crate::commands::{CHECK, EXPECT, expect_ends, expect_unsaid, run};
+use crate::files::{expect_file, put, put_all};
 use crate::kernel_sources::{GUARD, NEXT, PEEK, QUOT, SHIFTED};
 use crate::kernel_tests::compiled;
 use crate::manager_tests::{CHAIN, split_and_add};
-use crate::tests::{DOUBLE, IMMEDIATE, run, text, words};
+use crate::tests::{DOUBLE, IMMEDIATE, text};
 use maxjc_core::Status;
 use mx_base::{MemFiles, MemSay, read_whole};
 use std::alloc::Global;
@@ -63,43 +64,32 @@ fn held(alloc: Global, row: &Row<'_>, report: &[u8], fails: &[u64]) -> Result<Me
     Ok(files)
 }
 
-// Runs `expect` on the files of a row.
-fn run_expect(alloc: Global, files: &mut MemFiles, say: &mut MemSay) -> Result<Status, Fail> {
-    let line = words(alloc, &[b"expect", b"source", b"table", b"report", b"run"])?;
-    Ok(run(alloc, &line, files, say))
-}
-
-// A file holds these bytes.
-fn expect_file(
+// What the files of a row hold after `expect`.
+fn expect_left(
     rt: &impl Abort,
     alloc: Global,
     files: &mut MemFiles,
-    name: &[u8],
-    bytes: &[u8],
+    row: &Row<'_>,
+    report: &[u8],
 ) -> Result<(), Fail> {
-    let held = read_whole(alloc, files, &text(alloc, name)?, 1_000_000)?;
-    assert!(rt; held.as_slice() == bytes, "{:?}", text(alloc, name)?);
-    Ok(())
+    for (name, bytes) in row.outputs {
+        expect_file(rt, alloc, files, name, bytes)?;
+    }
+    for (name, bytes) in row.inputs {
+        expect_file(rt, alloc, files, name, bytes)?;
+    }
+    expect_file(rt, alloc, files, b"source", row.source)?;
+    expect_file(rt, alloc, files, b"table", IMMEDIATE)?;
+    expect_file(rt, alloc, files, b"report", report)?;
+    expect_file(rt, alloc, files, b"run", row.run)?;
+    expect_file(rt, alloc, files, b"other", b"as before")
 }
 
 // How `expect` ends with a row and this report, what is said, and what the files hold then.
 fn expect_with(rt: &impl Abort, alloc: Global, row: &Row<'_>, report: &[u8]) -> Result<(), Fail> {
     let mut files = held(alloc, row, report, &[])?;
-    let mut say = MemSay::new(alloc, Vec::new(alloc))?;
-    let ended = run_expect(alloc, &mut files, &mut say)?;
-    assert!(rt; say.bytes() == row.said);
-    assert!(rt; ended == row.status);
-    for (name, bytes) in row.outputs {
-        expect_file(rt, alloc, &mut files, name, bytes)?;
-    }
-    for (name, bytes) in row.inputs {
-        expect_file(rt, alloc, &mut files, name, bytes)?;
-    }
-    expect_file(rt, alloc, &mut files, b"source", row.source)?;
-    expect_file(rt, alloc, &mut files, b"table", IMMEDIATE)?;
-    expect_file(rt, alloc, &mut files, b"report", report)?;
-    expect_file(rt, alloc, &mut files, b"run", row.run)?;
-    expect_file(rt, alloc, &mut files, b"other", b"as before")
+    expect_ends(rt, alloc, &EXPECT, &mut files, row.status, row.said)?;
+    expect_left(rt, alloc, &mut files, row, report)
 }
 
 // The same with the report that `compile` writes.
@@ -270,10 +260,7 @@ fn a_run_of_a_million_ticks(rt: HostRuntime) -> Result<(), Fail> {
     };
     let report = report_of(&rt, alloc, &row)?;
     let mut files = held(alloc, &row, &report, &[])?;
-    let mut say = MemSay::new(alloc, Vec::new(alloc))?;
-    let ended = run_expect(alloc, &mut files, &mut say)?;
-    assert!(rt; say.bytes() == b"guarded\nbalanced\n".as_slice());
-    assert!(rt; ended == Status::Done);
+    expect_ends(&rt, alloc, &EXPECT, &mut files, row.status, row.said)?;
     let y = read_whole(alloc, &mut files, &text(alloc, b"y.txt")?, 10_000_000)?;
     assert!(rt; y.len() == 3_000_003);
     assert!(rt; are_undefined(&y));
@@ -391,12 +378,8 @@ fn links_are_measured_at_the_times_of_the_report(rt: HostRuntime) -> Result<(), 
     expect_with(&rt, alloc, &row, DEEP)?;
 
     let mut files = held(alloc, &row, DEEP, &[])?;
-    let mut say = MemSay::new(alloc, Vec::new(alloc))?;
-    let check = words(alloc, &[b"check", b"source", b"table", b"report"])?;
-    let ended = run(alloc, &check, &mut files, &mut say);
-    assert!(rt; ended == Status::Done);
-    assert!(rt; say.bytes() == b"kernel A least 0\nkernel B least 0\n".as_slice());
-    Ok(())
+    let least = b"kernel A least 0\nkernel B least 0\n";
+    expect_ends(&rt, alloc, &CHECK, &mut files, Status::Done, least)
 }
 
 // A file that is to be read isn't held. Of no line of an input file is one read where a kernel has
@@ -424,12 +407,22 @@ fn files_that_are_not_held(rt: HostRuntime) -> Result<(), Fail> {
     let mut files = MemFiles::new(alloc, Vec::new(alloc))?;
     for name in [b"source".as_slice(), b"table", b"report"] {
         put(alloc, &mut files, name, b"")?;
-        let mut say = MemSay::new(alloc, Vec::new(alloc))?;
-        let ended = run_expect(alloc, &mut files, &mut say)?;
-        assert!(rt; ended == Status::ReadFault);
-        assert!(rt; say.bytes() == b"".as_slice());
+        expect_ends(&rt, alloc, &EXPECT, &mut files, Status::ReadFault, b"")?;
     }
     Ok(())
+}
+
+// How `expect` ends where this call of the files fails: only where none does it says something, and
+// the output is as before where a read fails.
+fn ended_at(rt: &impl Abort, alloc: Global, report: &[u8], call: u64) -> Result<Status, Fail> {
+    let mut files = held(alloc, &DOUBLED, report, &[call])?;
+    let mut say = MemSay::new(alloc, Vec::new(alloc))?;
+    let ended = run(alloc, &EXPECT, &mut files, &mut say)?;
+    assert!(rt; say.bytes().is_empty() == (ended != Status::Done));
+    if ended == Status::ReadFault {
+        expect_file(rt, alloc, &mut files, b"y.txt", b"as before")?;
+    }
+    Ok(ended)
 }
 
 // The first calls of `expect` are two reads of each of the four files. After those of the input
@@ -440,14 +433,9 @@ fn the_first_call_that_fails_ends_expect(rt: HostRuntime) -> Result<(), Fail> {
     let report = report_of(&rt, alloc, &DOUBLED)?;
     let mut writes = 0u64;
     for call in 1..20 {
-        let mut files = held(alloc, &DOUBLED, &report, &[call])?;
-        let mut say = MemSay::new(alloc, Vec::new(alloc))?;
-        let ended = run_expect(alloc, &mut files, &mut say)?;
+        let ended = ended_at(&rt, alloc, &report, call)?;
         match ended {
-            Status::ReadFault => {
-                assert!(rt; writes == 0);
-                expect_file(&rt, alloc, &mut files, b"y.txt", b"as before")?;
-            }
+            Status::ReadFault => assert!(rt; writes == 0),
             Status::WriteFault => writes = writes.saturating_add(1),
             _ => {
                 assert!(rt; ended == Status::Done);
@@ -455,13 +443,10 @@ fn the_first_call_that_fails_ends_expect(rt: HostRuntime) -> Result<(), Fail> {
             }
         }
         assert!(rt; ended == Status::ReadFault || call > 8, "call {call}");
-        assert!(rt; say.bytes().is_empty() == (ended != Status::Done));
     }
     assert!(rt; writes == 2);
 
     let mut files = held(alloc, &DOUBLED, &report, &[])?;
-    let mut say = MemSay::new(alloc, [1u64].to_vec(alloc)?)?;
-    let ended = run_expect(alloc, &mut files, &mut say)?;
-    assert!(rt; ended == Status::WriteFault);
+    expect_unsaid(&rt, alloc, &EXPECT, &mut files)?;
     expect_file(&rt, alloc, &mut files, b"y.txt", b"00\nfe\n")
 }

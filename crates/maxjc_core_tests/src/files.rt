@@ -1,8 +1,9 @@
 // Files in memory for tests. Whatever owns such files has a way out for each call that may fail, and
 // each of them drops the files, so the calls stand here, where the files are lent.
 use crate::tests::text;
-use mx_base::MemFiles;
+use mx_base::{MemFiles, read_whole};
 use std::alloc::Global;
+use std::process::Abort;
 use std::test::Fail;
 
 // Puts a file of these bytes under this name.
@@ -37,4 +38,17 @@ pub(crate) fn files_with(
     let mut files = MemFiles::new(alloc, fails.to_vec(alloc)?)?;
     put_all(alloc, &mut files, held)?;
     Ok(files)
+}
+
+// A file holds these bytes.
+pub(crate) fn expect_file(
+    rt: &impl Abort,
+    alloc: Global,
+    files: &mut MemFiles,
+    name: &[u8],
+    bytes: &[u8],
+) -> Result<(), Fail> {
+    let held = read_whole(alloc, files, &text(alloc, name)?, 1_000_000)?;
+    assert!(rt; held.as_slice() == bytes, "{:?}", text(alloc, name)?);
+    Ok(())
 }

@@ -1,12 +1,12 @@
 // Worked kernels, from their sources to the words that leave.
+use crate::commands::{COMPILE, expect_ends, expect_stalled};
 use crate::files::{files_with, put, put_all};
 use crate::kernel_sources::{
     FAR, FIVE, LONG, NEXT, QUOT, SINK, SLOW, SQUARE, STENCIL, SUM3, TIES, WIDE, ZERO,
 };
-use crate::simulate_tests::{run_with_port_1_stalled, simulate_words};
-use crate::tests::{DOUBLE, IMMEDIATE, compile_words, expect_end_with, run, text};
+use crate::tests::{DOUBLE, IMMEDIATE, expect_end_with, text};
 use maxjc_core::Status;
-use mx_base::{MemFiles, MemSay, read_whole};
+use mx_base::{MemFiles, read_whole};
 use std::alloc::Global;
 use std::process::Abort;
 use std::test::Fail;
@@ -201,10 +201,7 @@ pub(crate) fn compiled(
     said: &[u8],
 ) -> Result<MemFiles, Fail> {
     let mut files = files_with(alloc, &[(b"source", source), (b"table", table)], &[])?;
-    let mut say = MemSay::new(alloc, Vec::new(alloc))?;
-    let ended = run(alloc, &compile_words(alloc)?, &mut files, &mut say);
-    assert!(rt; say.bytes() == said);
-    assert!(rt; ended == Status::Done);
+    expect_ends(rt, alloc, &COMPILE, &mut files, Status::Done, said)?;
     Ok(files)
 }
 
@@ -217,12 +214,7 @@ fn simulate(
 ) -> Result<(), Fail> {
     put(alloc, files, b"run", worked.run)?;
     put_all(alloc, files, worked.inputs)?;
-    let mut say = MemSay::new(alloc, Vec::new(alloc))?;
-    let ended = run_with_port_1_stalled(alloc, &simulate_words(alloc)?, files, &mut say);
-    let what = text(alloc, worked.compiled)?;
-    assert!(rt; say.bytes() == worked.simulated, "{what:?}");
-    assert!(rt; ended == worked.status, "{what:?}");
-    Ok(())
+    expect_stalled(rt, alloc, files, worked.status, worked.simulated)
 }
 
 // Whether this is a line of so many hexadecimal digits, or nothing where there are 0.

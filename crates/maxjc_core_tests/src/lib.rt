@@ -6,6 +6,8 @@ mod building_tests;
 #[cfg(test)]
 mod check_tests;
 #[cfg(test)]
+mod commands;
+#[cfg(test)]
 mod expect_tests;
 #[cfg(test)]
 mod files;

@@ -1,11 +1,11 @@
 // Managers that link kernels: what is compiled, checked and simulated, and what is refused.
+use crate::commands::{CHECK, SIMULATE, expect_ends};
 use crate::files::put;
 use crate::kernel_tests::{Left, Worked, compiled, expect_worked};
 use crate::schedule_tests::MANAGER;
-use crate::simulate_tests::simulate_words;
-use crate::tests::{IMMEDIATE, expect_end, run, text, words};
+use crate::tests::{IMMEDIATE, expect_end, text};
 use maxjc_core::Status;
-use mx_base::{MemSay, read_whole};
+use mx_base::read_whole;
 use std::alloc::Global;
 use std::test::Fail;
 
@@ -144,19 +144,13 @@ fn streams_that_part_meet_again(rt: HostRuntime) -> Result<(), Fail> {
     let source = split_and_add(alloc, "stream.offset(x, 5)", 100)?;
     let summary: &[u8] = b"kernel A fifo 0\nkernel B fifo 0\nlink 0 depth 97\nlink 1 depth 2\n";
     let mut files = compiled(&rt, alloc, &source, IMMEDIATE, summary)?;
-
-    let mut say = MemSay::new(alloc, Vec::new(alloc))?;
-    let check = words(alloc, &[b"check", b"source", b"table", b"report"])?;
-    let ended = run(alloc, &check, &mut files, &mut say);
-    assert!(rt; ended == Status::Done);
-    assert!(rt; say.bytes() == b"kernel A least 0\nkernel B least 0\n".as_slice());
+    let least = b"kernel A least 0\nkernel B least 0\n";
+    expect_ends(&rt, alloc, &CHECK, &mut files, Status::Done, least)?;
 
     put(alloc, &mut files, b"run", RUN)?;
     put(alloc, &mut files, b"x.txt", &lines_of(alloc, 200, 0, 1)?)?;
-    let mut say = MemSay::new(alloc, Vec::new(alloc))?;
-    let ended = run(alloc, &simulate_words(alloc)?, &mut files, &mut say);
-    assert!(rt; say.bytes() == b"done after 303 edges\n".as_slice());
-    assert!(rt; ended == Status::Done);
+    let done = b"done after 303 edges\n";
+    expect_ends(&rt, alloc, &SIMULATE, &mut files, Status::Done, done)?;
 
     let left = read_whole(alloc, &mut files, &text(alloc, b"y.txt")?, 10_000)?;
     let sums = lines_of(alloc, 100, 105, 2)?;

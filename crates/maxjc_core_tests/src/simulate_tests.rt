@@ -1,9 +1,9 @@
 // Texts that are simulated: what is said, and the words that leave.
-use crate::files::put;
+use crate::commands::{COMPILE, SIMULATE, expect_ends, expect_stalled, run};
+use crate::files::{expect_file, put};
 use crate::tests::IMMEDIATE;
-use maxjc_core::{Status, maxjc};
-use mx_base::{MemFiles, MemSay, Text, read_whole};
-use stall_source::{Pattern, program_stalls};
+use maxjc_core::Status;
+use mx_base::{MemFiles, MemSay};
 use std::alloc::Global;
 use std::process::Abort;
 use std::test::Fail;
@@ -67,18 +67,6 @@ const NO_EDGES: &[u8] =
 const OTHER_KERNEL: &[u8] =
     b"{\"ticks\":{\"Twice\":2},\"inputs\":{\"x\":\"x.txt\"},\"outputs\":{\"y\":\"y.txt\"},\"edges\":2}";
 
-fn text(alloc: Global, bytes: &[u8]) -> Result<Text, Fail> {
-    Ok(Text::from_vec(bytes.to_vec(alloc)?))
-}
-
-pub(crate) fn simulate_words(alloc: Global) -> Result<Vec<Text>, Fail> {
-    let mut words = Vec::new(alloc);
-    words.push(text(alloc, b"simulate")?)?;
-    words.push(text(alloc, b"text")?)?;
-    words.push(text(alloc, b"run")?)?;
-    Ok(words)
-}
-
 // Puts what a case has, and an output file of an earlier run.
 fn put_case(alloc: Global, files: &mut MemFiles, case: &Case<'_>) -> Result<(), Fail> {
     let mut bytes = case.head.to_vec(alloc)?;
@@ -96,31 +84,10 @@ fn held(alloc: Global, case: &Case<'_>) -> Result<MemFiles, Fail> {
     Ok(files)
 }
 
-// A pattern that stalls port 1 wherever the pattern number isn't 0.
-pub(crate) fn run_with_port_1_stalled(
-    alloc: Global,
-    words: &Vec<Text>,
-    files: &mut MemFiles,
-    say: &mut MemSay,
-) -> Status {
-    let stalls = Pattern::new(|pick: u64, _: u64, port: u32| pick != 0 && port == 1);
-    maxjc(alloc, words, files, say, &stalls)
-}
-
-fn run(alloc: Global, words: &Vec<Text>, files: &mut MemFiles, say: &mut MemSay) -> Status {
-    let stalls = Pattern::new(|pick: u64, edge: u64, port: u32| program_stalls(pick, edge, port));
-    maxjc(alloc, words, files, say, &stalls)
-}
-
 pub(crate) fn expect(rt: &impl Abort, alloc: Global, case: &Case<'_>) -> Result<(), Fail> {
     let mut files = held(alloc, case)?;
-    let mut say = MemSay::new(alloc, Vec::new(alloc))?;
-    let ended = run_with_port_1_stalled(alloc, &simulate_words(alloc)?, &mut files, &mut say);
-    assert!(rt; say.bytes() == case.said);
-    assert!(rt; ended == case.status);
-    let y = read_whole(alloc, &mut files, &text(alloc, b"y.txt")?, 10_000)?;
-    assert!(rt; y.as_slice() == case.y);
-    Ok(())
+    expect_stalled(rt, alloc, &mut files, case.status, case.said)?;
+    expect_file(rt, alloc, &mut files, b"y.txt", case.y)
 }
 
 #[test]
@@ -274,20 +241,6 @@ public class Double extends Kernel {
 }
 ";
 
-fn compile_words(alloc: Global) -> Result<Vec<Text>, Fail> {
-    let mut words = Vec::new(alloc);
-    for word in [
-        b"compile".as_slice(),
-        b"source",
-        b"table",
-        b"text",
-        b"report",
-    ] {
-        words.push(text(alloc, word)?)?;
-    }
-    Ok(words)
-}
-
 const ONE_TICK: &[u8] =
     b"{\"ticks\":{\"Double\":1},\"inputs\":{\"x\":\"x.txt\"},\"outputs\":{\"y\":\"y.txt\"},\"edges\":1000,\"pattern\":1}";
 
@@ -308,6 +261,15 @@ fn put_source(
     put(alloc, files, b"x.txt", x)
 }
 
+// The text that these files hold is simulated to its end, in some number of edges.
+fn expect_done(rt: &impl Abort, alloc: Global, files: &mut MemFiles) -> Result<(), Fail> {
+    let mut say = MemSay::new(alloc, Vec::new(alloc))?;
+    let ended = run(alloc, &SIMULATE, files, &mut say)?;
+    assert!(rt; ended == Status::Done);
+    assert!(rt; say.bytes().starts_with(b"done after "));
+    Ok(())
+}
+
 // The words that a source gives, compiled and simulated under the program's pattern.
 fn expect_words(
     rt: &impl Abort,
@@ -319,18 +281,10 @@ fn expect_words(
 ) -> Result<(), Fail> {
     let mut files = MemFiles::new(alloc, Vec::new(alloc))?;
     put_source(alloc, &mut files, source, run_file, x)?;
-    let mut say = MemSay::new(alloc, Vec::new(alloc))?;
-    let ended = run(alloc, &compile_words(alloc)?, &mut files, &mut say);
-    assert!(rt; ended == Status::Done);
-    let ended = run(alloc, &simulate_words(alloc)?, &mut files, &mut say);
-    assert!(rt; ended == Status::Done);
-    assert!(rt;
-        say.bytes()
-            .starts_with(b"kernel Double fifo 0\ndone after ")
-    );
-    let left = read_whole(alloc, &mut files, &text(alloc, b"y.txt")?, 100)?;
-    assert!(rt; left.as_slice() == y);
-    Ok(())
+    let summary = b"kernel Double fifo 0\n";
+    expect_ends(rt, alloc, &COMPILE, &mut files, Status::Done, summary)?;
+    expect_done(rt, alloc, &mut files)?;
+    expect_file(rt, alloc, &mut files, b"y.txt", y)
 }
 
 #[test]

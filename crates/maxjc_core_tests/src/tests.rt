@@ -1,7 +1,7 @@
-use crate::files::{files_with, put};
-use maxjc_core::{Status, maxjc};
-use mx_base::{MemFiles, MemSay, Text, read_whole};
-use stall_source::{Pattern, program_stalls};
+use crate::commands::{COMPILE, expect_ends, expect_unsaid};
+use crate::files::{expect_file, files_with, put};
+use maxjc_core::Status;
+use mx_base::{MemFiles, Text};
 use std::alloc::Global;
 use std::process::Abort;
 use std::test::Fail;
@@ -24,6 +24,9 @@ pub(crate) const IMMEDIATE: &[u8] =
     b"{\"add\":[[1,0]],\"sub\":[[1,0]],\"mul\":[[1,0]],\"div\":[[1,0]],
 \"neg\":[[1,0]],\"and\":[[1,0]],\"or\":[[1,0]],\"xor\":[[1,0]],\"not\":[[1,0]],\"eq\":[[1,0]],
 \"ne\":[[1,0]],\"lt\":[[1,0]],\"le\":[[1,0]],\"gt\":[[1,0]],\"ge\":[[1,0]],\"mux\":[[1,0]],\"round\":[[1,0]]}";
+
+// What `compile` says of that kernel.
+const SUMMARY: &[u8] = b"kernel Double fifo 0\n";
 
 const USAGE: &[u8] =
     b"usage: compile SRC TABLE OUT REPORT | simulate TEXT RUN | expect SRC TABLE REPORT RUN | check SRC TABLE REPORT | generate N\n";
@@ -50,24 +53,6 @@ fn project(alloc: Global, source: &[u8], fails: &[u64]) -> Result<MemFiles, Fail
     files_with(alloc, &held, fails)
 }
 
-pub(crate) fn compile_words(alloc: Global) -> Result<Vec<Text>, Fail> {
-    words(
-        alloc,
-        &[b"compile", b"source", b"table", b"text", b"report"],
-    )
-}
-
-// Runs a command under the program's pattern of stalls.
-pub(crate) fn run(
-    alloc: Global,
-    words: &Vec<Text>,
-    files: &mut MemFiles,
-    say: &mut MemSay,
-) -> Status {
-    let stalls = Pattern::new(|pick: u64, edge: u64, port: u32| program_stalls(pick, edge, port));
-    maxjc(alloc, words, files, say, &stalls)
-}
-
 // What a source leads to: the status, and what is said.
 pub(crate) fn expect_end(
     rt: &impl Abort,
@@ -90,24 +75,15 @@ pub(crate) fn expect_end_with(
 ) -> Result<(), Fail> {
     let mut files = project(alloc, source, &[])?;
     put(alloc, &mut files, b"table", table)?;
-    let mut say = MemSay::new(alloc, Vec::new(alloc))?;
-    let ended = run(alloc, &compile_words(alloc)?, &mut files, &mut say);
-    assert!(rt; ended == status, "{:?}", text(alloc, source)?);
-    assert!(rt; say.bytes() == said);
-    Ok(())
+    expect_ends(rt, alloc, &COMPILE, &mut files, status, said)
 }
 
 #[test]
 fn a_kernel_of_one_sum_is_compiled(rt: HostRuntime) -> Result<(), Fail> {
     let alloc = rt.alloc();
     let mut files = project(alloc, DOUBLE, &[])?;
-    let mut say = MemSay::new(alloc, Vec::new(alloc))?;
-    let ended = run(alloc, &compile_words(alloc)?, &mut files, &mut say);
-    assert!(rt; ended == Status::Done);
-    assert!(rt; say.bytes() == b"kernel Double fifo 0\n".as_slice());
-    let other = read_whole(alloc, &mut files, &text(alloc, b"other")?, 100)?;
-    assert!(rt; other.as_slice() == b"as before".as_slice());
-    Ok(())
+    expect_ends(&rt, alloc, &COMPILE, &mut files, Status::Done, SUMMARY)?;
+    expect_file(&rt, alloc, &mut files, b"other", b"as before")
 }
 
 #[test]
@@ -140,10 +116,7 @@ fn words_that_are_no_command(rt: HostRuntime) -> Result<(), Fail> {
     ];
     for line in lines {
         let mut files = project(alloc, DOUBLE, &[])?;
-        let mut say = MemSay::new(alloc, Vec::new(alloc))?;
-        let ended = run(alloc, &words(alloc, line)?, &mut files, &mut say);
-        assert!(rt; ended == Status::Usage);
-        assert!(rt; say.bytes() == USAGE);
+        expect_ends(&rt, alloc, line, &mut files, Status::Usage, USAGE)?;
     }
     Ok(())
 }
@@ -153,41 +126,28 @@ fn words_that_are_no_command(rt: HostRuntime) -> Result<(), Fail> {
 #[test]
 fn the_first_call_that_fails_ends_the_command(rt: HostRuntime) -> Result<(), Fail> {
     let alloc = rt.alloc();
-    for (call, status) in [
-        (1, Status::ReadFault),
-        (2, Status::ReadFault),
-        (3, Status::ReadFault),
-        (4, Status::ReadFault),
-        (5, Status::WriteFault),
-        (6, Status::WriteFault),
-        (7, Status::WriteFault),
-        (8, Status::WriteFault),
-        (9, Status::Done),
+    for (call, status, said) in [
+        (1, Status::ReadFault, b"".as_slice()),
+        (2, Status::ReadFault, b""),
+        (3, Status::ReadFault, b""),
+        (4, Status::ReadFault, b""),
+        (5, Status::WriteFault, b""),
+        (6, Status::WriteFault, b""),
+        (7, Status::WriteFault, b""),
+        (8, Status::WriteFault, b""),
+        (9, Status::Done, SUMMARY),
     ] {
         let mut files = project(alloc, DOUBLE, &[call])?;
-        let mut say = MemSay::new(alloc, Vec::new(alloc))?;
-        let ended = run(alloc, &compile_words(alloc)?, &mut files, &mut say);
-        assert!(rt; ended == status, "call {call}");
-        if status != Status::Done {
-            assert!(rt; say.bytes() == b"".as_slice());
-        }
+        expect_ends(&rt, alloc, &COMPILE, &mut files, status, said)?;
     }
-    let mut files = project(alloc, DOUBLE, &[])?;
-    let mut say = MemSay::new(alloc, [1u64].to_vec(alloc)?)?;
-    let ended = run(alloc, &compile_words(alloc)?, &mut files, &mut say);
-    assert!(rt; ended == Status::WriteFault);
-    Ok(())
+    expect_unsaid(&rt, alloc, &COMPILE, &mut project(alloc, DOUBLE, &[])?)
 }
 
 #[test]
 fn a_source_that_is_not_held(rt: HostRuntime) -> Result<(), Fail> {
     let alloc = rt.alloc();
     let mut files = MemFiles::new(alloc, Vec::new(alloc))?;
-    let mut say = MemSay::new(alloc, Vec::new(alloc))?;
-    let ended = run(alloc, &compile_words(alloc)?, &mut files, &mut say);
-    assert!(rt; ended == Status::ReadFault);
-    assert!(rt; say.bytes() == b"".as_slice());
-    Ok(())
+    expect_ends(&rt, alloc, &COMPILE, &mut files, Status::ReadFault, b"")
 }
 
 // A source with blanks behind it, of this many bytes.
@@ -203,7 +163,7 @@ fn padded(alloc: Global, source: &[u8], size: usize) -> Result<Vec<u8>, Fail> {
 fn a_source_at_the_limit_and_past_it(rt: HostRuntime) -> Result<(), Fail> {
     let alloc = rt.alloc();
     let mut source = padded(alloc, DOUBLE, 1 << 24)?;
-    expect_end(&rt, alloc, &source, Status::Done, b"kernel Double fifo 0\n")?;
+    expect_end(&rt, alloc, &source, Status::Done, SUMMARY)?;
     source.push(b' ')?;
     expect_end(&rt, alloc, &source, Status::Refused, b"refused F1 source\n")
 }
@@ -217,10 +177,7 @@ fn a_text_and_a_run_file_that_are_not_held(rt: HostRuntime) -> Result<(), Fail> 
     ];
     for line in names {
         let mut files = project(alloc, DOUBLE, &[])?;
-        let mut say = MemSay::new(alloc, Vec::new(alloc))?;
-        let ended = run(alloc, &words(alloc, line)?, &mut files, &mut say);
-        assert!(rt; ended == Status::ReadFault);
-        assert!(rt; say.bytes() == b"".as_slice());
+        expect_ends(&rt, alloc, line, &mut files, Status::ReadFault, b"")?;
     }
     Ok(())
 }
