@@ -165,8 +165,8 @@ fn project(alloc: Global, source: &[u8], table: &[u8], fails: &[u64]) -> Result<
 
 // How `check` ends with this report on the sum of three neighbours. The report is as before.
 fn expect_case(rt: &impl Abort, alloc: Global, case: &Case, status: Status) -> Result<(), Fail> {
-    let mut files = project(alloc, SUM3, SLOW, &[])?;
     let bytes = report(alloc, case)?;
+    let mut files = project(alloc, SUM3, SLOW, &[])?;
     put(alloc, &mut files, b"report", &bytes)?;
     expect_check(rt, alloc, &mut files, status, case.said)?;
     expect_file(rt, alloc, &mut files, b"report", &bytes)
@@ -217,17 +217,28 @@ const WRITTEN: [Written; 3] = [
     },
 ];
 
+// The report that these files hold begins so.
+fn expect_begins(
+    rt: &impl Abort,
+    alloc: Global,
+    files: &mut MemFiles,
+    begin: &[u8],
+) -> Result<(), Fail> {
+    let report = read_whole(alloc, files, &text(alloc, b"report")?, 10_000)?;
+    assert!(rt;
+        report.starts_with(begin),
+        "{:?}",
+        text(alloc, report.as_slice())?
+    );
+    Ok(())
+}
+
 #[test]
 fn what_compile_writes_is_shown(rt: HostRuntime) -> Result<(), Fail> {
     let alloc = rt.alloc();
     for case in WRITTEN {
         let mut files = compiled(&rt, alloc, case.source, case.table, case.summary)?;
-        let report = read_whole(alloc, &mut files, &text(alloc, b"report")?, 10_000)?;
-        assert!(rt;
-            report.starts_with(case.begin),
-            "{:?}",
-            text(alloc, report.as_slice())?
-        );
+        expect_begins(&rt, alloc, &mut files, case.begin)?;
         expect_check(&rt, alloc, &mut files, Status::Done, case.said)?;
     }
     Ok(())
@@ -237,9 +248,10 @@ fn what_compile_writes_is_shown(rt: HostRuntime) -> Result<(), Fail> {
 #[test]
 fn a_read_that_fails_ends_the_check(rt: HostRuntime) -> Result<(), Fail> {
     let alloc = rt.alloc();
+    let shown = report(alloc, &SHOWN)?;
     for call in 1..7 {
         let mut files = project(alloc, SUM3, SLOW, &[call])?;
-        put(alloc, &mut files, b"report", &report(alloc, &SHOWN)?)?;
+        put(alloc, &mut files, b"report", &shown)?;
         expect_check(&rt, alloc, &mut files, Status::ReadFault, b"")?;
     }
     Ok(())
@@ -282,7 +294,8 @@ fn projects_are_refused_before_reports(rt: HostRuntime) -> Result<(), Fail> {
 #[test]
 fn a_line_that_cannot_be_said(rt: HostRuntime) -> Result<(), Fail> {
     let alloc = rt.alloc();
+    let shown = report(alloc, &SHOWN)?;
     let mut files = project(alloc, SUM3, SLOW, &[])?;
-    put(alloc, &mut files, b"report", &report(alloc, &SHOWN)?)?;
+    put(alloc, &mut files, b"report", &shown)?;
     expect_unsaid(&rt, alloc, &CHECK, &mut files)
 }

@@ -250,6 +250,19 @@ fn are_undefined(bytes: &[u8]) -> bool {
     bytes.len() % 3 == 0
 }
 
+// The output file has as many lines of undefined words of 8 bits.
+fn expect_undefined(
+    rt: &impl Abort,
+    alloc: Global,
+    files: &mut MemFiles,
+    lines: usize,
+) -> Result<(), Fail> {
+    let y = read_whole(alloc, files, &text(alloc, b"y.txt")?, 10_000_000)?;
+    assert!(rt; y.len() / 3 == lines);
+    assert!(rt; are_undefined(&y));
+    Ok(())
+}
+
 #[test]
 fn a_run_of_a_million_ticks(rt: HostRuntime) -> Result<(), Fail> {
     let alloc = rt.alloc();
@@ -261,10 +274,7 @@ fn a_run_of_a_million_ticks(rt: HostRuntime) -> Result<(), Fail> {
     let report = report_of(&rt, alloc, &row)?;
     let mut files = held(alloc, &row, &report, &[])?;
     expect_ends(&rt, alloc, &EXPECT, &mut files, row.status, row.said)?;
-    let y = read_whole(alloc, &mut files, &text(alloc, b"y.txt")?, 10_000_000)?;
-    assert!(rt; y.len() == 3_000_003);
-    assert!(rt; are_undefined(&y));
-    Ok(())
+    expect_undefined(&rt, alloc, &mut files, 1_000_001)
 }
 
 // A refusal of a run of the sum of a word and itself, which leaves its output as it was.

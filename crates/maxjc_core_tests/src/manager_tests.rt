@@ -5,8 +5,9 @@ use crate::kernel_tests::{Left, Worked, compiled, expect_worked};
 use crate::schedule_tests::MANAGER;
 use crate::tests::{IMMEDIATE, expect_end, text};
 use maxjc_core::Status;
-use mx_base::read_whole;
+use mx_base::{MemFiles, read_whole};
 use std::alloc::Global;
+use std::process::Abort;
 use std::test::Fail;
 
 // A kernel twice, each of which waits for the other.
@@ -136,8 +137,21 @@ fn lines_of(alloc: Global, count: u32, first: u8, step: u8) -> Result<Vec<u8>, F
 const RUN: &[u8] =
     b"{\"ticks\":{\"A\":200,\"B\":200},\"inputs\":{\"x\":\"x.txt\"},\"outputs\":{\"y\":\"y.txt\"},\"edges\":1000000}";
 
-// Each word is the sum of those that are 5 and 100 ahead. The last hundred words look past the end of
-// the input, and nothing binds them. A line has 3 bytes.
+// The text that these files hold gives the sums of the words that are 5 and 100 ahead. The last hundred
+// words look past the end of the input, and nothing binds them. A line has 3 bytes.
+fn expect_sums(rt: &impl Abort, alloc: Global, files: &mut MemFiles) -> Result<(), Fail> {
+    put(alloc, files, b"run", RUN)?;
+    put(alloc, files, b"x.txt", &lines_of(alloc, 200, 0, 1)?)?;
+    let done = b"done after 303 edges\n";
+    expect_ends(rt, alloc, &SIMULATE, files, Status::Done, done)?;
+
+    let left = read_whole(alloc, files, &text(alloc, b"y.txt")?, 10_000)?;
+    let sums = lines_of(alloc, 100, 105, 2)?;
+    assert!(rt; left.starts_with(&sums), "{:?}", text(alloc, &left)?);
+    assert!(rt; left.len() == 600);
+    Ok(())
+}
+
 #[test]
 fn streams_that_part_meet_again(rt: HostRuntime) -> Result<(), Fail> {
     let alloc = rt.alloc();
@@ -146,15 +160,5 @@ fn streams_that_part_meet_again(rt: HostRuntime) -> Result<(), Fail> {
     let mut files = compiled(&rt, alloc, &source, IMMEDIATE, summary)?;
     let least = b"kernel A least 0\nkernel B least 0\n";
     expect_ends(&rt, alloc, &CHECK, &mut files, Status::Done, least)?;
-
-    put(alloc, &mut files, b"run", RUN)?;
-    put(alloc, &mut files, b"x.txt", &lines_of(alloc, 200, 0, 1)?)?;
-    let done = b"done after 303 edges\n";
-    expect_ends(&rt, alloc, &SIMULATE, &mut files, Status::Done, done)?;
-
-    let left = read_whole(alloc, &mut files, &text(alloc, b"y.txt")?, 10_000)?;
-    let sums = lines_of(alloc, 100, 105, 2)?;
-    assert!(rt; left.starts_with(&sums), "{:?}", text(alloc, &left)?);
-    assert!(rt; left.len() == 600);
-    Ok(())
+    expect_sums(&rt, alloc, &mut files)
 }

@@ -43,9 +43,15 @@ struct Stored<'a> {
     bits: u64,
 }
 
-fn expect(rt: &impl Abort, alloc: Global, stored: &Stored<'_>) -> Result<(), Fail> {
+// The text of the kernel.
+fn text_of(rt: &impl Abort, alloc: Global, stored: &Stored<'_>) -> Result<Vec<u8>, Fail> {
+    let name = text(alloc, b"text")?;
     let mut files = compiled(rt, alloc, stored.source, stored.table, stored.said)?;
-    let held = read_whole(alloc, &mut files, &text(alloc, b"text")?, 100_000)?;
+    Ok(read_whole(alloc, &mut files, &name, 100_000)?)
+}
+
+fn expect(rt: &impl Abort, alloc: Global, stored: &Stored<'_>) -> Result<(), Fail> {
+    let held = text_of(rt, alloc, stored)?;
     assert!(rt; held.len() <= 100_000);
     match read(alloc, held.as_slice()) {
         Ok(design) => assert!(rt; bits_in(&design, stored.module) == Some(stored.bits)),
