@@ -1,15 +1,43 @@
 // Judgements on parts of reports on the kernel of three neighbours.
+ghost use Rattle.std.specs.Prelude.{◌≡◌, ◌+◌, ◌≤◌, ◌^◌, length};
+ghost use Rattle.cycle_find.specs.Constraints.{NeedsWithin};
+ghost use Rattle.schedule_problem.specs.Optimum.{IsProblem};
+ghost use Rattle.offset_edges.specs.Problems.{problem_of};
+
 use crate::parts::best_part;
 use crate::texts::{JUDGED, changed};
 use kernel_report::{Judgement, judge};
 use latency_table::Table;
 use offset_edges::edges;
 use offset_edges_tests::sum3;
+use schedule_problem::Problem;
 use schedule_report::Report;
+use std::alloc::Global;
 use std::test::Fail;
+use stream_graph::Kernel;
 
 // A sum takes a tick.
 const SUMS_TAKE_ONE: &str = "{\"add\":[[1,1]]}";
+
+// The judgement on the first part of the report of this text, or `None` where it has no part.
+fn judged(
+    alloc: Global,
+    kernel: &Kernel,
+    table: &Table,
+    problem: &Problem,
+    text: &[u8],
+) -> Result<Option<Judgement>, Fail>
+    requires problem { problem.now ≡ problem_of table.now kernel.now.nodes }
+    requires solvable { IsProblem problem.now }
+    requires few { length problem.now.arcs.list ≤ 2 ^ 20 }
+    requires small { NeedsWithin (2 ^ 32 + 64) problem.now.arcs.list }
+{
+    let report = Report::read(alloc, text)?;
+    match report.kernels.get(0) {
+        Some(part) => Ok(Some(judge(alloc, kernel, table, problem, part)?)),
+        None => Ok(None),
+    }
+}
 
 #[test]
 fn parts_are_judged(rt: HostRuntime) -> Result<(), Fail> {
@@ -19,14 +47,8 @@ fn parts_are_judged(rt: HostRuntime) -> Result<(), Fail> {
     let problem = edges(alloc, &kernel, &table)?;
     for (changes, wanted) in JUDGED {
         let text = changed(alloc, changes)?;
-        let report = Report::read(alloc, text.as_slice())?;
-        match report.kernels.get(0) {
-            Some(part) => {
-                let judgement = judge(alloc, &kernel, &table, &problem, part)?;
-                assert!(rt; judgement == *wanted, "{changes:?}");
-            }
-            None => assert!(rt; false),
-        }
+        let judgement = judged(alloc, &kernel, &table, &problem, text.as_slice())?;
+        assert!(rt; judgement == Some(*wanted), "{changes:?}");
     }
     Ok(())
 }

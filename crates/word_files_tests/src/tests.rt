@@ -1,8 +1,9 @@
 // Run files, and words read and written.
-use mx_base::{List, MemFiles, Text};
+use mx_base::{List, MemFiles, Text, read_whole};
 use mx_bits::Word;
 use rtl_ir::{Interface, KernelPorts, NetId};
 use std::alloc::{AllocError, Global};
+use std::process::Abort;
 use std::test::Fail;
 use word_files::*;
 
@@ -60,39 +61,79 @@ fn a_run_file_fits_its_ports(rt: HostRuntime) -> Result<(), Fail> {
     Ok(())
 }
 
-// What a reader of words of 8 bits answers first.
-fn first_word(
+// Files in memory that hold these bytes as x, where the call of this number fails.
+fn holding(alloc: Global, fails: u64, bytes: &[u8]) -> Result<MemFiles, Fail> {
+    let name = text(alloc, b"x")?;
+    let mut files = MemFiles::new(alloc, vec![in alloc; fails]?)?;
+    files.put(&name, bytes)?;
+    Ok(files)
+}
+
+// What a reader of words answers first.
+#[derive(Clone, Copy)]
+enum Wanted {
+    Word(u128),
+    End,
+    BadLine,
+    WordRange,
+    ReadFault,
+}
+
+impl Wanted {
+    fn is_met(&self, first: &Result<Option<Word>, WordError>) -> bool {
+        match (self, first) {
+            (Wanted::Word(wanted), Ok(Some(word))) => word.bits() == *wanted,
+            (Wanted::End, Ok(None)) | (Wanted::ReadFault, Err(WordError::ReadFault)) => true,
+            (Wanted::BadLine, Err(WordError::BadLine(name, line)))
+            | (Wanted::WordRange, Err(WordError::WordRange(name, line))) => {
+                name.is(b"x") && *line == 1
+            }
+            _ => false,
+        }
+    }
+}
+
+// Bytes, the call that fails or 0, and what a reader of words of 8 bits answers first.
+const FIRST: [(&[u8], u64, Wanted); 6] = [
+    (b"fF", 0, Wanted::Word(255)),
+    (b"", 0, Wanted::End),
+    (b"1\r\n", 0, Wanted::BadLine),
+    (b"\n1", 0, Wanted::BadLine),
+    (b"100", 0, Wanted::WordRange),
+    (b"1", 1, Wanted::ReadFault),
+];
+
+// A reader of words of 8 bits answers so first.
+fn expect_first(
+    rt: &impl Abort,
     alloc: Global,
-    fails: u64,
-    bytes: &[u8],
-) -> Result<Result<Option<u128>, WordError>, AllocError> {
-    let Ok(mut files) = MemFiles::new(alloc, vec![in alloc; fails]?) else {
-        return Err(AllocError);
-    };
-    let Ok(()) = files.put(&text(alloc, b"x")?, bytes) else {
-        return Err(AllocError);
-    };
-    let Ok(mut reader) = WordReader::new(alloc, text(alloc, b"x")?, 8) else {
-        return Err(AllocError);
-    };
-    Ok(match reader.next(&mut files) {
-        Ok(Some(word)) => Ok(Some(word.bits())),
-        Ok(None) => Ok(None),
-        Err(error) => Err(error),
-    })
+    files: &mut MemFiles,
+    wanted: Wanted,
+) -> Result<(), Fail> {
+    let mut reader = WordReader::new(alloc, text(alloc, b"x")?, 8)?;
+    let first = reader.next(files);
+    assert!(rt; wanted.is_met(&first));
+    Ok(())
 }
 
 #[test]
 fn lines_are_words_or_refused(rt: HostRuntime) -> Result<(), Fail> {
     let alloc = rt.alloc();
-    let bad = Err(WordError::BadLine(text(alloc, b"x")?, 1));
-    let range = Err(WordError::WordRange(text(alloc, b"x")?, 1));
-    assert!(rt; first_word(alloc, 0, b"fF")? == Ok(Some(255)));
-    assert!(rt; first_word(alloc, 0, b"")? == Ok(None));
-    assert!(rt; first_word(alloc, 0, b"1\r\n")? == bad);
-    assert!(rt; first_word(alloc, 0, b"\n1")? == bad);
-    assert!(rt; first_word(alloc, 0, b"100")? == range);
-    assert!(rt; first_word(alloc, 1, b"1")? == Err(WordError::ReadFault));
+    for (bytes, fails, wanted) in FIRST {
+        let mut files = holding(alloc, fails, bytes)?;
+        expect_first(&rt, alloc, &mut files, wanted)?;
+    }
+    Ok(())
+}
+
+// Words of 9 bits as they stand in a file.
+fn expect_written(rt: &impl Abort, alloc: Global, files: &mut MemFiles) -> Result<(), Fail> {
+    let mut writer = WordWriter::create(alloc, files, text(alloc, b"y")?, 9)?;
+    writer.put(files, Some(Word::new(0x1ab, 9)))?;
+    writer.put(files, None)?;
+    writer.flush(files)?;
+    let bytes = read_whole(alloc, files, &text(alloc, b"y")?, 99)?;
+    assert!(rt; bytes.as_slice() == b"1ab\nxxx\n".as_slice());
     Ok(())
 }
 
@@ -100,11 +141,5 @@ fn lines_are_words_or_refused(rt: HostRuntime) -> Result<(), Fail> {
 fn words_are_written_in_whole_lines(rt: HostRuntime) -> Result<(), Fail> {
     let alloc = rt.alloc();
     let mut files = MemFiles::new(alloc, Vec::new(alloc))?;
-    let mut writer = WordWriter::create(alloc, &mut files, text(alloc, b"y")?, 9)?;
-    writer.put(&mut files, Some(Word::new(0x1ab, 9)))?;
-    writer.put(&mut files, None)?;
-    writer.flush(&mut files)?;
-    let bytes = mx_base::read_whole(alloc, &mut files, &text(alloc, b"y")?, 99)?;
-    assert!(rt; bytes.as_slice() == b"1ab\nxxx\n".as_slice());
-    Ok(())
+    expect_written(&rt, alloc, &mut files)
 }
