@@ -1,11 +1,12 @@
 // The calls that fail, the pieces of a file, and the adapters at the system.
-ghost use Rattle.std.specs.Prelude.{◌≡◌, None};
+ghost use Rattle.std.specs.Prelude.{◌≡◌, None, length, IfOk};
 ghost use Rattle.std.specs.FinMap as finmap;
 
 use mx_base::*;
 use std::alloc::{AllocError, Global};
 use std::fs;
 use std::hash::{DefaultHasher, Hash, Hasher};
+use std::process::Abort;
 use std::test::Fail;
 
 fn text(alloc: Global, bytes: &[u8]) -> Result<Text, AllocError> {
@@ -39,8 +40,7 @@ fn files_fail_where_told(rt: HostRuntime) -> Result<(), Fail> {
         let mut files = MemFiles::new(alloc, vec![in alloc; fails]?)?;
         files.put(&name, b"old")?;
         assert!(rt; three_calls(&mut files, &name) == answers, "call {fails}");
-        let bytes = read_whole(alloc, &mut files, &name, 9)?;
-        assert!(rt; bytes.as_slice() == held, "call {fails}");
+        expect_whole(&rt, alloc, &mut files, b"name", held)?;
         assert!(rt; files.short() == 0);
     }
     Ok(())
@@ -57,40 +57,72 @@ fn output_fails_where_told(rt: HostRuntime) -> Result<(), Fail> {
     Ok(())
 }
 
+// A file of this name is read whole, and is these bytes.
+fn expect_whole<F: Files>(
+    rt: &impl Abort,
+    alloc: Global,
+    files: &mut F,
+    name: &[u8],
+    bytes: &[u8],
+) -> Result<(), Fail> {
+    let read = read_whole(alloc, files, &text(alloc, name)?, bytes.len() as u64)?;
+    assert!(rt; read.as_slice() == bytes);
+    Ok(())
+}
+
+// A file of this name isn't read whole up to this limit, by this error.
+fn expect_unread<F: Files>(
+    rt: &impl Abort,
+    alloc: Global,
+    files: &mut F,
+    name: &[u8],
+    limit: u64,
+    error: ReadError,
+) -> Result<(), Fail> {
+    let read = read_whole(alloc, files, &text(alloc, name)?, limit);
+    assert!(rt; read.err() == Some(error));
+    Ok(())
+}
+
 #[test]
 fn reads_whole_up_to_the_limit(rt: HostRuntime) -> Result<(), Fail> {
     let alloc = rt.alloc();
     let name = text(alloc, b"long")?;
-    let other = text(alloc, b"other")?;
     let long = vec![in alloc; 7u8; 40_000]?;
     let mut files = MemFiles::new(alloc, Vec::new(alloc))?;
     files.put(&name, &long)?;
-    let whole = read_whole(alloc, &mut files, &name, 40_000)?;
-    assert!(rt; whole.as_slice() == long.as_slice());
-    let cut = read_whole(alloc, &mut files, &name, 39_999);
-    assert!(rt; cut.err() == Some(ReadError::TooLarge));
-    let missing = read_whole(alloc, &mut files, &other, 40_000);
-    assert!(rt; missing.err() == Some(ReadError::ReadFault));
-    Ok(())
+    expect_whole(&rt, alloc, &mut files, b"long", &long)?;
+    expect_unread(&rt, alloc, &mut files, b"long", 39_999, ReadError::TooLarge)?;
+    expect_unread(
+        &rt,
+        alloc,
+        &mut files,
+        b"other",
+        40_000,
+        ReadError::ReadFault,
+    )
 }
 
 #[test]
 fn real_files_round_trip(rt: HostRuntime) -> Result<(), Fail> {
     let alloc = rt.alloc();
     let name = text(alloc, b"mx_base_round_trip.txt")?;
+    let no_path = text(alloc, &[255])?;
     let mut files = RealFiles::new(alloc, &rt)?;
     assert!(rt; files.create(&name) == Ok(()));
     assert!(rt; files.append(&name, b"one ") == Ok(()));
     assert!(rt; files.append(&name, b"two") == Ok(()));
-    let bytes = read_whole(alloc, &mut files, &name, 7)?;
-    assert!(rt; bytes.as_slice() == b"one two".as_slice());
-    fs::remove_file(&rt, "mx_base_round_trip.txt")?;
-    let other = text(alloc, b"mx_base_never_made.txt")?;
-    let missing = read_whole(alloc, &mut files, &other, 7);
-    assert!(rt; missing.err() == Some(ReadError::ReadFault));
-    let no_path = text(alloc, &[255])?;
     assert!(rt; files.create(&no_path) == Err(Failed));
-    Ok(())
+    expect_whole(
+        &rt,
+        alloc,
+        &mut files,
+        b"mx_base_round_trip.txt",
+        b"one two",
+    )?;
+    fs::remove_file(&rt, "mx_base_round_trip.txt")?;
+    let never = b"mx_base_never_made.txt";
+    expect_unread(&rt, alloc, &mut files, never, 7, ReadError::ReadFault)
 }
 
 // A file of 4 GiB without contents, and three bytes behind.
@@ -137,9 +169,7 @@ fn many_real_files_in_turn(rt: HostRuntime) -> Result<(), Fail> {
     }
     for number in 0..80u8 {
         let path = format!(in alloc; "mx_base_file_{number}.txt")?;
-        let name = text(alloc, path.as_bytes())?;
-        let bytes = read_whole(alloc, &mut files, &name, 7)?;
-        assert!(rt; bytes.as_slice() == [number, number].as_slice());
+        expect_whole(&rt, alloc, &mut files, path.as_bytes(), &[number, number])?;
         fs::remove_file(&rt, path.as_str())?;
     }
     Ok(())
@@ -151,16 +181,32 @@ fn says_to_the_standard_output(rt: HostRuntime) {
     assert!(rt; say.say(b"said\n") == Ok(()));
 }
 
+// A text that has grown to abcd.
+fn grown(alloc: Global) -> Result<Text, Fail> {
+    let mut name = text(alloc, b"ab")?;
+    name.append(b"cd")?;
+    Ok(name)
+}
+
+// A list that has grown to one copy of a text.
+fn list_of(alloc: Global, name: &Text) -> Result<List<Text>, Fail>
+    ensures { IfOk result (λ list. length list ≡ 1) }
+{
+    let name = name.copy(alloc)?;
+    let mut list = List::new(alloc);
+    list.push(name)?;
+    Ok(list)
+}
+
 #[test]
 fn lists_and_texts_grow_and_compare(rt: HostRuntime) -> Result<(), Fail> {
     let alloc = rt.alloc();
-    let mut name = text(alloc, b"ab")?;
-    name.append(b"cd")?;
-    let mut list = List::new(alloc);
-    list.push(name.copy(alloc)?)?;
+    let name = grown(alloc)?;
+    assert!(rt; name.len() == 4);
+    let list = list_of(alloc, &name)?;
     assert!(rt; list.at(0).is(b"abcd"));
     assert!(rt; list.get(1).is_none());
-    assert!(rt; (list.len(), name.len()) == (1, 4));
+    assert!(rt; list.len() == 1);
     let others = List::from_vec(vec![in alloc; text(alloc, b"abcd")?]?);
     assert!(rt; list == others);
     assert!(rt; hash_of(&name) == hash_of(others.at(0)));

@@ -3,7 +3,9 @@ use crate::{double, self_fed, sum3};
 use latency_table::Table;
 use mx_base::{NoMemory, Text};
 use offset_edges::{edge_list, edges};
+use schedule_problem::Problem;
 use std::alloc::Global;
+use std::process::Abort;
 use std::test::Fail;
 use stream_graph::Kernel;
 
@@ -41,11 +43,8 @@ const SUM3_ARCS: [(u32, u32, i64); 10] = [
 // And its terms, for each node that is read: from, to, weight and middle.
 const SUM3_TERMS: [(u32, u32, u32, u32); 3] = [(0, 6, 32, 2), (2, 8, 32, 4), (4, 10, 32, 5)];
 
-#[test]
-fn neighbours_have_two_arcs_an_edge(rt: HostRuntime) -> Result<(), Fail> {
-    let alloc = rt.alloc();
-    let table = Table::read(alloc, SUMS_TAKE_ONE.as_bytes())?;
-    let problem = edges(alloc, &sum3(alloc)?, &table)?;
+// The problem of the kernel of three neighbours.
+fn expect_sum3(rt: &impl Abort, problem: &Problem) {
     assert!(rt; problem.arcs.nodes == 12);
     assert!(rt; problem.arcs.list.len() == SUM3_ARCS.len());
     for (arc, row) in problem.arcs.list.as_slice().iter().zip(SUM3_ARCS.iter()) {
@@ -56,6 +55,14 @@ fn neighbours_have_two_arcs_an_edge(rt: HostRuntime) -> Result<(), Fail> {
         assert!(rt; (term.from, term.to, term.weight, term.mid) == *row);
     }
     assert!(rt; problem.base == 64);
+}
+
+#[test]
+fn neighbours_have_two_arcs_an_edge(rt: HostRuntime) -> Result<(), Fail> {
+    let alloc = rt.alloc();
+    let kernel = sum3(alloc)?;
+    let table = Table::read(alloc, SUMS_TAKE_ONE.as_bytes())?;
+    expect_sum3(&rt, &edges(alloc, &kernel, &table)?);
     Ok(())
 }
 
@@ -70,39 +77,45 @@ fn line_of(alloc: Global, kernel: &Kernel, table: &Table) -> Result<Vec<u8>, NoM
     }
 }
 
-// Tables, and what is said of the kernels by each.
-const LINES: [(&str, &str, &str, &str); 3] = [
-    (
-        "{}",
-        "refused L1 Double add 8\n",
-        "refused L1 Sum3 add 32\n",
-        "refused C1 Self latency 0 back 0 nodes 0\n",
-    ),
-    (
-        "{\"add\":[[9,1]]}",
-        "refused L1 Double add 8\n",
-        "",
-        "refused C1 Self latency 0 back 0 nodes 0\n",
-    ),
-    (
-        SUMS_TAKE_ONE,
-        "",
-        "",
-        "refused C1 Self latency 0 back 0 nodes 0\n",
-    ),
-];
+// That line is this one.
+fn expect_line(
+    rt: &impl Abort,
+    alloc: Global,
+    kernel: &Kernel,
+    table: &Table,
+    line: &str,
+) -> Result<(), Fail> {
+    let said = line_of(alloc, kernel, table)?;
+    assert!(rt; said.as_slice() == line.as_bytes(), "{line}");
+    Ok(())
+}
+
+// Tables of which one has no sum, one none of so few bits, and one all.
+const TABLES: [&str; 3] = ["{}", "{\"add\":[[9,1]]}", SUMS_TAKE_ONE];
+
+// What is said of a kernel by each of these tables.
+fn expect_lines(
+    rt: &impl Abort,
+    alloc: Global,
+    kernel: &Kernel,
+    lines: [&str; 3],
+) -> Result<(), Fail> {
+    for (table, line) in TABLES.iter().zip(lines.iter()) {
+        let table = Table::read(alloc, table.as_bytes())?;
+        expect_line(rt, alloc, kernel, &table, line)?;
+    }
+    Ok(())
+}
 
 #[test]
 fn kernels_without_a_problem_are_refused(rt: HostRuntime) -> Result<(), Fail> {
     let alloc = rt.alloc();
-    for (table, doubled, summed, fed) in LINES {
-        let read = Table::read(alloc, table.as_bytes())?;
-        let said = line_of(alloc, &double(alloc)?, &read)?;
-        assert!(rt; said.as_slice() == doubled.as_bytes(), "Double by {table}");
-        let said = line_of(alloc, &sum3(alloc)?, &read)?;
-        assert!(rt; said.as_slice() == summed.as_bytes(), "Sum3 by {table}");
-        let said = line_of(alloc, &self_fed(alloc)?, &read)?;
-        assert!(rt; said.as_slice() == fed.as_bytes(), "Self by {table}");
-    }
-    Ok(())
+    let (lacks, fed) = (
+        "refused L1 Double add 8\n",
+        "refused C1 Self latency 0 back 0 nodes 0\n",
+    );
+    expect_lines(&rt, alloc, &double(alloc)?, [lacks, lacks, ""])?;
+    let wide = "refused L1 Sum3 add 32\n";
+    expect_lines(&rt, alloc, &sum3(alloc)?, [wide, "", ""])?;
+    expect_lines(&rt, alloc, &self_fed(alloc)?, [fed, fed, fed])
 }

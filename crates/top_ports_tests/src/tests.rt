@@ -56,7 +56,29 @@ fn add(alloc: Global, top: &mut Module, entries: &[Entry<'_>]) -> Result<(), NoM
     Ok(())
 }
 
-// The ports of the run, where so many of them from a place on are replaced by these.
+// Adds the ports of the run, where so many of them from a place on are replaced by these.
+fn add_changed(
+    alloc: Global,
+    top: &mut Module,
+    change: usize,
+    removed: usize,
+    put: &[Entry<'_>],
+) -> Result<(), NoMemory> {
+    for (place, entry) in RUN.iter().enumerate() {
+        if place == change {
+            add(alloc, top, put)?;
+        }
+        if place < change || place - change >= removed {
+            add(alloc, top, &[*entry])?;
+        }
+    }
+    if change >= RUN.len() {
+        add(alloc, top, put)?;
+    }
+    Ok(())
+}
+
+// A module with these ports.
 fn changed(
     alloc: Global,
     change: usize,
@@ -64,17 +86,7 @@ fn changed(
     put: &[Entry<'_>],
 ) -> Result<Module, NoMemory> {
     let mut top = empty(alloc)?;
-    for (place, entry) in RUN.iter().enumerate() {
-        if place == change {
-            add(alloc, &mut top, put)?;
-        }
-        if place < change || place - change >= removed {
-            add(alloc, &mut top, &[*entry])?;
-        }
-    }
-    if change >= RUN.len() {
-        add(alloc, &mut top, put)?;
-    }
+    add_changed(alloc, &mut top, change, removed, put)?;
     Ok(top)
 }
 
@@ -171,11 +183,17 @@ fn read(alloc: Global, top: &Module) -> Result<Option<Interface>, NoMemory> {
     }
 }
 
+// What the ports of the run are for, where these stand before the one at a place.
+fn told(alloc: Global, place: usize, put: &[Entry<'_>]) -> Result<Interface, Fail> {
+    let top = changed(alloc, place, 0, put)?;
+    let ports = read(alloc, &top)?;
+    Ok(ports.ok_or(NoTop)?)
+}
+
 #[test]
 fn a_run_tells_what_its_ports_are_for(rt: HostRuntime) -> Result<(), Fail> {
     let alloc = rt.alloc();
-    let top = changed(alloc, 0, 0, &[])?;
-    let ports = read(alloc, &top)?.ok_or(NoTop)?;
+    let ports = told(alloc, 0, &[])?;
     assert!(rt; matches!(ports.kernels.as_slice(), [a] if is_kernel(a, b"Double", 2)));
     assert!(rt; ports.scalars.len() == 0);
     assert!(rt; matches!(ports.inputs.as_slice(), [x] if is_stream(x, b"x", 8, 4)));
@@ -193,8 +211,7 @@ fn kernels_and_scalars_are_told_in_order(rt: HostRuntime) -> Result<(), Fail> {
         (b"scalar$Double$a", 5, false),
         (b"scalar$B_2$a", 1, false),
     ];
-    let top = changed(alloc, 4, 0, put)?;
-    let ports = read(alloc, &top)?.ok_or(NoTop)?;
+    let ports = told(alloc, 4, put)?;
     assert!(rt;
         matches!(
             ports.kernels.as_slice(),

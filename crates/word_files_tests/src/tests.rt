@@ -41,6 +41,26 @@ fn no_ports(alloc: Global) -> Interface {
     }
 }
 
+// The ports of a kernel K alone.
+fn ports_of_k(alloc: Global) -> Result<Interface, Fail> {
+    let kernel = KernelPorts {
+        name: text(alloc, b"K")?,
+        hold: NetId::new(3),
+        ticks: NetId::new(4),
+    };
+    let mut ports = no_ports(alloc);
+    ports.kernels.push(kernel)?;
+    Ok(ports)
+}
+
+// A run file that says nothing of K doesn't fit its ports.
+fn expect_no_ticks(rt: &impl Abort, alloc: Global, run: &RunFile) -> Result<(), Fail> {
+    let lacking = RunFileError::Shape(text(alloc, b"ticks")?);
+    let ports = ports_of_k(alloc)?;
+    assert!(rt; run.fit(alloc, &ports) == Err(lacking));
+    Ok(())
+}
+
 #[test]
 fn a_run_file_fits_its_ports(rt: HostRuntime) -> Result<(), Fail> {
     let alloc = rt.alloc();
@@ -49,16 +69,8 @@ fn a_run_file_fits_its_ports(rt: HostRuntime) -> Result<(), Fail> {
         b"{\"ticks\":{},\"inputs\":{},\"outputs\":{},\"edges\":12}",
     )?;
     assert!(rt; run.edges == 12);
-    let mut ports = no_ports(alloc);
-    assert!(rt; run.fit(alloc, &ports) == Ok(()));
-    ports.kernels.push(KernelPorts {
-        name: text(alloc, b"K")?,
-        hold: NetId::new(3),
-        ticks: NetId::new(4),
-    })?;
-    let refused = run.fit(alloc, &ports).err();
-    assert!(rt; refused == Some(RunFileError::Shape(text(alloc, b"ticks")?)));
-    Ok(())
+    assert!(rt; run.fit(alloc, &no_ports(alloc)) == Ok(()));
+    expect_no_ticks(&rt, alloc, &run)
 }
 
 // Files in memory that hold these bytes as x, where the call of this number fails.
