@@ -2,19 +2,21 @@
 use crate::building::{Built, build_alone};
 use crate::kernels::{DOUBLE, ENDLESS};
 use crate::nodes::has_operands;
-use crate::plans::{EndOf, PROJECTS};
+use crate::plans::{EndOf, PROJECTS, Project};
 use crate::rows::ROWS;
 use kernel_eval::eval_manager;
-use kernel_meaning::End;
+use kernel_meaning::{End, Plan};
 use maxj_syntax::parse;
 use mx_base::Text;
+use std::process::Abort;
 use std::test::Fail;
 
 #[test]
 fn constructors_make_their_nodes(rt: HostRuntime) -> Result<(), Fail> {
     for (source, name, nodes) in ROWS {
-        match build_alone(rt.alloc(), source.as_bytes(), name.as_bytes())? {
-            Built::Kernel(kernel) => assert!(rt; has_operands(&kernel, nodes), "{name}"),
+        let built = build_alone(rt.alloc(), source.as_bytes(), name.as_bytes())?;
+        match &built {
+            Built::Kernel(kernel) => assert!(rt; has_operands(kernel, nodes), "{name}"),
             Built::Refused(line) => assert!(rt; false, "{name}: {line:?}"),
         }
     }
@@ -37,35 +39,39 @@ fn end_of(end: &End) -> EndOf<'_> {
     }
 }
 
+// A plan is this project's.
+fn expect_plan(rt: &impl Abort, plan: &Plan, project: &Project, number: usize) {
+    assert!(rt; plan.manager);
+    assert!(rt;
+        plan.kernels.len() == project.kernels.len(),
+        "project {number}"
+    );
+    for (made, (name, class, args)) in plan.kernels.as_slice().iter().zip(project.kernels) {
+        assert!(rt; made.name.as_bytes() == *name, "project {number}");
+        assert!(rt; made.class == *class, "project {number}");
+        assert!(rt; made.args.as_slice() == *args, "project {number}");
+    }
+    assert!(rt;
+        are_names(plan.from_cpu.as_slice(), project.from_cpu),
+        "project {number}"
+    );
+    assert!(rt;
+        are_names(plan.to_cpu.as_slice(), project.to_cpu),
+        "project {number}"
+    );
+    assert!(rt; plan.joins.len() == project.joins.len(), "project {number}");
+    for (join, (left, right)) in plan.joins.as_slice().iter().zip(project.joins) {
+        assert!(rt; end_of(&join.left) == *left, "project {number}");
+        assert!(rt; end_of(&join.right) == *right, "project {number}");
+    }
+}
+
 #[test]
 fn managers_build_their_projects(rt: HostRuntime) -> Result<(), Fail> {
     let alloc = rt.alloc();
     for (number, project) in PROJECTS.iter().enumerate() {
         let program = parse(alloc, project.source.as_bytes())?;
-        let plan = eval_manager(alloc, &program)?;
-        assert!(rt; plan.manager);
-        assert!(rt;
-            plan.kernels.len() == project.kernels.len(),
-            "project {number}"
-        );
-        for (made, (name, class, args)) in plan.kernels.as_slice().iter().zip(project.kernels) {
-            assert!(rt; made.name.as_bytes() == *name, "project {number}");
-            assert!(rt; made.class == *class, "project {number}");
-            assert!(rt; made.args.as_slice() == *args, "project {number}");
-        }
-        assert!(rt;
-            are_names(plan.from_cpu.as_slice(), project.from_cpu),
-            "project {number}"
-        );
-        assert!(rt;
-            are_names(plan.to_cpu.as_slice(), project.to_cpu),
-            "project {number}"
-        );
-        assert!(rt; plan.joins.len() == project.joins.len(), "project {number}");
-        for (join, (left, right)) in plan.joins.as_slice().iter().zip(project.joins) {
-            assert!(rt; end_of(&join.left) == *left, "project {number}");
-            assert!(rt; end_of(&join.right) == *right, "project {number}");
-        }
+        expect_plan(&rt, &eval_manager(alloc, &program)?, project, number);
     }
     Ok(())
 }
@@ -123,7 +129,8 @@ const REFUSED: [(&str, &str); 5] = [
 #[test]
 fn constructors_are_refused(rt: HostRuntime) -> Result<(), Fail> {
     for (source, line) in REFUSED {
-        match build_alone(rt.alloc(), source.as_bytes(), b"K")? {
+        let built = build_alone(rt.alloc(), source.as_bytes(), b"K")?;
+        match &built {
             Built::Kernel(_) => assert!(rt; false, "{source}"),
             Built::Refused(said) => assert!(rt; said.as_slice() == line.as_bytes(), "{source}"),
         }
@@ -131,11 +138,8 @@ fn constructors_are_refused(rt: HostRuntime) -> Result<(), Fail> {
     Ok(())
 }
 
-#[test]
-fn a_kernel_stands_alone(rt: HostRuntime) -> Result<(), Fail> {
-    let alloc = rt.alloc();
-    let program = parse(alloc, DOUBLE.as_bytes())?;
-    let plan = eval_manager(alloc, &program)?;
+// The plan of a source without a manager, whose one kernel is Double.
+fn expect_alone(rt: &impl Abort, plan: &Plan) {
     assert!(rt; !plan.manager);
     assert!(rt; plan.kernels.len() == 1);
     for made in plan.kernels.as_slice() {
@@ -144,5 +148,12 @@ fn a_kernel_stands_alone(rt: HostRuntime) -> Result<(), Fail> {
     }
     let streams = (plan.from_cpu.len(), plan.to_cpu.len(), plan.joins.len());
     assert!(rt; streams == (0, 0, 0));
+}
+
+#[test]
+fn a_kernel_stands_alone(rt: HostRuntime) -> Result<(), Fail> {
+    let alloc = rt.alloc();
+    let program = parse(alloc, DOUBLE.as_bytes())?;
+    expect_alone(&rt, &eval_manager(alloc, &program)?);
     Ok(())
 }

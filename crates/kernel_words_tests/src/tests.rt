@@ -2,7 +2,10 @@
 use crate::kernels::QUOT;
 use crate::running::{Ran, run_alone};
 use kernel_eval_tests::{ACC, Built, FOURTH, GUARD, NEXT, SUM3, build_alone};
+use std::alloc::Global;
+use std::process::Abort;
 use std::test::Fail;
+use stream_graph::Kernel;
 
 // A source, the name of its kernel, its ticks, the words of its inputs, and those of its output.
 const WORDS: [(&str, &str, u64, &[&[u128]], &[Option<u128>]); 6] = [
@@ -38,18 +41,32 @@ const WORDS: [(&str, &str, u64, &[&[u128]], &[Option<u128>]); 6] = [
     (SUM3, "Sum3", 3, &[&[1, 2, 3]], &[None, Some(6), None]),
 ];
 
+// A kernel computes these words in so many ticks, and its run is guarded.
+fn expect_words(
+    rt: &impl Abort,
+    alloc: Global,
+    kernel: &Kernel,
+    ticks: u64,
+    inputs: &[&[u128]],
+    words: &[Option<u128>],
+) -> Result<(), Fail> {
+    match run_alone(alloc, kernel, ticks, inputs)? {
+        Ran::Words(found, guarded) => {
+            assert!(rt; found.as_slice() == words);
+            assert!(rt; guarded);
+        }
+        Ran::NotRun => assert!(rt; false),
+    }
+    Ok(())
+}
+
 #[test]
 fn kernels_compute_these_words(rt: HostRuntime) -> Result<(), Fail> {
     let alloc = rt.alloc();
     for (source, name, ticks, inputs, words) in WORDS {
-        match build_alone(alloc, source.as_bytes(), name.as_bytes())? {
-            Built::Kernel(kernel) => match run_alone(alloc, &kernel, ticks, inputs)? {
-                Ran::Words(found, guarded) => {
-                    assert!(rt; found.as_slice() == words, "{name}");
-                    assert!(rt; guarded, "{name}");
-                }
-                Ran::NotRun => assert!(rt; false, "{name}"),
-            },
+        let built = build_alone(alloc, source.as_bytes(), name.as_bytes())?;
+        match &built {
+            Built::Kernel(kernel) => expect_words(&rt, alloc, kernel, ticks, inputs, words)?,
             Built::Refused(line) => assert!(rt; false, "{name}: {line:?}"),
         }
     }

@@ -2,7 +2,7 @@
 use manager_links::Project;
 use maxj_syntax::parse;
 use mx_base::NoMemory;
-use project_build::build_project;
+use project_build::{ProjectError, build_project};
 use std::alloc::Global;
 
 /// What is said of a source: its project, or the line of its refusal.
@@ -20,7 +20,12 @@ pub fn tell(alloc: Global, source: &[u8]) -> Result<Told, NoMemory> {
     let Ok(program) = parse(alloc, source) else {
         return Ok(Told::Refused(Vec::new(alloc)));
     };
-    match build_project(alloc, &program) {
+    told_of(alloc, build_project(alloc, &program))
+}
+
+// What is said where a project is built or not.
+fn told_of(alloc: Global, built: Result<Project, ProjectError>) -> Result<Told, NoMemory> {
+    match built {
         Ok(project) => Ok(Told::Project(project)),
         Err(error) => Ok(Told::Refused(error.line(alloc)?)),
     }
