@@ -9,3 +9,4 @@ pub mod Products
 pub mod Operands
 mod Divisions
 mod Examples
+pub mod Comparisons

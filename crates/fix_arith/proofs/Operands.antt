@@ -1,5 +1,5 @@
 -- The operands of an operation, and their widths.
-use Rattle.std.proofs.Common.{Option, ⊎_elim, get_or, ◌≡◌, ◌<◌, ◌≤◌, ℕ, ap, sym, ◌∙◌, subst, List, [], ◌∷◌, length, map, drop, IfSome, slice_get}
+use Rattle.std.proofs.Common.{arith, refl, Option, ⊎_elim, get_or, ◌≡◌, ◌<◌, ◌≤◌, ℕ, ap, sym, ◌∙◌, subst, List, [], ◌∷◌, length, map, drop, IfSome, slice_get}
 use Rattle.std.specs.List.{between}
 use Rattle.std.proofs.lemmas.Option.{slice_get_cases}
 use Rattle.std.proofs.lemmas.List.{get_or-map, length-map}
@@ -9,12 +9,17 @@ use Rattle.mx_bits.specs.declared.word.Word.{Word}
 use Rattle.fix_arith.specs.declared.types.StreamType.{StreamType}
 use Rattle.fix_arith.specs.Types.{width_of}
 use Rattle.fix_arith.specs.Typing.{AllSame, first, second}
-use Rattle.fix_arith.specs.declared.types.StreamType.TheVariants.{Bool as OneBit}
+use Rattle.fix_arith.specs.declared.types.StreamType.TheVariants.{UInt, Bool as OneBit}
 use Rattle.fix_arith.specs.Table.{widths_of, bits_of, operand}
 
 -- one word per type
-count_is : (ws : List Word) (ts : List StreamType) → widths_of ws ≡ map width_of ts → length ws ≡ length ts
+pub count_is : (ws : List Word) (ts : List StreamType) → widths_of ws ≡ map width_of ts → length ws ≡ length ts
 count_is ws ts e = sym (length-map ws (λ w. w.width)) ∙ ap length e ∙ length-map ts width_of
+
+-- the first type, read with another default
+pub first_type : (ts : List StreamType) → 1 ≤ length ts → get_or ts 0 (UInt 0) ≡ first ts
+first_type [] h = absurd (omega (arith, h))
+first_type (t ∷ ts) h = refl
 
 -- the width of each operand is its type's
 width_at : (ws : List Word) (ts : List StreamType) (i : ℕ) (w : Word) → widths_of ws ≡ map width_of ts → i < length ws → w ≡ get_or ws i w → w.width ≡ width_of (get_or ts i OneBit)
@@ -43,6 +48,21 @@ pub second_is : (ws : List Word) (ts : List StreamType) (b : Word)
 second_is ws ts b e same h is =
     let within : 1 < length ws = subst (λ n. 1 < n) (sym (count_is ws ts e)) h in
     (get_or-map (λ (x : Word). x.bits) ws 1 b 0 within ∙ sym (ap (λ (x : Word). x.bits) is), alike_at ws ts 1 b e same within is)
+
+-- where there are two types, there is a second operand
+pub two_within : (ws : List Word) (ts : List StreamType) → widths_of ws ≡ map width_of ts → length ts ≡ 2 → 1 < length ws
+two_within ws ts e h = let count = count_is ws ts e in omega (arith, count, h)
+
+-- what the functions of two words ask for
+pub first_width : (ws : List Word) (ts : List StreamType) (a : Word)
+    → widths_of ws ≡ map width_of ts → 1 ≤ length ts → a ≡ get_or ws 0 a
+    → a.width ≡ width_of (get_or ts 0 (UInt 0))
+first_width ws ts a e h is = (first_is ws ts a e h is).1 ∙ ap width_of (sym (first_type ts h))
+
+pub second_width : (ws : List Word) (ts : List StreamType) (b : Word)
+    → widths_of ws ≡ map width_of ts → AllSame ts → length ts ≡ 2 → b ≡ get_or ws 1 b
+    → b.width ≡ width_of (get_or ts 0 (UInt 0))
+second_width ws ts b e same h is = (second_is ws ts b e same (omega (arith, h)) is).1 ∙ ap width_of (sym (first_type ts (omega (arith, h))))
 
 -- a chosen option has the second type's width
 chosen_width : (ws : List Word) (ts : List StreamType) (s : ℕ) → widths_of ws ≡ map width_of ts → AllSame ts → IfSome (slice_get ws s) (λ w. w.width ≡ width_of (first ts))

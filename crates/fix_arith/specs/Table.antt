@@ -1,8 +1,9 @@
 -- The operations on words: exact on their numbers, then rounded, then reduced.
-use Rattle.std.specs.Prelude.{◌≡◌, ℕ, ◌-◌, ◌^◌, Bool, ◌==◌, if◌then◌else◌, IsTrue, Option, Some}
+use Rattle.std.specs.Prelude.{◌≡◌, ℕ, ◌-◌, ◌^◌, Bool, false, ◌==◌, if◌then◌else◌, IsTrue, Option, Some}
 use Rattle.std.specs.Prelude.{None, List, length, map, drop, slice_get, slice_index_or, bit_and}
 use Rattle.std.specs.Prelude.{bit_or, bit_xor, ℤ, pos, ◌+ℤ◌, ◌-ℤ◌, ◌*ℤ◌, int_div}
 use Rattle.std.specs.Ordering.{int_cmp, is_eq, is_ne, is_lt, is_le, is_gt, is_ge}
+use Rattle.std.specs.declared.cmp.Ordering.{Ordering}
 use Rattle.mx_bits.specs.declared.op.Op.{Op}
 use Rattle.mx_bits.specs.declared.op.Op.TheVariants.{Add, Sub, Mul, Div, Neg, And, Or, Xor, Not, Shl, Shr, Eq, Ne, Lt, Le, Gt, Ge, Mux, Cast, Round}
 use Rattle.mx_bits.specs.declared.word.Word.{Word}
@@ -31,6 +32,16 @@ product_of mode OneBit x y = x *ℤ y
 -- a word of one bit
 abbrev pub bit_of : Bool → ℕ
 bit_of test = if test then 1 else 0
+
+-- whether a comparison holds of operands that compare so
+abbrev pub test_of : Op → Ordering → Bool
+test_of Eq order = is_eq order
+test_of Ne order = is_ne order
+test_of Lt order = is_lt order
+test_of Le order = is_le order
+test_of Gt order = is_gt order
+test_of Ge order = is_ge order
+test_of _ order = false
 
 -- A row on operands of type t, of which the first has the bits a and the second, where there is
 -- one, the bits b; k is the number of bits of a shift.

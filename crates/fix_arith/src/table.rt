@@ -5,7 +5,8 @@ ghost use Rattle.std.specs.Ordering.{int_cmp};
 ghost use Rattle.fix_arith.specs.Types.{width_of, HasWidth};
 ghost use Rattle.fix_arith.specs.Typing.{is_fix};
 ghost use Rattle.fix_arith.specs.Values.{value_of, reduced};
-ghost use Rattle.fix_arith.specs.Table.{applied, product_of, bit_of, bits_of, widths_of, GivesType};
+ghost use Rattle.fix_arith.specs.Table.{applied, product_of, bit_of, bits_of, widths_of};
+ghost use Rattle.fix_arith.specs.Table.{test_of, GivesType};
 
 use crate::casting::cast;
 use crate::integer::Integer;
@@ -52,12 +53,9 @@ pub fn apply(
         Op::And => a.and(args[1]),
         Op::Or => a.or(args[1]),
         Op::Xor => a.xor(args[1]),
-        Op::Eq => bit(order(a, args[1], t).is_eq()),
-        Op::Ne => bit(order(a, args[1], t).is_ne()),
-        Op::Lt => bit(order(a, args[1], t).is_lt()),
-        Op::Le => bit(order(a, args[1], t).is_le()),
-        Op::Gt => bit(order(a, args[1], t).is_gt()),
-        Op::Ge => bit(order(a, args[1], t).is_ge()),
+        Op::Eq | Op::Ne | Op::Lt | Op::Le | Op::Gt | Op::Ge => {
+            bit(holds(op, order(a, args[1], t)))
+        }
     })
 }
 
@@ -116,6 +114,21 @@ fn order(a: Word, b: Word, t: StreamType) -> Ordering
     ensures { result ≡ int_cmp (value_of t a.bits) (value_of t b.bits) }
 {
     Integer::of_word(a, t).compare(Integer::of_word(b, t))
+}
+
+// Whether a comparison holds of operands that compare so.
+fn holds(op: Op, order: Ordering) -> bool
+    ensures { result ≡ test_of op order }
+{
+    match op {
+        Op::Eq => order.is_eq(),
+        Op::Ne => order.is_ne(),
+        Op::Lt => order.is_lt(),
+        Op::Le => order.is_le(),
+        Op::Gt => order.is_gt(),
+        Op::Ge => order.is_ge(),
+        _ => false,
+    }
 }
 
 // One bit: 1 where the test holds.

@@ -1,7 +1,7 @@
 -- Initial values, in braces and otherwise.
 use Rattle.std.proofs.Common.{◌≡◌, ◌∙◌, ◌≢◌, ℕ, ◌+◌, ◌-◌, ◌<◌, ◌≤◌, ◌++◌, zero, suc, List, [], ◌∷◌, length, true, false, refl, ap, arith}
 use Rattle.std.proofs.Common.{length-append}
-use Rattle.std.specs.Prelude.{◌==◌, ◌&&◌, Option, Bool, Result, Ok, is_some, nat_le}
+use Rattle.std.specs.Prelude.{◌==◌, ◌&&◌, Option, Bool, Result, Ok, Err, nat_le}
 use Rattle.mx_base.specs.declared.span.Span.{Span}
 use Rattle.maxj_syntax.specs.Cells.{Cell}
 use Rattle.maxj_syntax.specs.Tree.{Tree, Node, Trees, Nil, Cons}
@@ -14,7 +14,7 @@ use Rattle.kernel_meaning.specs.declared.value.Declared.{Declared}
 use Rattle.kernel_meaning.specs.declared.value.Spot.{Spot}
 use Rattle.kernel_meaning.specs.declared.value.Value.{Value}
 use Rattle.kernel_meaning.specs.Answer.{Refused, Then, Next, counted, used, needs}
-use Rattle.kernel_meaning.specs.Names.{place_of, bound_in, declared}
+use Rattle.kernel_meaning.specs.Names.{place_of}
 use Rattle.kernel_meaning.specs.Plans.{number_of_trees}
 use Rattle.kernel_meaning.specs.Run.{Place, expr, exec, initial, inits}
 use Rattle.kernel_meaning.specs.Values.{same_declared, number_of, has_kind, declared_by}
@@ -24,6 +24,11 @@ use Rattle.kernel_meaning.specs.Arrays.{with_content}
 use Rattle.kernel_meaning.specs.Ways.{braces, braced, introduced}
 use Rattle.kernel_plans.specs.Trees.{tree_of, branch_tree}
 use Rattle.kernel_plans.specs.declared.branch.Branch.{Branch}
+use Rattle.kernel_meaning.specs.declared.error.EvalError.{EvalError}
+use Rattle.kernel_plans.specs.Classes.{ClassView}
+use Rattle.kernel_machine.specs.Answers.{IsIntroduced, typed}
+use Rattle.kernel_machine.specs.declared.machine.Machine.{Machine}
+use Rattle.kernel_machine.specs.Going.{Leads}
 use Rattle.kernel_machine.specs.Left.{
   parts,
   from_place,
@@ -211,13 +216,24 @@ braces-go here of tree state next rank left e few enough is =
 -- an element is set and of the type
 pub element-set : (cells : List Cell) (here : Place) (node : Option ℕ) (of : Declared)
     (values : List Value) (value present : Value) (longer : List Value) (state : State)
-    (next : Then) → ((then : Then) → used (place_of (tree_of cells node)) value state then
+    (next : Then) → ((then : Then) → typed (place_of (tree_of cells node)) of value state then
     ≡ then present state)
-    → has_kind of present ≡ true → longer ≡ values ++ present ∷ []
+    → longer ≡ values ++ present ∷ []
     → element_at cells here node of values value state next
     ≡ elements_left here of (tree_of cells node) (length longer) longer state next
-element-set cells here node of values value present longer state next is kind pushed =
-    is _ ∙ rw (kind, pushed, length-append values (present ∷ []), rank-above (length values)) refl
+element-set cells here node of values value present longer state next is pushed =
+    is _ ∙ rw (pushed, length-append values (present ∷ []), rank-above (length values)) refl
+
+pub element-refused : (cells : List Cell) (here : Place) (node : Option ℕ) (of : Declared)
+    (values : List Value) (value : Value) (state : State) (next : Then) (e : EvalError)
+    → ((then : Then) → typed (place_of (tree_of cells node)) of value state then ≡ Refused e)
+    → element_at cells here node of values value state next ≡ Refused e
+element-refused cells here node of values value state next e is = is _
+
+pub one-longer : (values longer : List Value) (value : Value) → longer ≡ values ++ value ∷ []
+    → suc (length values) ≡ length longer
+one-longer values longer value e =
+    rw (e, length-append values (value ∷ []), rank-above (length values)) refl
 
 -- a local variable
 pub local-none : (here : Place) (word : List ℕ) (span : Span) (trees : Trees) (state : State)
@@ -234,9 +250,15 @@ pub local-some : (here : Place) (name : List ℕ) (span : Span) (trees others : 
 unfolding expr
 local-some here name span trees others tree state next back e = rw e refl
 
-pub introduced-go : (at : ℕ) (name : List ℕ) (result : Result Declared ℕ) (of : Declared)
-    (state : State) (next : Declared → Next) → result ≡ Ok of
-    → is_some (bound_in name state.variables) ≡ false
-    → introduced at name result state next
-    ≡ next of (record state { variables = declared name of state.variables })
-introduced-go at name result of state next e f = rw (e, f) refl
+pub introduced-by : (at : ℕ) (name : List ℕ) (result : Result Declared ℕ) (of : Declared)
+    (state after : State) (next : Declared → Next) → result ≡ Ok of
+    → ((next : Declared → Next) → introduced at name (Ok of) state next ≡ next of after)
+    → introduced at name result state next ≡ next of after
+introduced-by at name result of state after next e stands = rw e (stands next)
+
+pub not-introduced : (class : ClassView) (at : ℕ) (name : List ℕ) (of : Declared)
+    (old after : State) (e : EvalError) (new : Machine) (next : Declared → Next)
+    → IsIntroduced at name of old (Err e) after
+    → Leads class (introduced at name (Ok of) old next) (Err e) new
+not-introduced class at name of old after E.NoMemory new next h = tt
+not-introduced class at name of old after _ new next h = h next

@@ -56,7 +56,7 @@ use Rattle.kernel_machine.specs.Left.{
   operands_left,
   added,
 }
-use Rattle.kernel_machine.proofs.Moves.{counted-to}
+use Rattle.kernel_machine.proofs.Moves.{counted-to, evaluated}
 use Rattle.kernel_machine.proofs.Places.{how-many}
 
 pub addition-odd : (here : Place) (at : ℕ) (trees : Trees) (state : State) (next : Then)
@@ -186,19 +186,16 @@ wrong-reads class machine node b count e h =
     rw (e, h, ← many) refl
 
 -- a kernel that has its name waits for its first argument
-pub named-next : (class : ClassView) (old : Machine) (node : Option ℕ) (b : Branch) (tree : Tree)
-    (number : ℕ) (name : List ℕ) (count : ℕ) (values : List Value) (tasks : List Task)
-    → tree_of class.cells node ≡ branch_tree class.cells b
-    → values ≡ [] → tasks ≡ T.Operands node b.span.from 2 count
-    (P.ForKernel number name) values ∷ old.tasks
-    → expr (standing class old) tree old.state
+pub named-next : (class : ClassView) (old : Machine) (node : Option ℕ) (b : Branch)
+    (part : Option ℕ) (number : ℕ) (name : List ℕ) (count : ℕ) (values : List Value)
+    → tree_of class.cells node ≡ branch_tree class.cells b → values ≡ []
+    → expr (standing class old) (tree_of class.cells part) old.state
     (λ value state. used (place_of (tree_of class.cells node)) value state
     (λ value state. operands (standing class old) (place_of (tree_of class.cells node)) 2 count
     (parts (tree_of class.cells node)) ([] ++ value ∷ []) state
     (λ values state. added (place_of (tree_of class.cells node)) number name values state (rest
     class old))))
-    ≡ expr (standing class old) tree old.state
-    (rest class (record old { tasks = tasks }))
+    ≡ evaluated class old (T.Operands node b.span.from 2 count (P.ForKernel number name) values) part
 unfolding go
-named-next class old node b tree number name count values tasks e v f =
-    let at = sym (ap place_of e) in rw (f, v, at) refl
+named-next class old node b part number name count values e v =
+    let at = sym (ap place_of e) in rw (v, at) refl

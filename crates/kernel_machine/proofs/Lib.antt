@@ -6,3 +6,4 @@ pub mod FieldFirst
 pub mod GivenFirst
 pub mod Sets
 pub mod Begun
+pub mod Groups

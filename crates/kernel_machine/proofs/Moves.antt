@@ -28,8 +28,9 @@ use Rattle.std.proofs.Common.{
   inl,
   inr,
   arith,
+  subst,
 }
-use Rattle.std.specs.Prelude.{◌⊎◌, Option, Bool, Result}
+use Rattle.std.specs.Prelude.{◌⊎◌, Option, Bool, Result, IsErr, IsErrAnd}
 use Rattle.maxj_syntax.specs.Cells.{Cell}
 use Rattle.maxj_syntax.specs.Tree.{Tree, Node, Trees, Nil, Cons}
 use Rattle.kernel_calls.specs.declared.call.Call.{Call}
@@ -107,12 +108,15 @@ use Rattle.kernel_machine.specs.Going.{
   after,
   leaving,
 }
+use Rattle.kernel_meaning.specs.declared.value.Value.TheVariants as V
+use Rattle.kernel_machine.specs.declared.task.Task.{Task}
+use Rattle.kernel_machine.specs.declared.task.Task.TheVariants as T
 use Rattle.kernel_machine.specs.declared.task.Loop.{Loop}
 use Rattle.kernel_machine.specs.declared.task.Condition.{Condition}
 use Rattle.kernel_machine.specs.declared.task.Condition.TheVariants as C
 use Rattle.kernel_machine.specs.Answers.{IsCounted}
 use Rattle.kernel_machine.specs.declared.task.Purpose.TheVariants as P
-use Rattle.kernel_machine.specs.Left.{from_place, turns_left, body_of, planned_at, operands_left}
+use Rattle.kernel_machine.specs.Left.{from_place, turns_left, turn_on, body_of, planned_at, operands_left}
 use Rattle.kernel_machine.specs.Positions.{IsTest, IsStep}
 
 pub leads-by : (class : ClassView) (a b : Answer) (r : Result Event EvalError) (new : Machine)
@@ -184,7 +188,29 @@ kept-left count state h = record {
   digits = h.digits;
 }
 
--- a turn of a loop without a condition
+-- an expression, and a statement, for which a task waits
+abbrev pub evaluated : ClassView → Machine → Task → Option ℕ → Answer
+evaluated class machine task part =
+    expr (standing class machine) (tree_of class.cells part) machine.state
+    (λ value state. go class (standing class machine) (task ∷ machine.tasks) value state
+    (leaving class machine))
+
+abbrev pub executed : ClassView → Machine → Task → Option ℕ → Answer
+executed class machine task part =
+    exec (standing class machine) (tree_of class.cells part) machine.state
+    (λ state. go class (standing class machine) (task ∷ machine.tasks) V.Nothing state
+    (leaving class machine)) (leaving class machine)
+
+-- a turn of a loop with a condition, and one without
+pub turns-holds : (cells : List Cell) (here : Place) (back : Then) (repeat : Loop)
+    (part : Option ℕ) (more fewer : ℕ) (state : State) (next : Next)
+    → repeat.condition ≡ C.Holds part → more ≡ suc fewer
+    → turns_left cells here back repeat more state next
+    ≡ expr here (tree_of cells part) state
+    (λ value state. turn_on cells here back repeat fewer value state next)
+unfolding turns
+turns-holds cells here back repeat part more fewer state next e f = rw (e, f) refl
+
 pub turns-always : (cells : List Cell) (here : Place) (back : Then) (repeat : Loop)
     (more fewer : ℕ) (state : State) (next : Next) → repeat.condition ≡ C.Always → more ≡ suc fewer
     → turns_left cells here back repeat more state next
@@ -545,3 +571,35 @@ pub leads-error : (class : ClassView) (answer : Answer) (e : EvalError) (new : M
     → answer ≡ Refused e → Leads class answer (Err e) new
 leads-error class answer E.NoMemory new h = tt
 leads-error class answer _ new h = h
+
+-- an error that is handed on
+pub leads-on : (class : ClassView) (answer : Answer) (r : Result Event EvalError) (e : EvalError)
+    (new : Machine) → IsErr r → IsErrAnd r (λ x. x ≡ e) → answer ≡ Refused e
+    → Leads class answer r new
+leads-on class answer (Ok event) e new is same refused = absurd (cc)
+leads-on class answer (Err x) e new is same refused =
+    leads-error class answer x new (refused ∙ ap Refused (sym same))
+
+-- once a step is counted, a call that is a statement is evaluated, and a `for` begins
+pub discarded : (class : ClassView) (old mid : Machine) (part : Option ℕ)
+    → mid ≡ record old { state = record old.state { left = mid.state.left } }
+    → expr (standing class old) (tree_of class.cells part) mid.state
+    (λ value state. after class old state)
+    ≡ evaluated class mid T.Discard part
+unfolding go
+discarded class old mid part e =
+    subst (λ (m : Machine). expr (standing class old) (tree_of class.cells part) m.state
+    (λ value state. after class old state) ≡ evaluated class m T.Discard part) (sym e) refl
+
+pub looped : (class : ClassView) (old mid : Machine) (loop : Loop) (part : Option ℕ)
+    → mid ≡ record old { state = record old.state { left = mid.state.left } }
+    → exec (standing class old) (tree_of class.cells part) mid.state
+    (λ state. turns_left class.cells (standing class old) (leaving class old) loop
+    (suc state.left) state (after class old)) (leaving class old)
+    ≡ executed class mid (T.LoopBegin loop) part
+unfolding go
+looped class old mid loop part e =
+    subst (λ (m : Machine). exec (standing class old) (tree_of class.cells part) m.state
+    (λ state. turns_left class.cells (standing class old) (leaving class old) loop
+    (suc state.left) state (after class old)) (leaving class old)
+    ≡ executed class m (T.LoopBegin loop) part) (sym e) refl

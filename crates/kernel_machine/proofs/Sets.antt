@@ -1,6 +1,14 @@
 -- Assignments, and where their values go.
 use Rattle.std.proofs.Common.{◌≡◌, ◌∙◌, ◌≢◌, ℕ, List, ◌∷◌, length, true, false, refl, ap, sym, codes}
-use Rattle.std.specs.Prelude.{◌⊎◌, Option, is_some}
+use Rattle.std.specs.Prelude.{◌⊎◌, Option, Result, Ok, Err, IfOk, IsErr, IsErrAnd, is_some}
+use Rattle.std.proofs.Common.{subst}
+use Rattle.kernel_rows.specs.Fit.{IsFit}
+use Rattle.kernel_meaning.specs.Names.{place_of}
+use Rattle.kernel_plans.specs.Classes.{ClassView}
+use Rattle.kernel_machine.specs.Answers.{IsPresent, IsSet, IsUnset}
+use Rattle.kernel_machine.specs.Going.{Leads}
+use Rattle.kernel_machine.specs.declared.machine.Event.{Event}
+use Rattle.kernel_machine.specs.declared.machine.Machine.{Machine}
 use Rattle.std.proofs.Common.{inl, inr, None, ◌<◌, ◌≤◌, arith}
 use Rattle.std.specs.Str.{bytes_eq}
 use Rattle.mx_base.specs.declared.span.Span.{Span}
@@ -25,6 +33,8 @@ use Rattle.kernel_plans.specs.declared.branch.Branch.{Branch}
 use Rattle.kernel_plans.specs.Trees.{tree_of, trees_of, branch_tree}
 use Rattle.kernel_machine.specs.Left.{
   resolved,
+  resolve_at,
+  indexed_at,
   set_at,
   stepped_at,
   assign_at,
@@ -181,6 +191,71 @@ pub stepped-by : (at : ℕ) (sign : List ℕ) (old present : Value) (spot : Spot
 stepped-by at sign old present spot state after next calls result is set e =
     let first = rw is at set in
     first _ ∙ rw e refl
+
+-- what must be set, and isn't
+pub set-by : (at : ℕ) (value other : Value) (r : Result Value EvalError) → value ≡ other
+    → IsPresent at value r → IsSet at other r
+set-by at value other (Ok v) e h = subst (λ w. IsSet at w (Ok v)) e h
+set-by at value other (Err E.NoMemory) e h = tt
+set-by at value other (Err x) e h =
+    subst (λ w. (state : State) (next : Then) → used at w state next ≡ Refused x) e h
+
+pub fit-by : (at : ℕ) (value : Value) (r : Result Value EvalError) → IsFit value
+    → IsPresent at value r → IfOk r IsFit
+fit-by at value (Ok v) fit h = subst IsFit (sym h.0) fit
+fit-by at value (Err e) fit h = tt
+
+pub not-present : (at : ℕ) (value : Value) (e : EvalError) → IsPresent at value (Err e)
+    → IsUnset at value e
+not-present at value E.NoMemory h = tt
+not-present at value _ h = h
+
+pub unset : (class : ClassView) (at : ℕ) (value : Value) (state : State) (next : Then)
+    (e : EvalError) (new : Machine) → IsUnset at value e
+    → Leads class (used at value state next) (Err e) new
+unset class at value state next E.NoMemory new h = tt
+unset class at value state next _ new h = h state next
+
+pub unset-on : (class : ClassView) (at : ℕ) (value : Value) (state : State) (next : Then)
+    (r : Result Event EvalError) (e : EvalError) (new : Machine) → IsErr r
+    → IsErrAnd r (λ x. x ≡ e) → IsUnset at value e → Leads class (used at value state next) r new
+unset-on class at value state next (Ok event) e new is same h = absurd (cc)
+unset-on class at value state next (Err x) e new is same h =
+    subst (λ y. Leads class (used at value state next) (Err y) new) (sym same)
+    (unset class at value state next e new h)
+
+-- an index into the array at a spot
+pub index-unset : (class : ClassView) (here : Place) (tree : Tree) (index : Option ℕ)
+    (rest : List (Option ℕ)) (spot : Spot) (at : ℕ) (state : State) (next : Next)
+    (r : Result Event EvalError) (e : EvalError) (new : Machine) → place_of tree ≡ at → IsErr r
+    → IsErrAnd r (λ x. x ≡ e) → IsUnset at (content spot state) e
+    → Leads class (resolve_at class.cells here tree (index ∷ rest) spot state next) r new
+index-unset class here tree index rest spot at state next r e new place is same h =
+    subst (λ n. Leads class (resolved class.cells here n (index ∷ rest) spot state
+    (λ spot state. set_at here tree spot state next)) r new) (sym place)
+    (unset-on class at (content spot state) state _ r e new is same h)
+
+pub index-go : (cells : List Cell) (here : Place) (tree : Tree) (index : Option ℕ)
+    (rest : List (Option ℕ)) (spot : Spot) (at : ℕ) (array : Value) (state : State) (next : Next)
+    → place_of tree ≡ at → IsSet at (content spot state) (Ok array)
+    → resolve_at cells here tree (index ∷ rest) spot state next
+    ≡ expr here (tree_of cells index) state
+    (λ value state. indexed_at cells here tree array rest value state next)
+index-go cells here tree index rest spot at array state next place h =
+    let set = subst (λ n. (s : State) (then : Then) → used n (content spot state) s then
+    ≡ then array s) (sym place) h.1 in
+    set state _
+
+pub set-by-unset : (class : ClassView) (here : Place) (tree : Tree) (b : Branch)
+    (first second : Tree) (spot : Spot) (state : State) (next : Next) (error : EvalError)
+    (new : Machine) → tree ≡ branch_tree class.cells b
+    → trees_of class.cells b.id b.children.now ≡ Cons first (Cons second Nil)
+    → bytes_eq b.word.now (codes "=") ≡ false → IsUnset b.span.from (content spot state) error
+    → Leads class (set_at here tree spot state next) (Err error) new
+set-by-unset class here tree b first second spot state next E.NoMemory new e two plain h = tt
+set-by-unset class here tree b first second spot state next error new e two plain h =
+    set-unset class.cells here tree b first second spot (content spot state) state next error e two
+    plain refl (λ then. h state then)
 
 pub stepped-unset : (at : ℕ) (sign : List ℕ) (old : Value) (spot : Spot) (state : State)
     (next : Next) (error : EvalError) → old ≡ content spot state

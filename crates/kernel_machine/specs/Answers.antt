@@ -1,18 +1,44 @@
 -- What small answers of the machine's functions say.
-use Rattle.std.specs.Prelude.{◌≡◌, ◌<◌, ◌≤◌, ◌⊎◌, ◌&&◌, ℕ, suc, List, codes, is_none, Bool, true, false, Result, Ok, Err, length, Option, Some, None}
+use Rattle.std.specs.Prelude.{
+  ◌≡◌,
+  ◌<◌,
+  ◌≤◌,
+  ◌⊎◌,
+  ◌&&◌,
+  ◌++◌,
+  ◌∷◌,
+  [],
+  ℕ,
+  suc,
+  List,
+  codes,
+  is_none,
+  Bool,
+  true,
+  false,
+  Result,
+  Ok,
+  Err,
+  length,
+  Option,
+  Some,
+  None,
+}
 use Rattle.kernel_meaning.specs.declared.error.EvalError.{EvalError}
 use Rattle.kernel_meaning.specs.declared.error.EvalError.TheVariants as E
 use Rattle.kernel_meaning.specs.declared.state.State.{State}
 use Rattle.kernel_meaning.specs.declared.value.Value.{Value}
 use Rattle.kernel_meaning.specs.declared.value.Value.TheVariants as V
 use Rattle.kernel_meaning.specs.declared.value.Spot.{Spot}
-use Rattle.kernel_meaning.specs.Ways.{spot_in}
+use Rattle.kernel_meaning.specs.Ways.{spot_in, introduced}
+use Rattle.kernel_meaning.specs.Values.{has_kind}
+use Rattle.kernel_meaning.specs.declared.value.Declared.{Declared}
 use Rattle.std.specs.Str.{bytes_eq}
 use Rattle.maxj_syntax.specs.Cells.{Cell}
 use Rattle.maxj_syntax.specs.Tree.{Trees, Cons}
 use Rattle.maxj_syntax.specs.declared.tree.NodeKind.TheVariants as N
 use Rattle.kernel_plans.specs.declared.branch.Branch.{Branch}
-use Rattle.kernel_meaning.specs.Answer.{Next, Then, Refused, chosen, used}
+use Rattle.kernel_meaning.specs.Answer.{Answer, Next, Then, Refused, chosen, needs, used}
 use Rattle.kernel_meaning.specs.Constructors.{set_fields}
 use Rattle.kernel_meaning.specs.Methods.{params_of}
 use Rattle.kernel_meaning.specs.Plans.{number_of_trees}
@@ -43,6 +69,47 @@ IsPresent at value (Ok present) =
     × ((state : State) (next : Then) → used at value state next ≡ next present state)
 IsPresent at value (Err e) =
     (state : State) (next : Then) → used at value state next ≡ Refused e
+
+-- why a value that must be set isn't there; want of memory says nothing
+abbrev pub IsUnset : ℕ → Value → EvalError → Type 0
+IsUnset at value E.NoMemory = Unit {0}
+IsUnset at value e = (state : State) (next : Then) → used at value state next ≡ Refused e
+
+-- a value that is set, or why there is none
+abbrev pub IsSet : ℕ → Value → Result Value EvalError → Type 0
+IsSet at value (Ok set) =
+    (set ≡ value)
+    × ((state : State) (next : Then) → used at value state next ≡ next set state)
+IsSet at value (Err e) = IsUnset at value e
+
+-- values with one more that is set behind them, or why there is none
+abbrev pub AreMore : ℕ → Value → List Value → Result (List Value) EvalError → Type 0
+AreMore at value values (Ok more) =
+    (more ≡ values ++ value ∷ [])
+    × ((state : State) (next : Then) → used at value state next ≡ next value state)
+AreMore at value values (Err e) = IsUnset at value e
+
+-- a value that is set and of a type
+abbrev pub typed : ℕ → Declared → Value → State → Then → Answer
+typed at of value state next =
+    used at value state (λ value state.
+    needs (has_kind of value) (E.WrongKind at) state (λ state. next value state))
+
+-- the same, or why there is none
+abbrev pub IsTyped : ℕ → Declared → Value → Result Value EvalError → Type 0
+IsTyped at of value (Ok known) =
+    (known ≡ value)
+    × ((state : State) (next : Then) → typed at of value state next ≡ next known state)
+IsTyped at of value (Err e) =
+    (state : State) (next : Then) → typed at of value state next ≡ Refused e
+
+-- a variable without a value stands, or why there is none; want of memory says nothing
+abbrev pub IsIntroduced : ℕ → List ℕ → Declared → State → Result (Unit {0}) EvalError → State → Type 0
+IsIntroduced at name of old (Ok _) new =
+    (next : Declared → Next) → introduced at name (Ok of) old next ≡ next of new
+IsIntroduced at name of old (Err E.NoMemory) new = Unit {0}
+IsIntroduced at name of old (Err e) new =
+    (next : Declared → Next) → introduced at name (Ok of) old next ≡ Refused e
 
 -- the name of a kernel, or why there is none; want of memory says nothing
 abbrev pub IsNamed : ℕ → List Value → Result (List ℕ) EvalError → Type 0

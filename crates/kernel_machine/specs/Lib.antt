@@ -5,3 +5,4 @@ pub mod Fit
 pub mod Answers
 pub mod Positions
 pub mod Followed
+pub mod Groups

@@ -1,5 +1,5 @@
 // Assignments: where the value goes, and how it changes what stands there.
-ghost use Rattle.std.specs.Prelude.{◌≡◌, ◌+◌, OnOk, length, codes, is_some};
+ghost use Rattle.std.specs.Prelude.{◌≡◌, ◌+◌, ◌∷◌, OnOk, length, codes, is_some};
 ghost use Rattle.std.specs.Str.{bytes_eq};
 ghost use Rattle.kernel_rows.specs.Fit.{IsFit};
 ghost use Rattle.maxj_syntax.specs.declared.tree.NodeKind.{NodeKind};
@@ -22,9 +22,9 @@ ghost use Rattle.kernel_machine.specs.Going.{Leads, standing, rest, after, leavi
 ghost use Rattle.kernel_machine.specs.Falls.{CostsBelow, idle};
 ghost use Rattle.kernel_machine.specs.Fit.{IsFitMachine};
 
-use crate::machine::{Event, Machine, Now};
+use crate::machine::{Event, Machine};
 use crate::parts::{name_of, node_at, part, present};
-use crate::spots::{content, index_spot, store, type_of};
+use crate::spots::{content_set, index_spot, store, type_of};
 use crate::targets::target_of;
 use crate::task::{Part, Task};
 use kernel_meaning::{EvalError, Spot, Stack, State, Value};
@@ -116,19 +116,38 @@ impl Machine {
         ensures falls { CostsBelow class.now (idle class.now self.old + 33) result self.new }
         ensures fit { OnOk result (IsFitMachine class.now self.new) }
     {
-        let Some(index) = pending.pop() else {
-            return self.change(alloc, class, node, spot);
-        };
+        match pending.pop() {
+            Some(index) => self.index_next(alloc, class, node, spot, index, pending),
+            None => self.change(alloc, class, node, spot),
+        }
+    }
+
+    // The next index into the array at a spot is evaluated, before those that are left.
+    #[tactic(auto, unfolding(crate::specs::Going::go, kernel_meaning::specs::Run::expr))]
+    fn index_next(
+        &mut self,
+        alloc: Global,
+        class: &Class<'_>,
+        node: Part,
+        spot: Spot,
+        index: Part,
+        pending: Stack<Part>,
+    ) -> Result<Event, EvalError>
+        requires fit { IsFitMachine class.now self.old }
+        ensures does { Leads class.now (resolve_at class.now.cells (standing class.now self.old)
+            (tree_of class.now.cells node) (index ∷ pending) spot self.old.state
+            (after class.now self.old)) result self.new }
+        ensures falls { CostsBelow class.now (idle class.now self.old + 33) result self.new }
+        ensures fit { OnOk result (IsFitMachine class.now self.new) }
+    {
         let at = node_at(class, node).span.from;
-        let array = content(alloc, &self.state, &spot)?;
-        let array = present(at, array)?;
-        self.tasks.push(Task::Indexed {
+        let array = content_set(alloc, &self.state, at, &spot)?;
+        let task = Task::Indexed {
             node,
             array,
             pending,
-        })?;
-        self.now = Now::Eval(index);
-        Ok(Event::On)
+        };
+        self.evaluate_for(class, task, index)
     }
 
     // The place of an assignment has an index.
@@ -199,8 +218,7 @@ impl Machine {
         ensures fit { OnOk result (IsFitMachine class.now self.new) }
     {
         let at = statement.span.from;
-        let old = content(alloc, &self.state, &spot)?;
-        let old = present(at, old)?;
+        let old = content_set(alloc, &self.state, at, &spot)?;
         let done = stepped(alloc, statement.word, at, old, &mut self.state)?;
         self.tasks.push(Task::Store { at, spot })?;
         self.settle(class, done)
@@ -230,8 +248,7 @@ impl Machine {
         if is_plain(statement.word) {
             return self.assign(class, statement.span.from, spot, value);
         }
-        let old = content(alloc, &self.state, &spot)?;
-        match present(statement.span.from, old) {
+        match content_set(alloc, &self.state, statement.span.from, &spot) {
             Ok(old) => self.read_before(class, node, spot, old, value),
             Err(error) => Err(error),
         }
@@ -253,9 +270,7 @@ impl Machine {
         ensures falls { CostsBelow class.now (idle class.now self.old + 33) result self.new }
         ensures fit { OnOk result (IsFitMachine class.now self.new) }
     {
-        self.tasks.push(Task::Assign { at, spot })?;
-        self.now = Now::Eval(value);
-        Ok(Event::On)
+        self.evaluate_for(class, Task::Assign { at, spot }, value)
     }
 
     // A compound assignment, with what stood at the spot, waits for its value.
@@ -278,9 +293,7 @@ impl Machine {
         ensures falls { CostsBelow class.now (idle class.now self.old + 33) result self.new }
         ensures fit { OnOk result (IsFitMachine class.now self.new) }
     {
-        self.tasks.push(Task::Combine { node, old, spot })?;
-        self.now = Now::Eval(value);
-        Ok(Event::On)
+        self.evaluate_for(class, Task::Combine { node, old, spot }, value)
     }
 
     // A compound assignment has its value.
@@ -305,9 +318,9 @@ impl Machine {
     {
         let statement = node_at(class, node);
         let at = statement.span.from;
+        self.tasks.push(Task::Store { at, spot })?;
         let value = present(at, value)?;
         let done = combined(alloc, statement.word, at, &[old, value], &mut self.state)?;
-        self.tasks.push(Task::Store { at, spot })?;
         self.settle(class, done)
     }
 

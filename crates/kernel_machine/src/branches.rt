@@ -41,14 +41,13 @@ impl Machine {
             self.now = Now::Exec(part(&parts, place));
             return Ok(Event::On);
         }
-        self.tasks.push(Task::Test {
+        let task = Task::Test {
             at,
             node,
             place: place + 2,
             body: part(&parts, place + 1),
-        })?;
-        self.now = Now::Eval(part(&parts, place));
-        Ok(Event::On)
+        };
+        self.evaluate_for(class, task, part(&parts, place))
     }
 
     // The condition of a body has its value.

@@ -1,6 +1,7 @@
 // Methods: how they are entered, and how they are left.
 ghost use Rattle.std.specs.Prelude.{◌≡◌, ◌+◌, ◌-◌, OnOk, length};
 ghost use Rattle.kernel_rows.specs.Fit.{IsFit, AreFit};
+ghost use Rattle.kernel_meaning.specs.Answer.{used};
 ghost use Rattle.kernel_meaning.specs.Run.{block_of, call_to};
 ghost use Rattle.kernel_meaning.specs.Ways.{given_back};
 ghost use Rattle.kernel_plans.specs.Trees.{tree_of};
@@ -10,6 +11,7 @@ ghost use Rattle.kernel_machine.specs.Falls.{CostsBelow, idle};
 ghost use Rattle.kernel_machine.specs.Fit.{IsFitMachine};
 
 use crate::machine::{Event, Frame, Machine};
+use crate::parts::present;
 use crate::task::Part;
 use kernel_meaning::{EvalError, Stack, Value};
 use kernel_plans::{Class, branch_at, enter, has_kind};
@@ -103,11 +105,13 @@ impl Machine {
     ) -> Result<Event, EvalError>
         requires value { IsFit value }
         requires fit { IsFitMachine class.now self.old }
-        ensures does { Leads class.now (given_back at self.old.wanted value self.old.state
-            (leaving class.now self.old)) result self.new }
+        ensures does { Leads class.now (used at value self.old.state (λ value state.
+            given_back at self.old.wanted value state (leaving class.now self.old))) result
+            self.new }
         ensures falls { CostsBelow class.now (idle class.now self.old + 5) result self.new }
         ensures fit { OnOk result (IsFitMachine class.now self.new) }
     {
+        let value = present(at, value)?;
         match self.wanted {
             Some(of) if has_kind(of, &value) => self.leave(class, value),
             _ => Err(EvalError::WrongKind(at)),

@@ -1,8 +1,11 @@
 // `?:`, `&&` and `||`.
-ghost use Rattle.std.specs.Prelude.{◌≡◌, ◌+◌, OnOk};
+ghost use Rattle.std.specs.Prelude.{◌≡◌, ◌+◌, ◌∷◌, [], OnOk};
 ghost use Rattle.kernel_rows.specs.Fit.{IsFit};
+ghost use Rattle.kernel_meaning.specs.Answer.{used, does};
+ghost use Rattle.kernel_meaning.specs.Rows as Rows;
 ghost use Rattle.kernel_meaning.specs.Run.{choice, short, expr};
 ghost use Rattle.kernel_meaning.specs.Ways.{picked, first_decides, flag_alone};
+ghost use Rattle.kernel_meaning.specs.declared.row.Row.TheVariants as R;
 ghost use Rattle.kernel_machine.specs.Left.{with_condition, with_second};
 ghost use Rattle.kernel_plans.specs.Trees.{tree_of, trees_of};
 ghost use Rattle.kernel_machine.specs.Going.{Leads, standing, rest, after, leaving};
@@ -10,10 +13,12 @@ ghost use Rattle.kernel_machine.specs.Falls.{CostsBelow, idle};
 ghost use Rattle.kernel_machine.specs.Fit.{IsFitMachine};
 
 use crate::machine::{Event, Machine, Now};
-use crate::parts::part;
+use crate::parts::{part, present};
 use crate::task::{Part, Task};
-use kernel_meaning::{EvalError, Value};
+use kernel_meaning::{EvalError, Row, Value};
 use kernel_plans::{Branch, Class};
+use kernel_rows::row_of;
+use std::alloc::Global;
 
 impl Machine {
     // `?:` begins with its condition.
@@ -34,13 +39,12 @@ impl Machine {
         if expression.children.len() != 3 {
             return Err(EvalError::WrongKind(at));
         }
-        self.tasks.push(Task::Choice {
+        let task = Task::Choice {
             at,
             first: part(expression, 1),
             second: part(expression, 2),
-        })?;
-        self.now = Now::Eval(part(expression, 0));
-        Ok(Event::On)
+        };
+        self.evaluate_for(class, task, part(expression, 0))
     }
 
     // `&&`, or with `either` `||`, begins with its first operand.
@@ -63,13 +67,12 @@ impl Machine {
         if expression.children.len() != 2 {
             return Err(EvalError::WrongKind(at));
         }
-        self.tasks.push(Task::Short {
+        let task = Task::Short {
             at,
             either,
             second: part(expression, 1),
-        })?;
-        self.now = Now::Eval(part(expression, 0));
-        Ok(Event::On)
+        };
+        self.evaluate_for(class, task, part(expression, 0))
     }
 
     // `?:` has its condition.
@@ -140,20 +143,46 @@ impl Machine {
         at: u32,
         second: Part,
         test: Value,
-        first: Value,
+        value: Value,
     ) -> Result<Event, EvalError>
         requires test { IsFit test }
-        requires first { IsFit first }
+        requires value { IsFit value }
         requires fit { IsFitMachine class.now self.old }
-        ensures does { Leads class.now (with_second (standing class.now self.old) at
-            (tree_of class.now.cells second) test first self.old.state (rest class.now self.old))
-            result self.new }
+        ensures does { Leads class.now (used at value self.old.state (λ value state.
+            with_second (standing class.now self.old) at (tree_of class.now.cells second) test value
+            state (rest class.now self.old))) result self.new }
         ensures falls { CostsBelow class.now (idle class.now self.old + 17) result self.new }
         ensures fit { OnOk result (IsFitMachine class.now self.new) }
     {
-        self.tasks.push(Task::ChooseSecond { at, test, first })?;
-        self.now = Now::Eval(second);
-        Ok(Event::On)
+        let first = present(at, value)?;
+        self.evaluate_for(class, Task::ChooseSecond { at, test, first }, second)
+    }
+
+    // `?:` by a stream has its second branch.
+    #[tactic(auto, unfolding(crate::specs::Going::go, kernel_meaning::specs::Run::expr))]
+    pub(crate) fn second_chosen(
+        &mut self,
+        alloc: Global,
+        class: &Class<'_>,
+        at: u32,
+        test: Value,
+        first: Value,
+        value: Value,
+    ) -> Result<Event, EvalError>
+        requires test { IsFit test }
+        requires first { IsFit first }
+        requires value { IsFit value }
+        requires fit { IsFitMachine class.now self.old }
+        ensures does { Leads class.now (used at value self.old.state (λ value state.
+            does (Rows.row_of R.Choose at (test ∷ first ∷ value ∷ []) state)
+            (rest class.now self.old))) result self.new }
+        ensures falls { CostsBelow class.now (idle class.now self.old + 5) result self.new }
+        ensures fit { OnOk result (IsFitMachine class.now self.new) }
+    {
+        let value = present(at, value)?;
+        let values = [test, first, value];
+        let done = row_of(alloc, Row::Choose, at, &values, &mut self.state)?;
+        self.settle(class, done)
     }
 
     // `&&` or `||` has its first operand.
@@ -179,9 +208,7 @@ impl Machine {
                 if *holds == either {
                     return self.give(class, Value::Flag(*holds));
                 }
-                self.tasks.push(Task::FlagAlone { at })?;
-                self.now = Now::Eval(second);
-                Ok(Event::On)
+                self.evaluate_for(class, Task::FlagAlone { at }, second)
             }
             Value::Nothing => Err(EvalError::Unset(at)),
             _ => Err(EvalError::WrongKind(at)),

@@ -1,25 +1,21 @@
 // A step: a statement, or what waits for a value.
-ghost use Rattle.std.specs.Prelude.{◌≡◌, ◌+◌, ◌∷◌, [], OnOk};
+ghost use Rattle.std.specs.Prelude.{◌≡◌, ◌+◌, ◌∷◌, OnOk, false};
 ghost use Rattle.kernel_rows.specs.Fit.{IsFit};
-ghost use Rattle.kernel_meaning.specs.Answer.{used, does};
-ghost use Rattle.kernel_meaning.specs.Rows as Rows;
 ghost use Rattle.kernel_meaning.specs.Run.{exec};
-ghost use Rattle.kernel_meaning.specs.declared.row.Row.TheVariants as R;
 ghost use Rattle.maxj_syntax.specs.Ranges.{AreInRange};
-ghost use Rattle.kernel_plans.specs.Trees.{tree_of};
+ghost use Rattle.kernel_plans.specs.Trees.{tree_of, branch_tree};
 ghost use Rattle.kernel_machine.specs.Going.{Leads, answer_of, go, standing, rest, after, leaving};
 ghost use Rattle.kernel_machine.specs.Falls.{CostsBelow, idle, load, weight};
 ghost use Rattle.kernel_machine.specs.Fit.{IsFitMachine, IsFitTask};
+ghost use Rattle.kernel_machine.specs.Groups.{is_alone, is_of_expression, is_of_statement};
 
 use crate::counting::most_turns;
 use crate::machine::{Event, Machine, Now};
-use crate::parts::{node_at, present};
-use crate::task::{Part, Purpose, Task};
-use kernel_meaning::{EvalError, Row, Value};
-use kernel_plans::Class;
-use kernel_rows::row_of;
+use crate::parts::node_at;
+use crate::task::{Part, Task};
+use kernel_meaning::{EvalError, Value};
+use kernel_plans::{Branch, Class};
 use maxj_syntax::NodeKind;
-use mx_base::List;
 use std::alloc::Global;
 use std::mem;
 
@@ -59,44 +55,39 @@ impl Machine {
         let statement = node_at(class, part);
         match statement.kind {
             NodeKind::Empty => self.nothing(class, &statement),
-            NodeKind::Block => self.block(class, part, &statement),
             NodeKind::Local => self.local(alloc, class, &statement),
             NodeKind::Set => self.set(alloc, class, part, &statement),
             NodeKind::Connect => self.connect(alloc, class, part, &statement),
             NodeKind::Run => self.call(class, &statement),
             NodeKind::Return => self.return_value(class, &statement),
-            NodeKind::If => self.conditional(class, part, &statement),
-            NodeKind::While => self.repeat_while(class, &statement),
-            NodeKind::For => self.repeat_for(class, &statement),
-            _ => Err(EvalError::WrongKind(statement.span.from)),
+            _ => self.execute_inner(class, part, &statement),
         }
     }
 
-    // `?:` by a stream has its second branch.
+    // A statement, which is this node, with statements inside.
     #[tactic(auto, unfolding(crate::specs::Going::go, kernel_meaning::specs::Run::expr))]
-    fn second_chosen(
+    fn execute_inner(
         &mut self,
-        alloc: Global,
         class: &Class<'_>,
-        at: u32,
-        test: Value,
-        first: Value,
-        value: Value,
+        node: Part,
+        statement: &Branch<'_>,
     ) -> Result<Event, EvalError>
-        requires test { IsFit test }
-        requires first { IsFit first }
-        requires value { IsFit value }
+        requires tree { tree_of class.now.cells node ≡ branch_tree class.now.cells statement.now }
+        requires other { is_alone statement.now.kind ≡ false }
         requires fit { IsFitMachine class.now self.old }
-        ensures does { Leads class.now (used at value self.old.state (λ value state.
-            does (Rows.row_of R.Choose at (test ∷ first ∷ value ∷ []) state)
-            (rest class.now self.old))) result self.new }
-        ensures falls { CostsBelow class.now (idle class.now self.old + 5) result self.new }
+        ensures does { Leads class.now (exec (standing class.now self.old)
+            (branch_tree class.now.cells statement.now) self.old.state (after class.now self.old)
+            (leaving class.now self.old)) result self.new }
+        ensures falls { CostsBelow class.now (idle class.now self.old) result self.new }
         ensures fit { OnOk result (IsFitMachine class.now self.new) }
     {
-        let value = present(at, value)?;
-        let values = [test, first, value];
-        let done = row_of(alloc, Row::Choose, at, &values, &mut self.state)?;
-        self.settle(class, done)
+        match statement.kind {
+            NodeKind::Block => self.block(class, node, statement),
+            NodeKind::If => self.conditional(class, node, statement),
+            NodeKind::While => self.repeat_while(class, statement),
+            NodeKind::For => self.repeat_for(class, statement),
+            _ => Err(EvalError::WrongKind(statement.span.from)),
+        }
     }
 
     // What waits for the value, or for the end of a statement, goes on.
@@ -116,7 +107,7 @@ impl Machine {
         }
     }
 
-    // This waited for the value, or for the end of a statement.
+    // This waited for the value, or for the end of a statement: an expression goes on here.
     #[tactic(auto, unfolding(crate::specs::Going::go, kernel_meaning::specs::Run::expr))]
     fn go_on(
         &mut self,
@@ -143,15 +134,12 @@ impl Machine {
                 place,
                 count,
                 purpose,
-                mut values,
-            } => {
-                values.push(present(at, value)?)?;
-                self.operands(alloc, class, purpose, at, node, place, count, values)
-            }
+                values,
+            } => self.operand_given(alloc, class, purpose, at, node, place, count, values, value),
             Task::Choice { at, first, second } => self.chosen(class, at, first, second, value),
             Task::Picked { at } => self.picked(class, at, value),
             Task::ChooseFirst { at, second, test } => {
-                self.first_chosen(class, at, second, test, present(at, value)?)
+                self.first_chosen(class, at, second, test, value)
             }
             Task::ChooseSecond { at, test, first } => {
                 self.second_chosen(alloc, class, at, test, first, value)
@@ -160,6 +148,32 @@ impl Machine {
                 self.first_decides(class, at, either, second, &value)
             }
             Task::FlagAlone { at } => self.flag_alone(class, at, &value),
+            task => self.go_on_statement(alloc, class, task, value),
+        }
+    }
+
+    // A statement goes on, or the fields of a class.
+    #[tactic(auto, unfolding(crate::specs::Going::go, kernel_meaning::specs::Run::expr))]
+    fn go_on_statement(
+        &mut self,
+        alloc: Global,
+        class: &Class<'_>,
+        task: Task,
+        value: Value,
+    ) -> Result<Event, EvalError>
+        requires other { is_of_expression task ≡ false }
+        requires task { IsFitTask class.now task }
+        requires value { IsFit value }
+        requires fit { IsFitMachine class.now self.old }
+        requires within { AreInRange class.now.cells }
+        ensures does { Leads class.now (go class.now (standing class.now self.old)
+            (task ∷ self.old.tasks) value self.old.state (leaving class.now self.old)) result
+            self.new }
+        ensures falls { CostsBelow class.now (idle class.now self.old + weight class.now task + 4)
+            result self.new }
+        ensures fit { OnOk result (IsFitMachine class.now self.new) }
+    {
+        match task {
             Task::Statements { node, place, count } => self.statements(class, node, place, count),
             Task::Test {
                 at,
@@ -175,7 +189,39 @@ impl Machine {
             Task::LoopBody { repeat, more } => self.stepped(class, repeat, more),
             Task::LoopAgain { repeat, more } => self.turn(class, repeat, more),
             Task::Discard => self.give(class, Value::Nothing),
-            Task::GiveBack { at } => self.given_back(class, at, present(at, value)?),
+            Task::GiveBack { at } => self.given_back(class, at, value),
+            Task::Fields {
+                place,
+                body,
+                variables,
+            } => self.fields(alloc, class, place, body, variables),
+            task => self.go_on_setting(alloc, class, task, value),
+        }
+    }
+
+    // What a variable is set to goes on: an initial value, or an assignment.
+    #[tactic(auto, unfolding(crate::specs::Going::go, kernel_meaning::specs::Run::expr))]
+    fn go_on_setting(
+        &mut self,
+        alloc: Global,
+        class: &Class<'_>,
+        task: Task,
+        value: Value,
+    ) -> Result<Event, EvalError>
+        requires other { is_of_expression task ≡ false }
+        requires setting { is_of_statement task ≡ false }
+        requires task { IsFitTask class.now task }
+        requires value { IsFit value }
+        requires fit { IsFitMachine class.now self.old }
+        requires within { AreInRange class.now.cells }
+        ensures does { Leads class.now (go class.now (standing class.now self.old)
+            (task ∷ self.old.tasks) value self.old.state (leaving class.now self.old)) result
+            self.new }
+        ensures falls { CostsBelow class.now (idle class.now self.old + weight class.now task + 4)
+            result self.new }
+        ensures fit { OnOk result (IsFitMachine class.now self.new) }
+    {
+        match task {
             Task::Initial { at, of, spot } => {
                 self.initial_given(alloc, class, at, of, spot, value)
             }
@@ -192,11 +238,7 @@ impl Machine {
                 self.combine(alloc, class, node, old, spot, value)
             }
             Task::Store { at, spot } => self.put(alloc, class, at, spot, value),
-            Task::Fields {
-                place,
-                body,
-                variables,
-            } => self.fields(alloc, class, place, body, variables),
+            _ => unreachable!("an expression or a statement went on before"),
         }
     }
 }

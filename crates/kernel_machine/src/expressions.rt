@@ -1,17 +1,17 @@
 // Expressions: their operands from left to right, and then what is done with the values.
-ghost use Rattle.std.specs.Prelude.{◌≡◌, ◌+◌, OnOk};
+ghost use Rattle.std.specs.Prelude.{◌≡◌, ◌+◌, ◌++◌, ◌∷◌, [], OnOk};
 ghost use Rattle.kernel_rows.specs.Fit.{IsFit, AreFit};
-ghost use Rattle.kernel_meaning.specs.Answer.{after_calls};
+ghost use Rattle.kernel_meaning.specs.Answer.{after_calls, used};
 ghost use Rattle.kernel_meaning.specs.Run.{expr, operate};
 ghost use Rattle.kernel_machine.specs.Left.{operands_left, finish, planned_at};
 ghost use Rattle.maxj_syntax.specs.Ranges.{AreInRange, IsInRange};
 ghost use Rattle.kernel_plans.specs.Trees.{tree_of, branch_tree};
-ghost use Rattle.kernel_machine.specs.Going.{Leads, standing, rest, after, leaving};
-ghost use Rattle.kernel_machine.specs.Falls.{CostsBelow, idle};
-ghost use Rattle.kernel_machine.specs.Fit.{IsFitMachine, IsFitPurpose};
+ghost use Rattle.kernel_machine.specs.Going.{Leads, go, standing, rest, after, leaving};
+ghost use Rattle.kernel_machine.specs.Falls.{CostsBelow, idle, weight};
+ghost use Rattle.kernel_machine.specs.Fit.{IsFitMachine, IsFitPurpose, IsFitTask};
 
 use crate::machine::{Event, Machine, Now};
-use crate::parts::{is_mute_part, mute_place_of, node_at, part};
+use crate::parts::{is_mute_part, mute_place_of, node_at, part, with_present};
 use crate::task::{Part, Purpose, Task};
 use kernel_meaning::{EvalError, Row, Value};
 use kernel_plans::{Branch, Class, Form, branch_at, form_of, plan_of};
@@ -31,6 +31,29 @@ impl Machine {
         ensures fit { OnOk result (IsFitMachine class.now self.new) }
     {
         self.now = Now::Give(value);
+        Ok(Event::On)
+    }
+
+    // Evaluates an expression, for whose value this task waits.
+    #[tactic(auto, unfolding(crate::specs::Going::go, kernel_meaning::specs::Run::expr))]
+    pub(crate) fn evaluate_for(
+        &mut self,
+        class: &Class<'_>,
+        task: Task,
+        part: Part,
+    ) -> Result<Event, EvalError>
+        requires task { IsFitTask class.now task }
+        requires fit { IsFitMachine class.now self.old }
+        ensures does { Leads class.now (expr (standing class.now self.old)
+            (tree_of class.now.cells part) self.old.state (λ value state. go class.now
+            (standing class.now self.old) (task ∷ self.old.tasks) value state
+            (leaving class.now self.old))) result self.new }
+        ensures falls { CostsBelow class.now (idle class.now self.old + weight class.now task + 1)
+            result self.new }
+        ensures fit { OnOk result (IsFitMachine class.now self.new) }
+    {
+        self.tasks.push(task)?;
+        self.now = Now::Eval(part);
         Ok(Event::On)
     }
 
@@ -76,16 +99,46 @@ impl Machine {
         if count == 0 || place >= parts.children.len() {
             return self.finish(alloc, class, purpose, at, values);
         }
-        self.tasks.push(Task::Operands {
+        let task = Task::Operands {
             node,
             at,
             place: place + 1,
             count: count - 1,
             purpose,
             values,
-        })?;
-        self.now = Now::Eval(part(&parts, place));
-        Ok(Event::On)
+        };
+        self.evaluate_for(class, task, part(&parts, place))
+    }
+
+    // An operand has its value: it goes behind those before it, and on to the next operand.
+    #[tactic(auto, unfolding(crate::specs::Going::go, kernel_meaning::specs::Run::expr))]
+    pub(crate) fn operand_given(
+        &mut self,
+        alloc: Global,
+        class: &Class<'_>,
+        purpose: Purpose,
+        at: u32,
+        node: Part,
+        place: usize,
+        count: u32,
+        values: List<Value>,
+        value: Value,
+    ) -> Result<Event, EvalError>
+        requires purpose { IsFitPurpose purpose }
+        requires values { AreFit values }
+        requires value { IsFit value }
+        requires fit { IsFitMachine class.now self.old }
+        requires within { AreInRange class.now.cells }
+        ensures does { Leads class.now (used at value self.old.state (λ value state.
+            operands_left class.now.cells (standing class.now self.old) purpose at node place count
+            (values ++ value ∷ []) state (rest class.now self.old))) result self.new }
+        ensures falls { CostsBelow class.now (idle class.now self.old + 49) result self.new }
+        ensures fit { OnOk result (IsFitMachine class.now self.new) }
+    {
+        match with_present(values, at, value) {
+            Ok(values) => { self.operands(alloc, class, purpose, at, node, place, count, values) }
+            Err(error) => Err(error),
+        }
     }
 
     // What is done with operands, all of which have values.

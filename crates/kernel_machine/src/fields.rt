@@ -78,12 +78,12 @@ impl Machine {
             Ok(of) => of,
             Err(place) => return Err(EvalError::UnknownName(place)),
         };
-        let spot = Spot::Variable(name_of(alloc, field.word)?);
         self.tasks.push(Task::Fields {
             place: behind,
             body,
             variables,
         })?;
+        let spot = Spot::Variable(name_of(alloc, field.word)?);
         self.initial(class, field.span.from, of, spot, field)
     }
 }

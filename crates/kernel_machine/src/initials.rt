@@ -2,6 +2,8 @@
 ghost use Rattle.std.specs.Prelude.{◌≡◌, ◌+◌, OnOk, suc, length, is_some};
 ghost use Rattle.kernel_meaning.specs.Names as Names;
 ghost use Rattle.kernel_rows.specs.Fit.{IsFit, AreFit};
+ghost use Rattle.kernel_rows.specs.Kept.{IsKept};
+ghost use Rattle.kernel_machine.specs.Answers.{IsIntroduced};
 ghost use Rattle.maxj_syntax.specs.declared.tree.NodeKind.{NodeKind};
 ghost use Rattle.kernel_meaning.specs.Run.{exec, initial};
 ghost use Rattle.kernel_machine.specs.Left.{
@@ -19,11 +21,11 @@ ghost use Rattle.kernel_machine.specs.Falls.{CostsBelow, idle};
 ghost use Rattle.kernel_machine.specs.Fit.{IsFitMachine, HaveSoMany};
 
 use crate::machine::{Event, Machine, Now};
-use crate::parts::{name_of, node_at, part, present, type_at};
+use crate::parts::{name_of, node_at, of_type, part, type_at};
 use crate::spots::store;
 use crate::task::{Part, Task};
-use kernel_meaning::{Binding, Bindings, Declared, EvalError, Spot, Value};
-use kernel_plans::{Branch, Class, has_kind};
+use kernel_meaning::{Binding, Bindings, Declared, EvalError, Spot, State, Value};
+use kernel_plans::{Branch, Class};
 use maxj_syntax::NodeKind;
 use mx_base::List;
 use std::alloc::Global;
@@ -60,15 +62,13 @@ impl Machine {
             Ok(of) => of,
             Err(place) => return Err(EvalError::UnknownName(place)),
         };
-        if is_bound(statement.word, &self.state.variables) {
-            return Err(EvalError::NameTwice(at));
+        match introduce(alloc, at, statement.word, of, &mut self.state) {
+            Ok(()) => {
+                let spot = Spot::Variable(name_of(alloc, statement.word)?);
+                self.initial(class, at, of, spot, statement)
+            }
+            Err(error) => Err(error),
         }
-        let name = name_of(alloc, statement.word)?;
-        let spot = Spot::Variable(name_of(alloc, statement.word)?);
-        let value = Value::Nothing;
-        let binding = Binding { name, of, value };
-        self.state.variables.push(alloc, binding)?;
-        self.initial(class, at, of, spot, statement)
     }
 
     // What is at a spot waits for the initial value that stands behind the type of a declaration,
@@ -209,11 +209,7 @@ impl Machine {
         ensures fit { OnOk result (IsFitMachine class.now self.new) }
     {
         let at = node_at(class, node).span.from;
-        let value = present(at, value)?;
-        if !has_kind(of, &value) {
-            return Err(EvalError::WrongKind(at));
-        }
-        values.push(value)?;
+        values.push(of_type(at, of, value)?)?;
         self.elements(class, node, of, values)
     }
 
@@ -235,13 +231,32 @@ impl Machine {
         ensures falls { CostsBelow class.now (idle class.now self.old + 5) result self.new }
         ensures fit { OnOk result (IsFitMachine class.now self.new) }
     {
-        let value = present(at, value)?;
-        if !has_kind(of, &value) {
-            return Err(EvalError::WrongKind(at));
-        }
+        let value = of_type(at, of, value)?;
         store(alloc, &mut self.state, spot, value);
         self.give(class, Value::Nothing)
     }
+}
+
+// A variable of this name and type stands, without a value, where none of its name did.
+fn introduce(
+    alloc: Global,
+    at: u32,
+    name: &[u8],
+    of: Declared,
+    state: &mut State,
+) -> Result<(), EvalError>
+    requires kept { IsKept state.old }
+    ensures stands { IsIntroduced at name.now of state.old result state.new }
+    ensures kept { OnOk result (IsKept state.new) }
+    ensures left { state.new.left ≡ state.old.left }
+{
+    if is_bound(name, &state.variables) {
+        return Err(EvalError::NameTwice(at));
+    }
+    let name = name_of(alloc, name)?;
+    let value = Value::Nothing;
+    state.variables.push(alloc, Binding { name, of, value })?;
+    Ok(())
 }
 
 // Whether a variable of this name stands.

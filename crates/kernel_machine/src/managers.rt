@@ -12,7 +12,7 @@ ghost use Rattle.kernel_machine.specs.Going.{Leads, standing, rest};
 ghost use Rattle.kernel_machine.specs.Falls.{CostsBelow, idle};
 ghost use Rattle.kernel_machine.specs.Fit.{IsFitMachine};
 
-use crate::machine::{Event, Machine, Now};
+use crate::machine::{Event, Machine};
 use crate::parts::{node_at, part};
 use crate::task::{Part, Purpose, Task};
 use kernel_calls::is_port_name;
@@ -166,16 +166,15 @@ impl Machine {
             class: number,
             name,
         };
-        self.tasks.push(Task::Operands {
+        let task = Task::Operands {
             node,
             at,
             place: 2,
             count,
             purpose,
             values,
-        })?;
-        self.now = Now::Eval(part(&made, 1));
-        Ok(Event::On)
+        };
+        self.evaluate_for(class, task, part(&made, 1))
     }
 
     // The kernel that is added has its arguments.

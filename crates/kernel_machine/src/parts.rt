@@ -1,16 +1,17 @@
 // The nodes and parts that the machine takes.
 ghost use Rattle.std.specs.Prelude.{◌≡◌, ℕ, Some, IfOk};
+ghost use Rattle.kernel_rows.specs.Fit.{IsFit, AreFit};
 ghost use Rattle.kernel_meaning.specs.Names as Names;
 ghost use Rattle.kernel_meaning.specs.Values as Values;
 ghost use Rattle.maxj_syntax.specs.Ranges.{AreInRange, IsInRange};
 ghost use Rattle.kernel_plans.specs.Trees.{tree_of, branch_tree};
-ghost use Rattle.kernel_machine.specs.Answers.{IsPresent};
+ghost use Rattle.kernel_machine.specs.Answers.{AreMore, IsPresent, IsTyped};
 ghost use Rattle.kernel_machine.specs.Positions.{IsPart};
 
 use crate::task::Part;
 use kernel_meaning::{Declared, EvalError, State, Value};
-use kernel_plans::{Branch, Class, branch_at, declared_by, is_mute, mute_place};
-use mx_base::{NoMemory, Text};
+use kernel_plans::{Branch, Class, branch_at, declared_by, has_kind, is_mute, mute_place};
+use mx_base::{List, NoMemory, Text};
 use std::alloc::Global;
 
 // The node of a part.
@@ -58,6 +59,37 @@ pub(crate) fn present(at: u32, value: Value) -> Result<Value, EvalError>
         Value::Nothing => Err(EvalError::Unset(at)),
         value => Ok(value),
     }
+}
+
+// These values with one more behind them, which must be set.
+pub(crate) fn with_present(
+    mut values: List<Value>,
+    at: u32,
+    value: Value,
+) -> Result<List<Value>, EvalError>
+    requires values { AreFit values }
+    requires value { IsFit value }
+    ensures more { AreMore at value values result }
+    ensures fit { IfOk result AreFit }
+{
+    match present(at, value) {
+        Ok(value) => {
+            values.push(value)?;
+            Ok(values)
+        }
+        Err(error) => Err(error),
+    }
+}
+
+// The value that a production uses, which must be set and of a type.
+pub(crate) fn of_type(at: u32, of: Declared, value: Value) -> Result<Value, EvalError>
+    ensures { IsTyped at of value result }
+{
+    let value = present(at, value)?;
+    if !has_kind(of, &value) {
+        return Err(EvalError::WrongKind(at));
+    }
+    Ok(value)
 }
 
 // The name that a word is.

@@ -13,7 +13,7 @@ ghost use Rattle.kernel_rows.specs.Kept.{IsKept};
 
 use crate::branches::condition;
 use crate::counting::most_turns;
-use crate::machine::{Event, Machine, Now};
+use crate::machine::{Event, Machine};
 use crate::parts::part;
 use crate::task::{Condition, Loop, Part, Task};
 use kernel_meaning::{EvalError, Value};
@@ -40,9 +40,7 @@ impl Machine {
         match repeat.condition {
             Condition::Always => self.turn_body(class, repeat, more),
             Condition::Holds(part) => {
-                self.tasks.push(Task::LoopTurn { repeat, more })?;
-                self.now = Now::Eval(part);
-                Ok(Event::On)
+                self.evaluate_for(class, Task::LoopTurn { repeat, more }, part)
             }
         }
     }
@@ -58,9 +56,7 @@ impl Machine {
         ensures falls { CostsBelow class.now (idle class.now self.old + 17) result self.new }
         ensures fit { OnOk result (IsFitMachine class.now self.new) }
     {
-        self.tasks.push(Task::LoopBody { repeat, more })?;
-        self.now = Now::Exec(repeat.body);
-        Ok(Event::On)
+        self.execute_for(class, Task::LoopBody { repeat, more }, repeat.body)
     }
 
     // The condition of a loop has its value.
@@ -116,9 +112,7 @@ impl Machine {
         if repeat.step.is_none() {
             return self.turn(class, repeat, more);
         }
-        self.tasks.push(Task::LoopAgain { repeat, more })?;
-        self.now = Now::Exec(repeat.step);
-        Ok(Event::On)
+        self.execute_for(class, Task::LoopAgain { repeat, more }, repeat.step)
     }
 
     // `while`.
@@ -191,9 +185,7 @@ impl Machine {
             let more = most_turns(self.state.left);
             return self.turn(class, repeat, more);
         }
-        self.tasks.push(Task::LoopBegin { repeat })?;
-        self.now = Now::Exec(first);
-        Ok(Event::On)
+        self.execute_for(class, Task::LoopBegin { repeat }, first)
     }
 }
 

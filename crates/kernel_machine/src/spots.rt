@@ -5,8 +5,9 @@ ghost use Rattle.kernel_rows.specs.Fit.{IsFit};
 ghost use Rattle.kernel_rows.specs.Kept.{IsKept};
 ghost use Rattle.kernel_meaning.specs.Arrays.{content, array_of, with_content, with_element};
 ghost use Rattle.kernel_meaning.specs.Ways.{type_at};
-ghost use Rattle.kernel_machine.specs.Answers.{IsSpot, IsSpotOf};
+ghost use Rattle.kernel_machine.specs.Answers.{IsSet, IsSpot, IsSpotOf};
 
+use crate::parts::present;
 use kernel_meaning::{Declared, EvalError, Spot, State, Value};
 use kernel_plans::variable;
 use kernel_rows::copy_value;
@@ -32,6 +33,21 @@ pub(crate) fn content(alloc: Global, state: &State, spot: &Spot) -> Result<Value
             }
         }
     }
+}
+
+/// A copy of what stands at a spot, which must be set.
+pub(crate) fn content_set(
+    alloc: Global,
+    state: &State,
+    at: u32,
+    spot: &Spot,
+) -> Result<Value, EvalError>
+    requires { IsKept state.now }
+    ensures is { IsSet at (content spot.now state.now) result }
+    ensures fit { IfOk result IsFit }
+{
+    let value = content(alloc, state, spot)?;
+    present(at, value)
 }
 
 // The element of an array at a place, where there is one.

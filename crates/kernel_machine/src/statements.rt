@@ -1,13 +1,14 @@
 // Statements: blocks, `if`, calls and returns.
-ghost use Rattle.std.specs.Prelude.{◌≡◌, ◌+◌, OnOk, OnErr, suc};
+ghost use Rattle.std.specs.Prelude.{◌≡◌, ◌+◌, ◌∷◌, OnOk, OnErr, suc};
 ghost use Rattle.kernel_meaning.specs.Run.{exec, block};
+ghost use Rattle.kernel_meaning.specs.declared.value.Value.TheVariants as V;
 ghost use Rattle.kernel_machine.specs.Left.{parts, from_place};
 ghost use Rattle.kernel_plans.specs.Trees.{tree_of, branch_tree};
 ghost use Rattle.maxj_syntax.specs.declared.tree.NodeKind.{NodeKind};
 ghost use Rattle.maxj_syntax.specs.Ranges.{AreInRange};
-ghost use Rattle.kernel_machine.specs.Going.{Leads, standing, rest, after, leaving};
-ghost use Rattle.kernel_machine.specs.Falls.{CostsBelow, idle};
-ghost use Rattle.kernel_machine.specs.Fit.{IsFitMachine};
+ghost use Rattle.kernel_machine.specs.Going.{Leads, go, standing, rest, after, leaving};
+ghost use Rattle.kernel_machine.specs.Falls.{CostsBelow, idle, weight};
+ghost use Rattle.kernel_machine.specs.Fit.{IsFitMachine, IsFitTask};
 
 use crate::machine::{Event, Machine, Now};
 use crate::parts::part;
@@ -18,6 +19,29 @@ use mx_base::List;
 use std::alloc::Global;
 
 impl Machine {
+    // Runs a statement, for whose end this task waits.
+    #[tactic(auto, unfolding(crate::specs::Going::go, kernel_meaning::specs::Run::expr))]
+    pub(crate) fn execute_for(
+        &mut self,
+        class: &Class<'_>,
+        task: Task,
+        part: Part,
+    ) -> Result<Event, EvalError>
+        requires task { IsFitTask class.now task }
+        requires fit { IsFitMachine class.now self.old }
+        ensures does { Leads class.now (exec (standing class.now self.old)
+            (tree_of class.now.cells part) self.old.state (λ state. go class.now
+            (standing class.now self.old) (task ∷ self.old.tasks) V.Nothing state
+            (leaving class.now self.old)) (leaving class.now self.old)) result self.new }
+        ensures falls { CostsBelow class.now (idle class.now self.old + weight class.now task + 1)
+            result self.new }
+        ensures fit { OnOk result (IsFitMachine class.now self.new) }
+    {
+        self.tasks.push(task)?;
+        self.now = Now::Exec(part);
+        Ok(Event::On)
+    }
+
     // A block goes on with the statement of this place, and then leaves so many variables.
     #[tactic(auto, unfolding(crate::specs::Going::go, kernel_meaning::specs::Run::expr))]
     pub(crate) fn statements(
@@ -39,13 +63,12 @@ impl Machine {
             self.state.variables.keep(count);
             return self.give(class, Value::Nothing);
         }
-        self.tasks.push(Task::Statements {
+        let task = Task::Statements {
             node,
             place: place + 1,
             count,
-        })?;
-        self.now = Now::Exec(part(&parts, place));
-        Ok(Event::On)
+        };
+        self.execute_for(class, task, part(&parts, place))
     }
 
     // A call that is a statement.
@@ -70,9 +93,7 @@ impl Machine {
         if !self.count() {
             return Err(EvalError::StepLimit);
         }
-        self.tasks.push(Task::Discard)?;
-        self.now = Now::Eval(call);
-        Ok(Event::On)
+        self.evaluate_for(class, Task::Discard, call)
     }
 
     // `return`, with a value or without.
@@ -103,9 +124,7 @@ impl Machine {
                 if !self.count() {
                     return Err(EvalError::StepLimit);
                 }
-                self.tasks.push(Task::GiveBack { at })?;
-                self.now = Now::Eval(value);
-                Ok(Event::On)
+                self.evaluate_for(class, Task::GiveBack { at }, value)
             }
             _ => Err(EvalError::WrongKind(at)),
         }

@@ -4,6 +4,7 @@ pub mod DigitBits
 pub mod LiteralBits
 mod NextOperand
 mod SignPairs
+mod PlanSteps
 mod HostPairs
 pub mod OperationKept
 pub mod ArraysKept

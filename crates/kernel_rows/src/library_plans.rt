@@ -1,5 +1,5 @@
 // The plans of the calls of a kernel's library, by their paths.
-ghost use Rattle.std.specs.Prelude.{◌≡◌, nat_lt, if◌then◌else◌};
+ghost use Rattle.std.specs.Prelude.{◌≡◌, ◌==◌, ◌||◌, nat_lt, if◌then◌else◌};
 ghost use Rattle.kernel_meaning.specs.Plans as Plans;
 ghost use Rattle.kernel_rows.specs.Planned.{IsPlan};
 
@@ -45,9 +45,9 @@ pub fn library_plan(path: &[u8], at: u32, count: u32, mode: &[u8]) -> OperandPla
     ensures { IsPlan (Plans.library_plan path.now at count mode.now) result }
 {
     if path == INPUT {
-        reads_if(count == 2 || count == 3, at, Row::Input, 1, count)
+        reads_if(is_either(count, 2, 3), at, Row::Input, 1, count)
     } else if path == OUTPUT {
-        reads_if(count == 3 || count == 4, at, Row::Output, 1, count)
+        reads_if(is_either(count, 3, 4), at, Row::Output, 1, count)
     } else if path == SCALAR_INPUT {
         reads_if(count == 2, at, Row::ScalarInput, 1, 2)
     } else if path == CONSTANT_VAR {
@@ -57,7 +57,7 @@ pub fn library_plan(path: &[u8], at: u32, count: u32, mode: &[u8]) -> OperandPla
     } else if path == MUX {
         mux_plan(at, count)
     } else if path == SIMPLE_COUNTER {
-        reads_if(count == 1 || count == 2, at, Row::SimpleCounter, 1, count)
+        reads_if(is_either(count, 1, 2), at, Row::SimpleCounter, 1, count)
     } else if path == MAKE_COUNTER_CHAIN {
         reads_if(count == 0, at, Row::MakeCounterChain, 1, 0)
     } else if path == STREAM_HOLD {
@@ -73,6 +73,13 @@ pub fn library_plan(path: &[u8], at: u32, count: u32, mode: &[u8]) -> OperandPla
     } else {
         OperandPlan::Fault(EvalError::UnknownName(at))
     }
+}
+
+// Whether the number of arguments is one of two: the last argument may be left out.
+fn is_either(count: u32, without: u32, with: u32) -> bool
+    ensures { result ≡ (count == without || count == with) }
+{
+    count == without || count == with
 }
 
 // The plan of a multiplexer, which has a selector at least.

@@ -113,105 +113,79 @@ pub sign_kind_is : (x : Sign) → kind_of (Token.Sign (sign_bytes x)) ≡ K.Sign
 sign_kind_is S.Open = refl
 sign_kind_is _ = refl
 
+-- what a kind says of the word or sign that was found
+sign_of_kind : (o : Option Sign) (x : Sign) → kind_of_sign o ≡ K.Sign x → o ≡ Some x
+sign_of_kind (Some y) x e = let i : y ≡ x = cc in ap (λ s. Some s) i
+sign_of_kind None x e = absurd (cc)
+
+sign_no_word : (o : Option Sign) (x : Word) → kind_of_sign o ≡ K.Word x → ⊥
+sign_no_word (Some y) x e = absurd (cc)
+sign_no_word None x e = absurd (cc)
+
+sign_no_name : (o : Option Sign) → kind_of_sign o ≡ K.Name → ⊥
+sign_no_name (Some y) e = absurd (cc)
+sign_no_name None e = absurd (cc)
+
+word_of_kind : (o : Option Word) (is : Bool) (x : Word) → kind_of_word o is ≡ K.Word x → o ≡ Some x
+word_of_kind (Some y) is x e = let i : y ≡ x = cc in ap (λ w. Some w) i
+word_of_kind None true x e = absurd (cc)
+word_of_kind None false x e = absurd (cc)
+
+word_no_sign : (o : Option Word) (is : Bool) (x : Sign) → kind_of_word o is ≡ K.Sign x → ⊥
+word_no_sign (Some y) is x e = absurd (cc)
+word_no_sign None true x e = absurd (cc)
+word_no_sign None false x e = absurd (cc)
+
+name_of_kind : (o : Option Word) (is : Bool) → kind_of_word o is ≡ K.Name → (o ≡ None) × (is ≡ true)
+name_of_kind (Some y) is e = absurd (cc)
+name_of_kind None true e = (refl, refl)
+name_of_kind None false e = absurd (cc)
+
 pub sign_token : (t : Token) (x : Sign) → kind_of t ≡ K.Sign x → t ≡ Token.Sign (sign_bytes x)
-sign_token (Token.Sign s) x e = step (first_sign s all_signs) refl e
-  where
-    step : (o : Option Sign) → first_sign s all_signs ≡ o → kind_of_sign o ≡ K.Sign x → Token.Sign s ≡ Token.Sign (sign_bytes x)
-    step (Some y) f g = let i : y ≡ x = cc in ap (λ l. Token.Sign l) (sign_found s y all_signs f ∙ ap sign_bytes i)
-    step None f g = absurd (cc)
-sign_token (Token.Word w) x e = step (known_word w) (is_word w) e
-  where
-    step : (o : Option Word) (b : Bool) → kind_of_word o b ≡ K.Sign x → Token.Word w ≡ Token.Sign (sign_bytes x)
-    step (Some y) b g = absurd (cc)
-    step None true g = absurd (cc)
-    step None false g = absurd (cc)
+sign_token (Token.Sign s) x e = ap (λ l. Token.Sign l) (sign_found s x all_signs (sign_of_kind (first_sign s all_signs) x e))
+sign_token (Token.Word w) x e = absurd (word_no_sign (known_word w) (is_word w) x e)
 sign_token _ x e = absurd (cc)
 
 pub word_token : (t : Token) (x : Word) → kind_of t ≡ K.Word x → t ≡ Token.Word (word_bytes x)
-word_token (Token.Word w) x e = step (known_word w) (is_word w) refl e
-  where
-    step : (o : Option Word) (b : Bool) → known_word w ≡ o → kind_of_word o b ≡ K.Word x → Token.Word w ≡ Token.Word (word_bytes x)
-    step (Some y) b f g = let i : y ≡ x = cc in ap (λ l. Token.Word l) (word_found w y words f ∙ ap word_bytes i)
-    step None true f g = absurd (cc)
-    step None false f g = absurd (cc)
-word_token (Token.Sign s) x e = step (first_sign s all_signs) e
-  where
-    step : (o : Option Sign) → kind_of_sign o ≡ K.Word x → Token.Sign s ≡ Token.Word (word_bytes x)
-    step (Some y) g = absurd (cc)
-    step None g = absurd (cc)
+word_token (Token.Word w) x e = ap (λ l. Token.Word l) (word_found w x words (word_of_kind (known_word w) (is_word w) x e))
+word_token (Token.Sign s) x e = absurd (sign_no_word (first_sign s all_signs) x e)
 word_token _ x e = absurd (cc)
+
+-- whether the grammar knows each word of a list
+abbrev is_known : Option Word → Bool
+is_known (Some x) = true
+is_known None = false
+
+abbrev all_known : List (List ℕ) → Bool
+all_known [] = true
+all_known (v ∷ vs) = is_known (known_word v) && all_known vs
+
+among_known : (w : List ℕ) (vs : List (List ℕ)) → all_known vs ≡ true → is_among w vs ≡ true → is_known (known_word w) ≡ true
+among_known w [] k e = absurd (cc)
+among_known w (v ∷ vs) k e = elim (or_cases (bytes_eq w v) _ e) [
+  | inl f ↦ subst (λ u. is_known (known_word u) ≡ true) (sym (bytes_eq_is w v f)) (and_left (is_known (known_word v)) _ k)
+  | inr f ↦ among_known w vs (and_right (is_known (known_word v)) _ k) f
+]
+
+reserved_known : all_known reserved_words ≡ true
+reserved_known = refl
 
 -- a word that is none of the grammar's is not among those that are no names
 unknown_unreserved : (w : List ℕ) → known_word w ≡ None → is_among w reserved_words ≡ false
 unknown_unreserved w e = step (is_among w reserved_words) refl
   where
-    known : (v : List ℕ) → known_word v ≡ None → is_among v reserved_words ≡ true → ⊥
-    known v n f = each_bytes (λ u. known_word u ≡ None
-        → ⊥) v reserved_words f (
-          (λ x. absurd (cc)),
-          (
-            (λ x. absurd (cc)),
-            (
-              (λ x. absurd (cc)),
-              (
-                (λ x. absurd (cc)),
-                (
-                  (λ x. absurd (cc)),
-                  (
-                    (λ x. absurd (cc)),
-                    (
-                      (λ x. absurd (cc)),
-                      (
-                        (λ x. absurd (cc)),
-                        (
-                          (λ x. absurd (cc)),
-                          (
-                            (λ x. absurd (cc)),
-                            (
-                              (λ x. absurd (cc)),
-                              (
-                                (λ x. absurd (cc)),
-                                (
-                                  (λ x. absurd (cc)),
-                                  (
-                                    (λ x. absurd (cc)),
-                                    (
-                                      (λ x. absurd (cc)),
-                                      (
-                                        (λ x. absurd (cc)),
-                                        (
-                                          (λ x. absurd (cc)),
-                                          (
-                                            (λ x. absurd (cc)),
-                                            (
-                                              (λ x. absurd (cc)),
-                                              (
-                                                (λ x. absurd (cc)),
-                                                ((λ x. absurd (cc)), ((λ x. absurd (cc)), tt)),
-                                              ),
-                                            ),
-                                          ),
-                                        ),
-                                      ),
-                                    ),
-                                  ),
-                                ),
-                              ),
-                            ),
-                          ),
-                        ),
-                      ),
-                    ),
-                  ),
-                ),
-              ),
-            ),
-          ),
-        ) n
-
     step : (b : Bool) → is_among w reserved_words ≡ b → is_among w reserved_words ≡ false
-    step true f = absurd (known w e f)
+    step true f = let h : false ≡ true = subst (λ o. is_known o ≡ true) e (among_known w reserved_words reserved_known f) in absurd (cc)
     step false f = f
+
+-- each word of the grammar that is a name is of a kind that names have
+implied : (a b : Bool) → (not a || b) ≡ true → a ≡ true → b ≡ true
+implied true b h e = h
+implied false b h e = absurd (cc)
+
+name_words : (x : Word) → (not (is_name (word_bytes x)) || among (K.Word x) names) ≡ true
+name_words W.Package = refl
+name_words _ = refl
 
 pub name_kind : (w : List ℕ) → is_name w ≡ true → among (word_kind w) names ≡ true
 name_kind w e = step (known_word w) refl
@@ -219,31 +193,16 @@ name_kind w e = step (known_word w) refl
     is : is_word w ≡ true
     is = and_left (is_word w) _ e
 
-    by_word : (x : Word) → is_name (word_bytes x) ≡ true → among (K.Word x) names ≡ true
-    by_word W.Kernel h = refl
-    by_word W.CustomManager h = refl
-    by_word W.Memory h = refl
-    by_word W.DFEVar h = refl
-    by_word W.KernelParameters h = refl
-    by_word W.EngineParameters h = refl
-    by_word _ h = absurd (cc)
-
     step : (o : Option Word) → known_word w ≡ o → among (word_kind w) names ≡ true
-    step (Some x) f = rw f (by_word x (subst (λ v. is_name v ≡ true) (word_found w x words f) e))
+    step (Some x) f = rw f (implied (is_name (word_bytes x)) _ (name_words x) (subst (λ v. is_name v ≡ true) (word_found w x words f) e))
     step None f = rw (f, is) refl
 
 pub plain_name : (t : Token) → kind_of t ≡ K.Name → IsNameToken t
-plain_name (Token.Word w) e = (refl, step (known_word w) (is_word w) refl refl e)
+plain_name (Token.Word w) e = (refl, named (name_of_kind (known_word w) (is_word w) e))
   where
-    step : (o : Option Word) (b : Bool) → known_word w ≡ o → is_word w ≡ b → kind_of_word o b ≡ K.Name → is_name w ≡ true
-    step (Some y) b f h g = absurd (cc)
-    step None true f h g = rw (h, unknown_unreserved w f) refl
-    step None false f h g = absurd (cc)
-plain_name (Token.Sign s) e = step (first_sign s all_signs) e
-  where
-    step : (o : Option Sign) → kind_of_sign o ≡ K.Name → IsNameToken (Token.Sign s)
-    step (Some y) g = absurd (cc)
-    step None g = absurd (cc)
+    named : (known_word w ≡ None) × (is_word w ≡ true) → is_name w ≡ true
+    named (f, g) = rw (g, unknown_unreserved w f) refl
+plain_name (Token.Sign s) e = absurd (sign_no_name (first_sign s all_signs) e)
 plain_name _ e = absurd (cc)
 
 -- a list without a kind

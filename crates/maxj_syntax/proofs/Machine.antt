@@ -245,6 +245,12 @@ chain_less p qs ps h k = step (all_empty empties qs) refl (chain_append qs ps)
         let o = last (empties p) in
         omega (arith, n, h, o)
 
+pub step_less : (a : Action) (old new : List Symbol) → old ≡ Act a ∷ new → chain new < chain old
+step_less a old new e = rw e (add_less (chain new))
+  where
+    add_less : (n : ℕ) → n < 1 + n
+    add_less n = omega arith
+
 pub rule_less : (p : Symbol) (next : Option PlacedToken) (ps old new : List Symbol) → IsRule p → IsExpanded p next ps new true → old ≡ p ∷ ps → chain new < chain old
 rule_less p next ps old new i x f =
     let k = predicts.sound p next x.0 x.1 in

@@ -11,7 +11,7 @@ use Rattle.maxj_syntax.specs.declared.draft.NodeWord.TheVariants as W
 use Rattle.maxj_syntax.specs.Cells.{Cell, word_in, cell_in, cells_of}
 use Rattle.maxj_syntax.specs.declared.tree.Class.{Class}
 use Rattle.maxj_syntax.specs.declared.build.Unfinished.{Unfinished}
-use Rattle.maxj_syntax.specs.declared.symbol.Action.TheVariants.{Into, Declare, Keep}
+use Rattle.maxj_syntax.specs.declared.symbol.Action.TheVariants.{Into, Declare, Keep, Named}
 use Rattle.maxj_tokens.specs.Scanning.{PlacedToken, span_of}
 use Rattle.maxj_syntax.specs.Tree.{Tree, Node, Trees, Nil, Cons, one, ClassTree, IsAt, AreAt, ClassIs, ClassesAre}
 use Rattle.maxj_syntax.specs.Steps.{Entry, At, Below, Ground, On, act_top, act_below, add_last, no_span, tree_of, start_of, add_classes, class_of, memory_type, between}
@@ -183,6 +183,29 @@ entered tokens xs nodes more classes old mid os new o p q n (At x t) (On (At y (
           ∷ [])) l (add_last ts t)) (sym (c ∙ ap (λ m. p.node.children ++ m ∷ []) l)) all,
     )
     (under_more nodes (cell_in tokens o.node ∷ []) classes tokens (reverse os) s j.1))
+
+-- the one below gets the word of the one on top
+pub renamed : (tokens xs : List PlacedToken) (nodes : List Cell) (classes : List Class)
+    (old mid os new : List Unfinished) (o p q : Unfinished) (b : Entry) (s : Below)
+    → old ≡ mid ++ o ∷ [] → mid ≡ os ++ p ∷ [] → new ≡ os ++ q ∷ []
+    → q.start ≡ p.start → q.node.kind ≡ p.node.kind → q.node.word ≡ o.node.word
+    → q.node.span ≡ p.node.span → q.node.children ≡ p.node.children
+    → AreOpen nodes classes tokens (reverse old) b s
+    → AreOpen nodes classes tokens (reverse new) (act_top Named xs b s) (act_below Named b s)
+renamed tokens xs nodes classes old mid os new o p q (At x t) (Ground cs) e f g a u v d c h =
+    let i = top_of_list tokens nodes classes old mid o (At x t) (Ground cs) e h in
+    let j = next_below tokens nodes classes mid os p (Ground cs) f i.1 in
+    absurd (let k = j.2 in cc)
+renamed tokens xs nodes classes old mid os new o p q (At x (Node l m n us)) (On (At y (Node k w r ts)) s) e f g a u v d c h =
+    let i = top_of_list tokens nodes classes old mid o (At x (Node l m n us)) (On (At y (Node k w r ts)) s) e h in
+    let j = subst (λ l. AreUnder nodes classes tokens l (On (At y (Node k w r ts)) s)) (ap reverse f ∙ reverse-append os (p ∷ [])) i.1 in
+    onto tokens nodes classes new os q (At y (Node k m r ts)) s g (
+      j.0.0 ∙ ap (λ m. drop m tokens) (sym a),
+      u ∙ j.0.1,
+      ap (word_in tokens) v ∙ i.0.2,
+      d ∙ j.0.3,
+      subst (λ l. AreAt nodes (length nodes) l ts) (sym c) j.0.4,
+    ) j.1
 
 -- the one on top is alone
 pub alone : (tokens : List PlacedToken) (nodes : List Cell) (classes : List Class)

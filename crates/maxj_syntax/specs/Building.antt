@@ -86,6 +86,16 @@ pub record IsLeaf (node : Draft) (k : NodeKind) (w : NodeWord) (span : Span) : T
   pub span_is : node.span ≡ span
   pub children : node.children ≡ []
 
+-- a local variable of the type of memories, whose node is one more of the nodes
+pub record IsMemoryLocal (old new : List Draft) (w : NodeWord) (span : Span) (node : Draft) : Type 0 where
+  pub memory : Draft
+  pub leaf : IsLeaf memory N.Plain W.Memory span
+  pub nodes : new ≡ old ++ memory ∷ []
+  pub kind : node.kind ≡ N.Local
+  pub word : node.word ≡ w
+  pub span_is : node.span ≡ no_span
+  pub children : node.children ≡ length old ∷ []
+
 -- the stack, the top first
 abbrev pub todo : List SymbolOf → List Symbol
 todo stack = map symbol_view (reverse stack)

@@ -5,7 +5,7 @@ ghost use Rattle.maxj_tokens.specs.Scanning.{PlacedToken, span_of, from_of, to_o
 ghost use Rattle.maxj_tokens.specs.Reading.{token_view, placed_view};
 ghost use Rattle.maxj_syntax.specs.TokenClasses.{leaf_kind};
 ghost use Rattle.maxj_syntax.specs.Plain.{StaysInRange};
-ghost use Rattle.maxj_syntax.specs.Building.{Acts, Takes, Adds, Wraps, Does, Texts, IsBottom, IsLeaf, EndsIn};
+ghost use Rattle.maxj_syntax.specs.Building.{Acts, Takes, Adds, Wraps, Does, Texts, IsBottom, IsLeaf, IsMemoryLocal, EndsIn};
 
 use crate::draft::{Draft, NodeWord, word_of, written};
 use crate::nodes::Nodes;
@@ -265,6 +265,23 @@ fn memory(
     Ok(())
 }
 
+/// A local variable of the type of memories. The type's node, which has the span, is added to the
+/// nodes.
+fn memory_local(
+    alloc: Global,
+    nodes: &mut Nodes,
+    word: NodeWord,
+    span: Span,
+) -> Result<Draft, NoMemory>
+    ensures { IfOk result (λ node. IsMemoryLocal nodes.old nodes.new word span node) }
+{
+    let memory = leaf(alloc, NodeKind::Plain, NodeWord::Memory, span);
+    let child = nodes.push(memory)?;
+    let mut node = leaf(alloc, NodeKind::Local, word, NO_SPAN);
+    node.children.push(child)?;
+    Ok(node)
+}
+
 /// The node on top, a name, becomes a local variable of the type of memories, which stands where the node below does.
 fn declare(
     alloc: Global,
@@ -281,10 +298,7 @@ fn declare(
         if let Some(mut below) = builder.unfinished.pop() {
             let to = top.start.min(tokens.len());
             let span = span_between(tokens, below.start, to);
-            let memory = leaf(alloc, NodeKind::Plain, NodeWord::Memory, span);
-            let child = builder.nodes.push(memory)?;
-            let mut node = leaf(alloc, NodeKind::Local, top.node.word, NO_SPAN);
-            node.children.push(child)?;
+            let node = memory_local(alloc, &mut builder.nodes, top.node.word, span)?;
             below.node = node;
             builder.unfinished.push(below)?;
         } else {

@@ -198,6 +198,40 @@ fn taken(settled: Settled<'_>, token: &Token<'_>, kind: Kind) -> Option<Effect>
     }
 }
 
+/// Reads all tokens: the stack has the file on it before, and the builder holds it after. The source
+/// has `size` bytes.
+fn read_tokens<'a>(
+    alloc: Global,
+    stack: &mut Vec<Symbol<'a>>,
+    builder: &mut Builder,
+    tokens: &Tokens<'a>,
+    size: u32,
+) -> Result<(), ParseError>
+    requires ends { All EndsIn tokens.now }
+    requires reached { Reached tokens.now tokens.now (todo stack.old.items) builder.old }
+    requires ranged { Ranged tokens.now (todo stack.old.items) builder.old }
+    ensures ok { IfOk result (λ _.
+        IsTheFileOf tokens.now (cells_of tokens.now builder.new.nodes) builder.new.classes) }
+    ensures numbers { IfOk result (λ _. HasNone IsOutside tokens.now
+        → AreInRange (cells_of tokens.now builder.new.nodes)) }
+    ensures err { IfErr result (λ e. FailsToParse tokens.now size e) }
+{
+    let count = tokens.len();
+    for at in 0..count {
+        let token = tokens.at(at);
+        let kind = kind_of(&token.token);
+        let settled = settle(alloc, stack, builder, tokens, at, Some(kind))?;
+        let Some(effect) = taken(settled, &token.token, kind) else {
+            return Err(ParseError::Misplaced(token.at));
+        };
+        build::read(alloc, builder, effect, tokens, at)?;
+    }
+    match settle(alloc, stack, builder, tokens, count, None)? {
+        Settled::Empty => Ok(()),
+        _ => Err(ParseError::Misplaced(size)),
+    }
+}
+
 /// The classes of the source that the tokens are, and the nodes of their trees.
 fn build_classes(alloc: Global, tokens: &Tokens<'_>, size: u32) -> Result<Builder, ParseError>
     requires { All EndsIn tokens.now }
@@ -208,21 +242,9 @@ fn build_classes(alloc: Global, tokens: &Tokens<'_>, size: u32) -> Result<Builde
 {
     let mut stack = Vec::new(alloc);
     push_fixed(&mut stack, &[Fixed::Sub(Rule::File)])?;
-    let count = tokens.len();
-    let mut builder = build::bottom(alloc, count)?;
-    for at in 0..count {
-        let token = tokens.at(at);
-        let kind = kind_of(&token.token);
-        let settled = settle(alloc, &mut stack, &mut builder, tokens, at, Some(kind))?;
-        let Some(effect) = taken(settled, &token.token, kind) else {
-            return Err(ParseError::Misplaced(token.at));
-        };
-        build::read(alloc, &mut builder, effect, tokens, at)?;
-    }
-    match settle(alloc, &mut stack, &mut builder, tokens, count, None)? {
-        Settled::Empty => Ok(builder),
-        _ => Err(ParseError::Misplaced(size)),
-    }
+    let mut builder = build::bottom(alloc, tokens.len())?;
+    read_tokens(alloc, &mut stack, &mut builder, tokens, size)?;
+    Ok(builder)
 }
 
 /// The classes of the source that the tokens are, and the tree of their nodes. The source has `size`

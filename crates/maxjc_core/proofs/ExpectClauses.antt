@@ -88,18 +88,7 @@ missing-four names held stop missing refused (inr (begun, lacks)) =
     (stands (told-by-lack held (readings begun) lacks)))
     refused
 
--- and so is what stops when they are read
-pub missing-input : (names : ExpectNames) (held : Held) (begun : Begun) (stop : Stop)
-    → (IsSome held → BeginsIn names held begun)
-    → (LacksWords held (readings_in begun) → (stop ≡ stops.ReadFault) ⊎ (stop ≡ stops.NoMemory))
-    → LacksExpected names held → (stop ≡ stops.ReadFault) ⊎ (stop ≡ stops.NoMemory)
-missing-input names held begun stop begins missing (inl lacks) =
-    absurd (none-lacks names held (begins (told-lacks-four names held lacks)).files lacks)
-missing-input names held begun stop begins missing (inr (other, lacks)) =
-    let told = told-by-lack held (readings other) lacks in
-    missing (subst (LacksWords held) (same-readings other (can-begin names held begun (begins told))) lacks)
-
--- a run over inputs that were read has no file that isn't held
+-- where a file isn't held, and the run began, it is an input file
 pub read-lacks-none : (names : ExpectNames) (held : Held) (begun : Begun) {A : Type 0}
     → (IsSome held → BeginsIn names held begun) → (LacksWords held (readings_in begun) → A)
     → LacksExpected names held → A

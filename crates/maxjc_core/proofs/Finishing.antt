@@ -123,9 +123,3 @@ finishes-stopped stops.WriteFault r before after free made sim stopped l source 
     given values freely enough = inr (stopped_cut_off stops.WriteFault r tt stopped)
 finishes-stopped stops.NoMemory r before after free made sim stopped l source table report line c
     given values freely enough = inr (stopped_cut_off stops.NoMemory r tt stopped)
-
--- where nothing is loaded nothing is run
-pub finishes-unloaded : {names : RunNames} {held : Held} (r : Status) (before after : Option (List ℕ))
-    → (IsLoaded names held → ⊥) → AllFinish names held before after r
-finishes-unloaded r before after never l source table report line c given values freely enough =
-    absurd (never l)

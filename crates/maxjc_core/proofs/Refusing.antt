@@ -1,5 +1,5 @@
 -- What holds of the cause of a refusal.
-use Rattle.std.proofs.Common.{◌≡◌, ◌⊎◌, ℕ, List, Option, Some, None, Err, inl, inr, refl}
+use Rattle.std.proofs.Common.{◌≡◌, ◌⊎◌, ℕ, List, Option, Some, None, Err, inl, inr, refl, sym, subst}
 use Rattle.maxj_syntax.specs.Source.{Fault}
 use Rattle.maxj_syntax.specs.Outcomes.{FailsToRead}
 use Rattle.maxj_syntax.specs.declared.source.SourceError.{SourceError}
@@ -19,7 +19,11 @@ use Rattle.maxjc_core.specs.RunFiles.{IsRunFault, IsUnfitFor}
 use Rattle.maxjc_core.specs.Projects.{MakesNoProject}
 use Rattle.maxjc_core.specs.ErrorCauses.{IfCause, cause_told, source_cause, run_file_cause}
 use Rattle.maxjc_core.specs.SimulateCauses.{rule_cause, text_cause}
+use Rattle.maxjc_core.specs.CommandEnds.{IsCutOff}
 use Rattle.maxjc_core.specs.CompileStops.{IfRefused}
+use Rattle.maxjc_core.specs.declared.refusal.Refusal.{Refusal}
+use Rattle.maxjc_core.specs.declared.status.Status.{Status}
+use Rattle.maxjc_core.specs.declared.status.Status.TheVariants.{Done, Refused, ReadFault, WriteFault, NoMemory, EdgeLimit}
 use Rattle.maxjc_core.specs.declared.stop.Stop.{Stop}
 use Rattle.maxjc_core.specs.declared.stop.Stop.TheVariants as stops
 
@@ -49,6 +53,36 @@ pub refused-so : (stop : Stop) (P Q : Cause → Type 0) → ((cause : Cause) →
 refused-so (stops.Refused refusal) P Q f h = if_cause_so (cause_told refusal) P Q f h
 refused-so stops.ReadFault P Q f h = tt
 refused-so stops.NoMemory P Q f h = tt
+
+-- and what was said of a refusal is said of a cause of which it follows
+pub said-cause : (stop : Stop) (P Q : Cause → Type 0) → IfRefused stop P
+    → (refusal : Refusal) × (stop ≡ stops.Refused refusal) × IfCause (cause_told refusal) Q
+    → (cause : Cause) × P cause × Q cause
+said-cause stop P Q p r =
+    both_of (cause_told r.0) P Q (subst (λ (s : Stop). IfRefused s P) r.1 p) r.2
+
+-- how a command ends that a stop ended
+abbrev pub IsStopEnd : Status → Type 0
+IsStopEnd status =
+    (status ≡ Refused) ⊎ ((status ≡ ReadFault) ⊎ ((status ≡ WriteFault) ⊎ (status ≡ NoMemory)))
+
+pub not-done : (status : Status) → IsStopEnd status → status ≡ Done → ⊥
+not-done status (inl e) done = cc
+not-done status (inr (inl e)) done = cc
+not-done status (inr (inr (inl e))) done = cc
+not-done status (inr (inr (inr e))) done = cc
+
+pub not-limited : (status : Status) → IsStopEnd status → status ≡ EdgeLimit → ⊥
+not-limited status (inl e) limited = cc
+not-limited status (inr (inl e)) limited = cc
+not-limited status (inr (inr (inl e))) limited = cc
+not-limited status (inr (inr (inr e))) limited = cc
+
+pub refused-or-cut-off : (status : Status) → IsStopEnd status → (status ≡ Refused) ⊎ IsCutOff status
+refused-or-cut-off status (inl e) = inl e
+refused-or-cut-off status (inr (inl e)) = inr (subst IsCutOff (sym e) tt)
+refused-or-cut-off status (inr (inr (inl e))) = inr (subst IsCutOff (sym e) tt)
+refused-or-cut-off status (inr (inr (inr e))) = inr (subst IsCutOff (sym e) tt)
 
 pub some-same : {a b : Cause} → Some a ≡ Some b → a ≡ b
 some-same e = cc

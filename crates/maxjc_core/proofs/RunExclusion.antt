@@ -22,7 +22,7 @@ use Rattle.maxjc_core.proofs.Exclusion.{same_bytes}
 use Rattle.maxjc_core.proofs.OneShape.{ticks_along, scalars_along, inputs_along, outputs_along, plan_along}
 use Rattle.top_ports.proofs.ShapeLists.{one_alone}
 use Rattle.maxjc_core.specs.LoadStops.{IsOnlyDesign}
-use Rattle.maxjc_core.specs.RunFiles.{IsUnfit, IsUnfitFor, IsRunFault}
+use Rattle.maxjc_core.specs.RunFiles.{IsUnfitFor, IsRunFault, HasNoPlan}
 use Rattle.verilog_read.specs.Refused.{Refuses}
 use Rattle.verilog_read.specs.declared.error.VerilogError.{VerilogError}
 use Rattle.maxjc_core.proofs.RunReading.{refused_so}
@@ -170,19 +170,24 @@ fit_apart text run cause d only exact f (BreaksForm.no_json e is h) = no_text ru
 fit_apart text run cause d only exact f (BreaksForm.of_run e key is h) = no_error run f.run_file key f.says h
 fit_apart text run cause d only exact f (BreaksForm.unfit e is r ports key says are fits) = unfit_apart text run f d only e is r ports key says are fits
 
--- so the run file is not refused
-pub run_not_refused : (text run : List ℕ) (f : FitTogether text run) (stop : Stop) → IfRefused stop (IsRunFault run) → IfRefused stop (λ _. ⊥)
-run_not_refused text run f stop h = refused_so stop (IsRunFault run) (λ _. ⊥) (λ cause x. run_fits run f.run_file cause f.says x) h
-
 unfit_for : (text run : List ℕ) (f : FitTogether text run) (d : Design) → IsOnlyDesign text d
     → (is : IsReadAs text d) (r : RunFile) → Reads run (Ok r) → (ports : Interface)
     → shape_of ports ≡ is.shape → (cause : Cause) → IsUnfitFor r ports cause → ⊥
 unfit_for text run f d only is r says ports are cause (IsUnfitFor.at_key key fits) = unfit_apart text run f d only d is r ports key says are fits
 
+plan_fits : (text run : List ℕ) (f : FitTogether text run) (d : Design) → IsOnlyDesign text d
+    → (is : IsReadAs text d) (cause : Cause) → HasNoPlan run is.shape cause → ⊥
+plan_fits text run f d only is cause (HasNoPlan.of_form c fault) =
+    run_fits run f.run_file cause f.says fault
+plan_fits text run f d only is cause (HasNoPlan.unfit r c says u) =
+    unfit_for text run f d only is r says u.ports u.are cause u.unfit
+
+-- so the run file is not refused
 pub plan_not_refused : (text run : List ℕ) (f : FitTogether text run) (d : Design)
-    → IsOnlyDesign text d → (is : IsReadAs text d) (r : RunFile) → Reads run (Ok r)
-    → (stop : Stop) → IfRefused stop (IsUnfit r is.shape) → IfRefused stop (λ _. ⊥)
-plan_not_refused text run f d only is r says stop h = refused_so stop (IsUnfit r is.shape) (λ _. ⊥) (λ cause u. unfit_for text run f d only is r says u.ports u.are cause u.unfit) h
+    → IsOnlyDesign text d → (is : IsReadAs text d) (stop : Stop)
+    → IfRefused stop (HasNoPlan run is.shape) → IfRefused stop (λ _. ⊥)
+plan_not_refused text run f d only is stop h =
+    refused_so stop (HasNoPlan run is.shape) (λ _. ⊥) (plan_fits text run f d only is) h
 
 -- the files that are read are read once
 pub same_file : {limit : ℕ} (held : Held) (name : Name) (a b : List ℕ) → IsWithin limit held name a → IsWithin limit held name b → a ≡ b

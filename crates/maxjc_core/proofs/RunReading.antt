@@ -12,7 +12,7 @@ use Rattle.rtl_ir.specs.Interfaces.{shape_of}
 use Rattle.simulation.specs.declared.plan.Plan.{Plan}
 use Rattle.maxjc_core.specs.CauseLines.{Cause}
 use Rattle.maxjc_core.specs.LoadStops.{FitAs, IsOnlyDesign}
-use Rattle.maxjc_core.specs.RunFiles.{IsRunFault, IsPlanned, IsUnfit, IsUnfitFor}
+use Rattle.maxjc_core.specs.RunFiles.{IsRunFault, IsPlanned, IsUnfit, IsUnfitFor, HasNoPlan}
 use Rattle.maxjc_core.specs.SimulateCauses.{BreaksForm}
 use Rattle.maxjc_core.specs.ErrorCauses.{cause_told}
 use Rattle.maxjc_core.specs.CompileStops.{IfRefused}
@@ -29,7 +29,7 @@ refused_so stops.NoMemory P Q f p = tt
 pub text_breaks : (text run : List ℕ) (cause : Cause) → IsTextFault text cause → BreaksForm text run cause
 text_breaks text run cause r = BreaksForm.of_text r.0 cause r.1 r.2
 
-pub run_breaks : (text run : List ℕ) (d : Design) → IsReadAs text d → (cause : Cause) → IsRunFault run cause → BreaksForm text run cause
+run_breaks : (text run : List ℕ) (d : Design) → IsReadAs text d → (cause : Cause) → IsRunFault run cause → BreaksForm text run cause
 run_breaks text run d is cause (IsRunFault.not_json h) = BreaksForm.no_json d is h
 run_breaks text run d is cause (IsRunFault.shape key h) = BreaksForm.of_run d key is h
 
@@ -45,8 +45,12 @@ plan_unfit : (text run : List ℕ) (d : Design) (is : IsReadAs text d) (r : RunF
     → IsUnfitFor r ports cause → BreaksForm text run cause
 plan_unfit text run d is r says ports are cause (IsUnfitFor.at_key key fits) = BreaksForm.unfit d is r ports key says are fits
 
-pub plan_breaks : (text run : List ℕ) (d : Design) (is : IsReadAs text d) (r : RunFile) → Reads run (Ok r) → (cause : Cause) → IsUnfit r is.shape cause → BreaksForm text run cause
-plan_breaks text run d is r says cause u = plan_unfit text run d is r says u.ports u.are cause u.unfit
+-- a run file that has no plan for the ports of the design
+pub plan_breaks : (text run : List ℕ) (d : Design) (is : IsReadAs text d) (cause : Cause)
+    → HasNoPlan run is.shape cause → BreaksForm text run cause
+plan_breaks text run d is cause (HasNoPlan.of_form c fault) = run_breaks text run d is cause fault
+plan_breaks text run d is cause (HasNoPlan.unfit r c says u) =
+    plan_unfit text run d is r says u.ports u.are cause u.unfit
 
 pub fit_as : (text run : List ℕ) (d : Design) (is : IsReadAs text d) (r : RunFile) → Reads run (Ok r) → (p : Plan) → IsPlanned r is.shape p → IsOnlyDesign text d → FitAs text run d p
 fit_as text run d is r says p planned only = record {

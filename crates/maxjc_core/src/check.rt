@@ -1,10 +1,11 @@
 // Reads a project and a report, and judges the report. No file is changed here.
 ghost use Rattle.std.specs.Prelude.{◌≡◌, ◌<◌, ◌≤◌, ◌^◌, ◌⊎◌, Err, IfOk, IfErr, length, IsSome};
+ghost use Rattle.std.specs.List.{flat_map};
 ghost use Rattle.mx_base.specs.Counts.{Rose};
 ghost use Rattle.mx_base.specs.Files.{Lacks};
 ghost use Rattle.maxjc_core.specs.CompileCauses.{file_limit};
 ghost use Rattle.maxjc_core.specs.CheckCauses.{IsOfCheck, IsInputTooLarge, CheckStands, LacksChecked};
-ghost use Rattle.maxjc_core.specs.Checking.{Checks, IsChecked};
+ghost use Rattle.maxjc_core.specs.Checking.{Checks, IsChecked, least_line};
 ghost use Rattle.maxjc_core.specs.CheckStops.{AreInputs};
 ghost use Rattle.maxjc_core.specs.NamedCommand.{check_told};
 ghost use Rattle.maxjc_core.specs.CompileStops.{IfRefused};
@@ -16,6 +17,7 @@ use crate::shown::show_report;
 use crate::stop::Stop;
 use crate::summary::least_lines;
 use mx_base::Files;
+use schedule_report::ReportKernel;
 use std::alloc::Global;
 
 /// The bytes of a project and of a report.
@@ -23,6 +25,14 @@ use std::alloc::Global;
 pub struct Inputs {
     pub project: ProjectBytes,
     pub report: Vec<u8>,
+}
+
+// The lines that are said of the parts of a report. Apart from `check_bytes`, which owns the project.
+fn said_of<'a>(alloc: Global, parts: &[ReportKernel]) -> Result<Vec<u8>, Stop<'a>>
+    ensures said { IfOk result (λ line. line.items ≡ flat_map least_line parts.now) }
+    ensures no_memory { IfErr result (λ stop. stop ≡ Stop.NoMemory) }
+{
+    Ok(least_lines(alloc, parts)?)
 }
 
 // What is said of the bytes of a source, of a latency table and of a report, or why they are
@@ -39,7 +49,7 @@ fn check_bytes<'a>(
     ensures no_read { result ≡ Err Stop.ReadFault → ⊥ }
 {
     match show_report(alloc, source, table, report) {
-        Ok(shown) => Ok(least_lines(alloc, shown.report.kernels.as_slice())?),
+        Ok(shown) => said_of(alloc, shown.report.kernels.as_slice()),
         Err(stop) => Err(stop),
     }
 }

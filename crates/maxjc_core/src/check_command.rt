@@ -12,8 +12,7 @@ ghost use Rattle.maxjc_core.specs.CommandEnds.{IsQuiet, IsSilent, IsCutOff};
 use crate::Status;
 use crate::check::check;
 use crate::command::Check;
-use crate::saying::{confirm, refuse};
-use crate::stop::Stop;
+use crate::saying::{confirm, say_stop};
 use mx_base::{Files, Say};
 use std::alloc::Global;
 
@@ -60,8 +59,6 @@ pub fn run_check<F: Files, S: Say>(
 {
     match check(alloc, files, names) {
         Ok(line) => confirm(say, &line),
-        Err(Stop::Refused(refusal)) => refuse(alloc, say, &refusal),
-        Err(Stop::ReadFault) => Status::ReadFault,
-        Err(Stop::NoMemory) => Status::NoMemory,
+        Err(stop) => say_stop(alloc, say, stop),
     }
 }

@@ -12,8 +12,7 @@ ghost use Rattle.maxjc_core.specs.CompileFiles.{ChangesBoth, LeavesInOrder, Leav
 use crate::Status;
 use crate::command::Compile;
 use crate::compile::{Compiled, compile};
-use crate::saying::refuse;
-use crate::stop::Stop;
+use crate::saying::say_stop;
 use mx_base::{Failed, Files, Say, Text};
 use std::alloc::Global;
 
@@ -117,8 +116,6 @@ pub fn run_compile<F: Files, S: Say>(
 {
     match compile(alloc, files, names) {
         Ok(compiled) => deliver(files, say, names.output, names.report, &compiled),
-        Err(Stop::Refused(refusal)) => refuse(alloc, say, &refusal),
-        Err(Stop::ReadFault) => Status::ReadFault,
-        Err(Stop::NoMemory) => Status::NoMemory,
+        Err(stop) => say_stop(alloc, say, stop),
     }
 }

@@ -1,11 +1,12 @@
 // Reads the files of `expect`, and answers what the stream equations say. No file is changed here.
-ghost use Rattle.std.specs.Prelude.{◌≡◌, ◌⊎◌, ◌≤◌, Err, IfOk, IfErr, length, IsSome};
+ghost use Rattle.std.specs.Prelude.{◌≡◌, ◌⊎◌, ◌≤◌, ℕ, List, Err, IfOk, IfErr, length, IsSome};
 ghost use Rattle.std.specs.List.{AllZip};
 ghost use Rattle.mx_base.specs.Counts.{Rose};
 ghost use Rattle.mx_base.specs.Files.{Lacks};
 ghost use Rattle.maxjc_core.specs.CompileCauses.{file_limit};
 ghost use Rattle.maxjc_core.specs.ExpectCauses.{IsFileTooLarge, ExpectStands, LacksFile, LacksExpected};
 ghost use Rattle.maxjc_core.specs.ExpectStops.{AreRunInputs, AreWithin, AnswersAs, BeginsIn, CanWrite, IsAnswerOf, IsExpectedIn, IsReady, readings_in};
+ghost use Rattle.maxjc_core.specs.InputWords.{HaveWords, IsFirstLineFault, LacksWords};
 ghost use Rattle.maxjc_core.specs.NamedCommand.{expect_told};
 ghost use Rattle.maxjc_core.specs.CompileStops.{IfRefused};
 ghost use Rattle.stream_expect.specs.Widths.{HaveHostWidths};
@@ -20,6 +21,7 @@ use crate::project_run::run_of_plan;
 use crate::stop::Stop;
 use mx_base::{Files, List, NoMemory, Text};
 use std::alloc::Global;
+use std::mem;
 use stream_expect::{ExpectError, Expected, expect};
 
 /// What is written and said of a run: the output files in the order of the ports, with the width of
@@ -128,21 +130,51 @@ fn expected_of(alloc: Global, begun: &Begun, words: List<List<u128>>) -> Result<
     }
 }
 
-// What is written and said of a run that begins with this, over these words.
-fn answer_of(alloc: Global, begun: Begun, words: List<List<u128>>) -> Result<Answer, NoMemory>
-    requires ready { IsReady begun }
-    requires within { AllZip AreWithin (readings_in begun) words }
-    ensures is { IfOk result (IsAnswerOf begun words) }
+// What is written and said of a run that begins with this, over these words. The names of its output
+// files are taken out of the plan.
+fn answer_of(alloc: Global, begun: &mut Begun, words: List<List<u128>>) -> Result<Answer, NoMemory>
+    requires ready { IsReady begun.old }
+    requires within { AllZip AreWithin (readings_in begun.old) words }
+    ensures is { IfOk result (IsAnswerOf begun.old words) }
     ensures can_write { IfOk result (λ answer. CanWrite answer.outputs answer.words) }
 {
-    let expected = expected_of(alloc, &begun, words)?;
+    let expected = expected_of(alloc, begun, words)?;
     let lines = expected_lines(alloc, begun.linked.project.kernels(), &expected)?;
-    let plan = begun.plan;
+    let outputs = mem::replace(&mut begun.plan.outputs, List::new(alloc));
     Ok(Answer {
-        outputs: plan.outputs,
+        outputs,
         words: expected.outputs,
         lines,
     })
+}
+
+// Reads the input files of a run that begins with this, and answers what is written and said of it.
+// Apart from `answer_files`, which owns what the run begins with, so that no error here drops it.
+fn answer_begun<'a, F: Files>(
+    alloc: Global,
+    files: &mut F,
+    begun: &mut Begun,
+) -> Result<Answer, Stop<'a>>
+    requires { IsReady begun.old }
+    ensures same { F.held files.new ≡ F.held files.old }
+    ensures quiet { (result ≡ Err Stop.ReadFault → ⊥) → F.read_faults files.new ≡ F.read_faults files.old }
+    ensures write_quiet { F.write_faults files.new ≡ F.write_faults files.old }
+    ensures fault { result ≡ Err Stop.ReadFault
+        → Rose (F.read_faults files.old) (F.read_faults files.new)
+        ⊎ LacksWords (F.held files.old) (readings_in begun.old) }
+    ensures missing { LacksWords (F.held files.old) (readings_in begun.old)
+        → (result ≡ Err Stop.ReadFault) ⊎ (result ≡ Err Stop.NoMemory) }
+    ensures answers { IfOk result (λ answer. IsSome (F.held files.old)
+        → (words : List (List ℕ)) × HaveWords (F.held files.old) (readings_in begun.old) words
+        × IsAnswerOf begun.old words answer) }
+    ensures can_write { IfOk result (λ answer. CanWrite answer.outputs answer.words) }
+    ensures refused { IfErr result (λ stop. IfRefused stop (λ cause. IsSome (F.held files.old)
+        → IsFirstLineFault (F.held files.old) (readings_in begun.old) cause)) }
+{
+    match input_words(alloc, files, begun.linked.project.inputs(), &begun.plan) {
+        Ok(words) => Ok(answer_of(alloc, begun, words)?),
+        Err(stop) => Err(stop),
+    }
 }
 
 /// Reads the files of `expect` and those of the inputs: what is written and said of the run that
@@ -171,12 +203,8 @@ pub fn answer_files<'a, F: Files>(
     ensures refused { IfErr result (λ stop. IfRefused stop (λ cause. IsSome (F.held files.old)
         → ExpectStands (expect_told names.entry) (F.held files.old) cause)) }
 {
-    let begun = match begin_files(alloc, files, names) {
-        Ok(begun) => begun,
-        Err(stop) => return Err(stop),
-    };
-    match input_words(alloc, files, begun.linked.project.inputs(), &begun.plan) {
-        Ok(words) => Ok(answer_of(alloc, begun, words)?),
+    match begin_files(alloc, files, names) {
+        Ok(mut begun) => answer_begun(alloc, files, &mut begun),
         Err(stop) => Err(stop),
     }
 }

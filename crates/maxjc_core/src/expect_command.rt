@@ -17,8 +17,7 @@ ghost use Rattle.maxjc_core.specs.NamedCommand.{expect_told};
 use crate::Status;
 use crate::command::Expect;
 use crate::expect::{Answer, answer_files};
-use crate::saying::{confirm, refuse};
-use crate::stop::Stop;
+use crate::saying::{confirm, say_stop};
 use mx_base::{Files, List, Say, Text};
 use std::alloc::Global;
 use word_files::WordError;
@@ -131,8 +130,6 @@ pub fn run_expect<F: Files, S: Say>(
 {
     match answer_files(alloc, files, names) {
         Ok(answer) => deliver(alloc, files, say, &answer),
-        Err(Stop::Refused(refusal)) => refuse(alloc, say, &refusal),
-        Err(Stop::ReadFault) => Status::ReadFault,
-        Err(Stop::NoMemory) => Status::NoMemory,
+        Err(stop) => say_stop(alloc, say, stop),
     }
 }

@@ -1,14 +1,15 @@
 // The links of a project at the times of a report.
-ghost use Rattle.std.specs.Prelude.{◌≡◌, ◌<◌, ◌^◌, All, Err, IfOk, IfErr, length};
-ghost use Rattle.manager_links.specs.Links.{AreLinksOf, IsWithinLimit};
+ghost use Rattle.std.specs.Prelude.{◌≡◌, ◌<◌, ◌^◌, ℤ, List, All, Err, IfOk, IfErr, length};
+ghost use Rattle.manager_links.specs.Links.{AreLinksOf, IsWithinLimit, MayBeTooDeep};
 ghost use Rattle.manager_links.specs.Starts.{AreTimes};
+ghost use Rattle.manager_links.specs.declared.project.Project.{Project};
 ghost use Rattle.maxjc_core.specs.ExpectCauses.{IsTooDeep, HasNoLinks};
 ghost use Rattle.maxjc_core.specs.Expecting.{report_times};
 ghost use Rattle.maxjc_core.specs.ExpectStops.{LinksAs};
 ghost use Rattle.maxjc_core.specs.CompileStops.{IfRefused};
 
 use crate::refusal::Refusal;
-use crate::shown::show_report;
+use crate::shown::{Shown, show_report};
 use crate::stop::Stop;
 use manager_links::{LinkError, Links, Project, starts};
 use mx_base::{List, NoMemory};
@@ -35,6 +36,20 @@ fn times_of(alloc: Global, report: Report) -> Result<List<List<i64>>, NoMemory>
     Ok(times)
 }
 
+// What links stop with that could not be made at these times of a project.
+fn link_stop<'a>(error: LinkError) -> Stop<'a>
+    requires deep { (project : Project) × (times : List (List ℤ)) × MayBeTooDeep project times error }
+    ensures cause { (project : Project) (times : List (List ℤ)) → MayBeTooDeep project times error
+        → IfRefused result (IsTooDeep project times) }
+    ensures no_read { result ≡ Stop.ReadFault → ⊥ }
+{
+    match error {
+        LinkError::LinkTooDeep(link, words) => Stop::Refused(Refusal::LinkTooDeep(link, words)),
+        LinkError::NoMemory => Stop::NoMemory,
+        _ => unreachable!("links are refused by their depth alone"),
+    }
+}
+
 // The links of a project at these times, or the first that is too deep.
 fn links_at<'a>(alloc: Global, project: &Project, times: &[List<i64>]) -> Result<Links, Stop<'a>>
     requires { AreTimes project.now.kernels times.now }
@@ -45,11 +60,29 @@ fn links_at<'a>(alloc: Global, project: &Project, times: &[List<i64>]) -> Result
 {
     match starts(alloc, project, times) {
         Ok(links) => Ok(links),
-        Err(LinkError::LinkTooDeep(link, words)) => {
-            Err(Stop::Refused(Refusal::LinkTooDeep(link, words)))
-        }
-        Err(LinkError::NoMemory) => Err(Stop::NoMemory),
-        Err(_) => unreachable!("links are refused by their depth alone"),
+        Err(error) => Err(link_stop(error)),
+    }
+}
+
+// The times of a report, and the links of a project at them, or the first that is too deep. Apart
+// from `link_project`, which owns the project, so that no error here drops it.
+fn links_of<'a>(
+    alloc: Global,
+    project: &Project,
+    report: Report,
+) -> Result<(List<List<i64>>, Links), Stop<'a>>
+    requires { AreTimes project.now.kernels (report_times report) }
+    ensures times { IfOk result (λ made. made.0 ≡ report_times report) }
+    ensures links { IfOk result (λ made. AreLinksOf project.now made.0 made.1) }
+    ensures within { IfOk result (λ made. All IsWithinLimit made.1.links) }
+    ensures refused { IfErr result (λ stop.
+        IfRefused stop (IsTooDeep project.now (report_times report))) }
+    ensures no_read { result ≡ Err Stop.ReadFault → ⊥ }
+{
+    let times = times_of(alloc, report)?;
+    match links_at(alloc, project, times.as_slice()) {
+        Ok(links) => Ok((times, links)),
+        Err(stop) => Err(stop),
     }
 }
 
@@ -66,17 +99,15 @@ pub fn link_project<'a>(
     ensures refused { IfErr result (λ stop. IfRefused stop (HasNoLinks source.now table.now report.now)) }
     ensures no_read { result ≡ Err Stop.ReadFault → ⊥ }
 {
-    let shown = match show_report(alloc, source, table, report) {
-        Ok(shown) => shown,
-        Err(stop) => return Err(stop),
-    };
-    let times = times_of(alloc, shown.report)?;
-    match links_at(alloc, &shown.project, times.as_slice()) {
-        Ok(links) => Ok(Linked {
-            project: shown.project,
-            times,
-            links,
-        }),
+    match show_report(alloc, source, table, report) {
+        Ok(Shown { project, report }) => match links_of(alloc, &project, report) {
+            Ok((times, links)) => Ok(Linked {
+                project,
+                times,
+                links,
+            }),
+            Err(stop) => Err(stop),
+        },
         Err(stop) => Err(stop),
     }
 }

@@ -1,24 +1,29 @@
 // Reads a text and a run file that fits its design. No file is changed here.
-ghost use Rattle.std.specs.Prelude.{◌≡◌, ◌⊎◌, ◌<◌, ◌^◌, Some, Err, IfOk, IfErr, length};
+ghost use Rattle.std.specs.Prelude.{◌≡◌, ◌⊎◌, ◌<◌, ◌^◌, ℕ, Some, Err, IfOk, IfErr, length, map};
 ghost use Rattle.mx_base.specs.Counts.{Rose};
-ghost use Rattle.mx_base.specs.Files.{Lacks};
+ghost use Rattle.mx_base.specs.Files.{Lacks, Name};
 ghost use Rattle.rtl_ir.specs.declared.design.Design.{Design};
 ghost use Rattle.rtl_ir.specs.declared.design.Module.{Module};
 ghost use Rattle.rtl_ir.specs.Flat.{top_of};
 ghost use Rattle.rtl_ir.specs.Interfaces.{IsInterface};
+ghost use Rattle.rtl_ir.specs.Ports.{Shape};
+ghost use Rattle.rtl_ir.specs.Rules.{AllDiffer};
+ghost use Rattle.simulation.specs.Plans.{FitsShape, AreApart};
+ghost use Rattle.top_ports.specs.Shapes.{IsTop};
 ghost use Rattle.verilog_read.specs.Refused.{Refuses, IsReadAs};
 ghost use Rattle.verilog_read.specs.declared.error.VerilogError.{VerilogError};
 ghost use Rattle.maxjc_core.specs.CauseLines.{Cause};
 ghost use Rattle.maxjc_core.specs.Loading.{IsLoaded, FitTogether};
 ghost use Rattle.maxjc_core.specs.LoadStops.{LoadAnswers, CanRun, FitAs, IsOnlyDesign};
 ghost use Rattle.maxjc_core.specs.NamedCommand.{run_told};
+ghost use Rattle.maxjc_core.specs.RunFiles.{IsPlanOfBytes, HasNoPlan};
 ghost use Rattle.maxjc_core.specs.SimulateCauses.{IsFaulty, BreaksForm, LacksFile, text_cause};
 ghost use Rattle.maxjc_core.specs.CompileStops.{IfRefused};
 
 use crate::command::Simulate;
 use crate::files::{FILE_LIMIT, TEXT_LIMIT, read_file};
 use crate::refusal::Refusal;
-use crate::run_file::{plan_for, run_of};
+use crate::run_file::plan_of_bytes;
 use crate::stop::Stop;
 use mx_base::Files;
 use rtl_ir::{Design, Interface, Module};
@@ -62,6 +67,30 @@ fn top(design: &Design) -> &Module
     design.modules.at(design.modules.len() - 1)
 }
 
+// The ports of a top module, and the plan of a run file that fits them. Apart from `build`, which
+// owns the design, so that no error here drops it.
+fn ports_and_plan<'a>(
+    alloc: Global,
+    top: &Module,
+    run: &[u8],
+) -> Result<(Interface, Plan), Stop<'a>>
+    requires { (s : Shape) × IsTop top.now s }
+    ensures is { IfOk result (λ made. IsInterface top.now made.0) }
+    ensures planned { (s : Shape) → IsTop top.now s → IfOk result (λ made. IsPlanOfBytes run.now s made.1) }
+    ensures fits { (s : Shape) → IsTop top.now s → IfOk result (λ made. FitsShape made.1 s) }
+    ensures apart { (s : Shape) → IsTop top.now s → AllDiffer (map (λ (y : Name × ℕ). y.0) s.outputs)
+        → IfOk result (λ made. AreApart made.1) }
+    ensures refused { (s : Shape) → IsTop top.now s
+        → IfErr result (λ stop. IfRefused stop (HasNoPlan run.now s)) }
+    ensures no_fault { result ≡ Err Stop.ReadFault → ⊥ }
+{
+    let ports = interface(alloc, top)?;
+    match plan_of_bytes(alloc, &ports, run) {
+        Ok(plan) => Ok((ports, plan)),
+        Err(stop) => Err(stop),
+    }
+}
+
 // The design of a text and the plan of a run file that fits it.
 fn build<'a>(alloc: Global, text: &[u8], run: &[u8]) -> Result<Loaded, Stop<'a>>
     requires { length text.now < 2 ^ 32 }
@@ -77,13 +106,8 @@ fn build<'a>(alloc: Global, text: &[u8], run: &[u8]) -> Result<Loaded, Stop<'a>>
         Ok(design) => design,
         Err(stop) => return Err(stop),
     };
-    let run = match run_of(alloc, run) {
-        Ok(run) => run,
-        Err(stop) => return Err(stop),
-    };
-    let ports = interface(alloc, top(&design))?;
-    match plan_for(alloc, &ports, &run) {
-        Ok(plan) => Ok(Loaded {
+    match ports_and_plan(alloc, top(&design), run) {
+        Ok((ports, plan)) => Ok(Loaded {
             design,
             ports,
             plan,

@@ -1,5 +1,6 @@
 // Why a command refuses its files.
 ghost use Rattle.std.specs.Prelude.{◌≡◌, IfOk};
+ghost use Rattle.maxjc_core.specs.CauseLines as causes;
 ghost use Rattle.maxjc_core.specs.CauseLines.{line_of};
 ghost use Rattle.maxjc_core.specs.ErrorCauses.{cause_told, IfCause};
 
@@ -48,6 +49,27 @@ pub enum Refusal<'a> {
     Run(Stop),
 }
 
+// The line of a kernel whose FIFOs need so many bits.
+fn bits_line(alloc: Global, kernel: &Text, bits: u128) -> Result<Vec<u8>, NoMemory>
+    ensures { IfOk result (λ line. line.items ≡ line_of (causes.TooManyBits kernel.now bits)) }
+{
+    NetlistError::TooManyBits(bits).line(alloc, kernel)
+}
+
+// The line of a link that would hold so many words.
+fn depth_line(alloc: Global, link: u32, words: u64) -> Result<Vec<u8>, NoMemory>
+    ensures { IfOk result (λ line. line.items ≡ line_of (causes.LinkTooDeep link words)) }
+{
+    LinkError::LinkTooDeep(link, words).line(alloc)
+}
+
+// The line of kernels that have so many words in a run.
+fn words_line(alloc: Global, words: u128) -> Result<Vec<u8>, NoMemory>
+    ensures { IfOk result (λ line. line.items ≡ line_of (causes.TooManyWords words)) }
+{
+    ExpectError::TooLarge(words).line(alloc)
+}
+
 impl<'a> Refusal<'a> {
     /// The line that is said: `refused`, the code and its values. There is none of an error that is
     /// no refusal.
@@ -60,16 +82,12 @@ impl<'a> Refusal<'a> {
             Refusal::Table(error) => error.line(alloc),
             Refusal::Project(error) => error.line(alloc),
             Refusal::Schedule(kernel, error) => error.line(alloc, kernel),
-            Refusal::TooManyBits(kernel, bits) => {
-                NetlistError::TooManyBits(*bits).line(alloc, kernel)
-            }
-            Refusal::LinkTooDeep(link, words) => {
-                LinkError::LinkTooDeep(*link, *words).line(alloc)
-            }
+            Refusal::TooManyBits(kernel, bits) => bits_line(alloc, kernel, *bits),
+            Refusal::LinkTooDeep(link, words) => depth_line(alloc, *link, *words),
             Refusal::Report(error) => error.line(alloc),
             Refusal::Verilog(error) => error.line(alloc),
             Refusal::RunFile(error) => error.line(alloc),
-            Refusal::TooManyWords(words) => ExpectError::TooLarge(*words).line(alloc),
+            Refusal::TooManyWords(words) => words_line(alloc, *words),
             Refusal::Run(stop) => stop.line(alloc),
         }
     }

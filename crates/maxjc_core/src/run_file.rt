@@ -6,7 +6,7 @@ ghost use Rattle.rtl_ir.specs.Rules.{AllDiffer};
 ghost use Rattle.serde_json.specs.Data.{Data};
 ghost use Rattle.simulation.specs.Plans.{FitsShape, AreApart};
 ghost use Rattle.word_files.specs.RunFiles.{Reads, IsRunFile, Fits};
-ghost use Rattle.maxjc_core.specs.RunFiles.{IsRunFault, IsPlanned, IsUnfit, IsUnfitFor};
+ghost use Rattle.maxjc_core.specs.RunFiles.{IsRunFault, IsPlanned, IsPlanOfBytes, IsUnfit, IsUnfitFor, HasNoPlan};
 ghost use Rattle.maxjc_core.specs.CompileStops.{IfRefused};
 
 use crate::refusal::Refusal;
@@ -16,8 +16,8 @@ use simulation::{Plan, plan_of};
 use std::alloc::Global;
 use word_files::{RunFile, RunFileError};
 
-/// What the bytes of a run file say.
-pub fn run_of<'a>(alloc: Global, bytes: &[u8]) -> Result<RunFile, Stop<'a>>
+// What the bytes of a run file say.
+fn run_of<'a>(alloc: Global, bytes: &[u8]) -> Result<RunFile, Stop<'a>>
     ensures read { IfOk result (λ run. Reads bytes.now (Ok run)) }
     ensures refused { IfErr result (λ stop. IfRefused stop (IsRunFault bytes.now)) }
     ensures no_fault { result ≡ Err Stop.ReadFault → ⊥ }
@@ -46,8 +46,8 @@ fn fit_for<'a>(alloc: Global, run: &RunFile, ports: &Interface) -> Result<(), St
     }
 }
 
-/// What a run file hands to a run, where it fits the ports.
-pub fn plan_for<'a>(alloc: Global, ports: &Interface, run: &RunFile) -> Result<Plan, Stop<'a>>
+// What a run file hands to a run, where it fits the ports.
+fn plan_for<'a>(alloc: Global, ports: &Interface, run: &RunFile) -> Result<Plan, Stop<'a>>
     ensures planned { IfOk result (λ plan. IsPlanned run.now (shape_of ports.now) plan) }
     ensures unfit { IfErr result (λ stop. IfRefused stop (IsUnfit run.now (shape_of ports.now))) }
     ensures fits { (d : Data) → IsRunFile d run.now → IfOk result (λ plan. FitsShape plan (shape_of ports.now)) }
@@ -57,6 +57,21 @@ pub fn plan_for<'a>(alloc: Global, ports: &Interface, run: &RunFile) -> Result<P
 {
     match fit_for(alloc, run, ports) {
         Ok(()) => Ok(plan_of(alloc, run, ports)?),
+        Err(stop) => Err(stop),
+    }
+}
+
+/// What the bytes of a run file hand to a run, where they fit the ports.
+pub fn plan_of_bytes<'a>(alloc: Global, ports: &Interface, bytes: &[u8]) -> Result<Plan, Stop<'a>>
+    ensures planned { IfOk result (IsPlanOfBytes bytes.now (shape_of ports.now)) }
+    ensures refused { IfErr result (λ stop. IfRefused stop (HasNoPlan bytes.now (shape_of ports.now))) }
+    ensures fits { IfOk result (λ plan. FitsShape plan (shape_of ports.now)) }
+    ensures apart { AllDiffer (map (λ (y : Name × ℕ). y.0) (shape_of ports.now).outputs)
+        → IfOk result (λ plan. AreApart plan) }
+    ensures no_fault { result ≡ Err Stop.ReadFault → ⊥ }
+{
+    match run_of(alloc, bytes) {
+        Ok(run) => plan_for(alloc, ports, &run),
         Err(stop) => Err(stop),
     }
 }

@@ -8,6 +8,7 @@ ghost use Rattle.maxjc_core.specs.CompileStops.{IfRefused};
 use crate::project::{Made, make_project};
 use crate::stop::Stop;
 use crate::stops::report_stop;
+use latency_table::Table;
 use manager_links::Project;
 use project_check::check_report;
 use schedule_report::Report;
@@ -20,6 +21,26 @@ pub struct Shown {
     pub report: Report,
 }
 
+// The report of these bytes, each part of which is shown for its kernel of a project, or why it is
+// refused. Apart from `show_project`, which owns the project.
+fn shown_report<'a>(
+    alloc: Global,
+    project: &Project,
+    latencies: &Table,
+    report: &[u8],
+) -> Result<Report, Stop<'a>>
+    ensures shows { (source table : List ℕ) → IsProjectOf source table project.now latencies.now
+        → IfOk result (ShowsAs source table report.now project.now) }
+    ensures refused { (source table : List ℕ) → IsProjectOf source table project.now latencies.now
+        → IfErr result (λ stop. IfRefused stop (IsOfCheck source table report.now)) }
+    ensures no_read { result ≡ Err Stop.ReadFault → ⊥ }
+{
+    match check_report(alloc, project.kernels(), latencies, report) {
+        Ok(shown) => Ok(shown),
+        Err(error) => Err(report_stop(error)),
+    }
+}
+
 // A project with the report of these bytes on it, or why that is refused.
 fn show_project<'a>(alloc: Global, made: Made, report: &[u8]) -> Result<Shown, Stop<'a>>
     ensures shows { (source table : List ℕ) → IsProjectOf source table made.project made.latencies
@@ -28,12 +49,10 @@ fn show_project<'a>(alloc: Global, made: Made, report: &[u8]) -> Result<Shown, S
         → IfErr result (λ stop. IfRefused stop (IsOfCheck source table report.now)) }
     ensures no_read { result ≡ Err Stop.ReadFault → ⊥ }
 {
-    match check_report(alloc, made.project.kernels(), &made.latencies, report) {
-        Ok(shown) => Ok(Shown {
-            project: made.project,
-            report: shown,
-        }),
-        Err(error) => Err(report_stop(error)),
+    let Made { project, latencies } = made;
+    match shown_report(alloc, &project, &latencies, report) {
+        Ok(report) => Ok(Shown { project, report }),
+        Err(stop) => Err(stop),
     }
 }
 

@@ -23,8 +23,7 @@ use crate::Status;
 use crate::command::Simulate;
 use crate::load::{Loaded, load};
 use crate::refusal::Refusal;
-use crate::saying::refuse;
-use crate::stop::Stop;
+use crate::saying::{refuse, say_stop};
 use itoa::Buffer;
 use mx_base::{Files, NoMemory, Say};
 use simulation::{Outcome, Stop as RunStop, simulate};
@@ -177,8 +176,6 @@ pub fn run_simulate<F: Files, S: Say, G: Fn(u64, u64, u32) -> bool>(
             Ok(outcome) => report(alloc, say, outcome),
             Err(stop) => stopped(alloc, say, stop),
         },
-        Err(Stop::Refused(refusal)) => refuse(alloc, say, &refusal),
-        Err(Stop::ReadFault) => Status::ReadFault,
-        Err(Stop::NoMemory) => Status::NoMemory,
+        Err(stop) => say_stop(alloc, say, stop),
     }
 }

@@ -1,6 +1,8 @@
 // What errors of a project and of a report on it stop with.
-ghost use Rattle.std.specs.Prelude.{◌≡◌, Some, IfOk};
+ghost use Rattle.std.specs.Prelude.{◌≡◌, ◌<◌, Some, IfOk, length, slice_get};
+ghost use Rattle.std.specs.Option.{option_map};
 ghost use Rattle.project_netlists.specs.Lines.{IsOfThese};
+ghost use Rattle.stream_graph.specs.declared.kernel.Kernel.{Kernel};
 ghost use Rattle.maxjc_core.specs.CompileCauses.{netlists_cause};
 ghost use Rattle.maxjc_core.specs.ErrorCauses.{table_cause, project_cause, report_cause, cause_told, IfCause};
 ghost use Rattle.maxjc_core.specs.CompileStops.{IfRefused};
@@ -56,6 +58,15 @@ fn name_of(alloc: Global, kernel: &Kernel) -> Result<Text, NoMemory>
     Ok(Text::from_vec(kernel.name().to_vec(alloc)?))
 }
 
+// The name of the kernel of this number.
+fn name_at(alloc: Global, kernels: &[Kernel], number: u32) -> Result<Text, NoMemory>
+    requires { number < length kernels.now }
+    ensures { IfOk result (λ name.
+        option_map (λ (kernel : Kernel). kernel.name) (slice_get kernels.now number) ≡ Some name) }
+{
+    name_of(alloc, &kernels[number as usize])
+}
+
 /// The refusal of a project whose kernels have no modules, or whose links are too deep.
 pub fn netlists_refusal<'a>(
     alloc: Global,
@@ -68,12 +79,12 @@ pub fn netlists_refusal<'a>(
 {
     match error {
         NetlistsError::Schedule(number, error) => {
-            let kernel = &project.kernels()[number as usize];
-            Ok(Refusal::Schedule(name_of(alloc, kernel)?, error))
+            let name = name_at(alloc, project.kernels(), number)?;
+            Ok(Refusal::Schedule(name, error))
         }
         NetlistsError::TooManyBits(number, bits) => {
-            let kernel = &project.kernels()[number as usize];
-            Ok(Refusal::TooManyBits(name_of(alloc, kernel)?, bits))
+            let name = name_at(alloc, project.kernels(), number)?;
+            Ok(Refusal::TooManyBits(name, bits))
         }
         NetlistsError::LinkTooDeep(link, words) => Ok(Refusal::LinkTooDeep(link, words)),
         NetlistsError::NoMemory => Err(NoMemory),

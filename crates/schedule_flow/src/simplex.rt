@@ -65,7 +65,8 @@ pub fn guessed(
     times: &[i64],
     rest: &[i64],
 ) -> Result<Guess, AllocError> {
-    let mut simplex = begin(alloc, problem, times, rest)?;
+    let mut simplex = Simplex::new(alloc, problem)?;
+    simplex.begin(alloc, times, rest)?;
     let limit = simplex.arcs.len().saturating_mul(simplex.arcs.len());
     for _ in 0..limit {
         match simplex.entering() {
@@ -74,45 +75,6 @@ pub fn guessed(
         }
     }
     simplex.said(alloc)
-}
-
-/// The tree of the start. From the latest node on, each in want hangs by an arc without slack, where it
-/// can, from a node before it, which then has so much less to send, or wants it in its turn. All others
-/// hang at the root. So whatever leads down carries something, as the method asks for its end.
-fn begin(
-    alloc: Global,
-    problem: &Problem,
-    times: &[i64],
-    rest: &[i64],
-) -> Result<Simplex, AllocError> {
-    let mut simplex = Simplex::new(alloc, problem)?;
-    let far = simplex.far();
-    let order = by_time(alloc, times)?;
-    let mut net = Vec::from_slice(alloc, rest)?;
-    let mut by = simplex.arcs_from_before(alloc, times)?;
-    for (_, v) in order.iter().rev() {
-        let wants = at(&net, *v, 0);
-        if wants < 0 {
-            let from = simplex.arc(at(&by, *v, NONE)).from;
-            let left = at(&net, from, 0).wrapping_add(wants);
-            put(&mut net, from, left);
-        } else {
-            put(&mut by, *v, NONE);
-        }
-    }
-    for (time, v) in &order {
-        let place = at(&by, *v, NONE);
-        let left = at(&net, *v, 0);
-        if place == NONE {
-            simplex.hang_at_root(*v, *time, left, far);
-        } else {
-            simplex.hang_by(*v, place, left.unsigned_abs());
-        }
-    }
-    for (_, v) in order.iter().rev() {
-        simplex.count_above(*v);
-    }
-    Ok(simplex)
 }
 
 /// The nodes with their times, the earliest first.
@@ -210,16 +172,56 @@ impl Simplex {
             block: number_of(block),
             place: 0,
         };
+        simplex.take(list, block)?;
+        Ok(simplex)
+    }
+
+    /// Takes the arcs of the problem in an order by which each part of so many is spread over them.
+    fn take(&mut self, list: &[Arc], block: usize) -> Result<(), AllocError> {
         for first in 0..block {
             for row in 0..=block {
                 let number = row.wrapping_mul(block).wrapping_add(first);
                 if let Some(arc) = list.get(number) {
-                    simplex.arcs.push(*arc)?;
-                    simplex.numbers.push(number_of(number))?;
+                    self.arcs.push(*arc)?;
+                    self.numbers.push(number_of(number))?;
                 }
             }
         }
-        Ok(simplex)
+        Ok(())
+    }
+
+    /// Hangs the nodes for the start. From the latest node on, each in want hangs by an arc without
+    /// slack, where it can, from a node before it, which then has so much less to send, or wants it in
+    /// its turn. All others hang at the root. So whatever leads down carries something, as the method
+    /// asks for its end.
+    fn begin(&mut self, alloc: Global, times: &[i64], rest: &[i64]) -> Result<(), AllocError> {
+        let far = self.far();
+        let order = by_time(alloc, times)?;
+        let mut net = Vec::from_slice(alloc, rest)?;
+        let mut by = self.arcs_from_before(alloc, times)?;
+        for (_, v) in order.iter().rev() {
+            let wants = at(&net, *v, 0);
+            if wants < 0 {
+                let from = self.arc(at(&by, *v, NONE)).from;
+                let left = at(&net, from, 0).wrapping_add(wants);
+                put(&mut net, from, left);
+            } else {
+                put(&mut by, *v, NONE);
+            }
+        }
+        for (time, v) in &order {
+            let place = at(&by, *v, NONE);
+            let left = at(&net, *v, 0);
+            if place == NONE {
+                self.hang_at_root(*v, *time, left, far);
+            } else {
+                self.hang_by(*v, place, left.unsigned_abs());
+            }
+        }
+        for (_, v) in order.iter().rev() {
+            self.count_above(*v);
+        }
+        Ok(())
     }
 
     fn root(&self) -> u32 {

@@ -5,6 +5,7 @@ ghost use Rattle.schedule_problem.specs.Flow.{flow_of, excess};
 ghost use Rattle.schedule_problem.specs.Optimum.{IsProblem, IsBest, IsCheapest, IsEarliest};
 ghost use Rattle.schedule_flow.specs.Network.{weights};
 ghost use Rattle.schedule_flow.specs.Balance.{IsOnWay};
+ghost use Rattle.schedule_flow.specs.Start.{IsStart};
 ghost use Rattle.schedule_flow.specs.Best.{HasNoTimes};
 
 use crate::adjacency::adjacency_of;
@@ -14,7 +15,7 @@ use crate::earliest::earliest;
 use crate::follow::take_up;
 use crate::guide::Guide;
 use crate::network::Residual;
-use crate::simplex::guessed;
+use crate::simplex::{Guess, guessed};
 use crate::start::first_times;
 use crate::tree::Tree;
 use cycle_find::{Cycle, SolveError, solve};
@@ -64,9 +65,7 @@ pub fn best(alloc: Global, problem: &Problem) -> Result<Answer, BestError>
         → (v : ℕ) → numbers_of a.times v ≤ℤ pos (problem.now.arcs.nodes * size)) }
     ensures cycle { IfErr result (HasNoTimes problem.now) }
 {
-    let legal = legal_times(alloc, problem)?;
-    let net = Residual::new(alloc, problem, &legal)?;
-    let guess = guessed(alloc, problem, &legal, net.rest())?;
+    let guess = guess_of(alloc, problem)?;
     if let Some(answer) = certified(alloc, problem, guess)? {
         return Ok(answer);
     }
@@ -91,16 +90,77 @@ pub fn best_counted(alloc: Global, problem: &Problem) -> Result<(Answer, Residua
 {
     let legal = legal_times(alloc, problem)?;
     let mut net = Residual::new(alloc, problem, &legal)?;
+    let answer = answer_by(alloc, problem, &mut net, legal)?;
+    Ok((answer, net))
+}
+
+/// Times and a flow that may be the best. Nothing rests on them.
+fn guess_of(alloc: Global, problem: &Problem) -> Result<Guess, BestError>
+    requires { IsProblem problem.now }
+    ensures cycle { IfErr result (HasNoTimes problem.now) }
+{
+    let legal = legal_times(alloc, problem)?;
+    let net = Residual::new(alloc, problem, &legal)?;
+    Ok(guessed(alloc, problem, &legal, net.rest())?)
+}
+
+/// The best times and the flow that shows it, sent in this network from legal times on. Apart from
+/// `best_counted`, which owns the network, so that no error here has one to drop.
+fn answer_by(
+    alloc: Global,
+    problem: &Problem,
+    net: &mut Residual,
+    legal: Vec<i64>,
+) -> Result<Answer, BestError>
+    requires problem { IsProblem problem.now }
+    requires light { weights problem.now ≤ℤ pos (2 ^ 52) }
+    requires network { net.old.problem ≡ problem.now }
+    requires empty { (j : ℕ) → flow_of net.old.flow j ≡ 0 }
+    requires fresh { net.old.sends ≡ 0 }
+    requires legal { IsStart problem.now legal.items }
+    ensures best { IfOk result (IsBest problem.now) }
+    ensures small { IfOk result (λ a. (j : ℕ) → flow_of a.flow j < 2 ^ 63) }
+    ensures cheapest { IfOk result (λ a. IsCheapest problem.now (numbers_of a.times)) }
+    ensures earliest { IfOk result (λ a. IsEarliest problem.now (numbers_of a.times)) }
+    ensures within { IfOk result (λ a. (size : ℕ) → NeedsWithin size problem.now.arcs.list
+        → (v : ℕ) → numbers_of a.times v ≤ℤ pos (problem.now.arcs.nodes * size)) }
+    ensures network { OnOk result (net.new.problem ≡ problem.now) }
+    ensures flow { IfOk result (λ a. net.new.flow ≡ a.flow) }
+    ensures counted { OnOk result (pos net.new.sends ≤ℤ weights problem.now) }
+    ensures cycle { IfErr result (HasNoTimes problem.now) }
+{
     let guess = guessed(alloc, problem, &legal, net.rest())?;
     let first = first_times(problem, guess.times, legal);
-    let x = balance(alloc, problem, &mut net, &first, &guess.flow)?;
-    let times = earliest(alloc, problem, net.flow(), &x)?;
+    let x = balance(alloc, problem, net, &first, &guess.flow)?;
+    answer_of(alloc, problem, net, &x)
+}
+
+/// The answer that a network shows which has sent all surplus, with the numbers that are tight then.
+fn answer_of(
+    alloc: Global,
+    problem: &Problem,
+    net: &Residual,
+    x: &[i128],
+) -> Result<Answer, BestError>
+    requires problem { IsProblem problem.now }
+    requires on_way { IsOnWay problem.now (numbers_of x.now) net.now }
+    requires balanced { (v : ℕ) → v < problem.now.arcs.nodes
+        → excess problem.now (flow_of net.now.flow) v ≤ℤ pos 0 }
+    ensures best { IfOk result (IsBest problem.now) }
+    ensures small { IfOk result (λ a. (j : ℕ) → flow_of a.flow j < 2 ^ 63) }
+    ensures cheapest { IfOk result (λ a. IsCheapest problem.now (numbers_of a.times)) }
+    ensures earliest { IfOk result (λ a. IsEarliest problem.now (numbers_of a.times)) }
+    ensures within { IfOk result (λ a. (size : ℕ) → NeedsWithin size problem.now.arcs.list
+        → (v : ℕ) → numbers_of a.times v ≤ℤ pos (problem.now.arcs.nodes * size)) }
+    ensures flow { IfOk result (λ a. net.now.flow ≡ a.flow) }
+    ensures cycle { IfErr result (HasNoTimes problem.now) }
+{
+    let times = earliest(alloc, problem, net.flow(), x)?;
     let flow = Vec::from_slice(alloc, net.flow())?;
-    let answer = Answer {
+    Ok(Answer {
         times: List::from_vec(times),
         flow: List::from_vec(flow),
-    };
-    Ok((answer, net))
+    })
 }
 
 /// The least legal times from 0.

@@ -50,3 +50,4 @@ pub mod Gifting
 pub mod Counting
 pub mod CellSums
 pub mod Origins
+pub mod Pushing

@@ -123,6 +123,15 @@ pub record IsReady
   pub kept : AreKept m i steady held values memories
   pub offered : AreOffered m (nets_of i) offers
 
+-- the updates and the program of a module that does the same as this one, and what stands before the first call of its simulator
+pub record IsPrepared
+    (m : Module) (i : Interface) (p : Program) (updates : List Update)
+    (steady held values : List ℕ) (memories : List (List ℕ)) : Type 0 where
+  pub assigns : List Assign
+  pub stand : StandFor m assigns updates
+  pub program : IsProgramOf (with_lists m assigns updates) i.done p
+  pub kept : AreKept (with_lists m assigns updates) i steady held values memories
+
 -- a simulator between two calls: it has the updates, and the instructions of the assignments, of a module that does the same as the
 -- flat module of an accepted design
 pub record Simulates

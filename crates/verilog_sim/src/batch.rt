@@ -1,11 +1,11 @@
 // Instructions of one operation after another.
-ghost use Rattle.std.specs.Prelude.{◌≡◌, true, false, List, [], ◌∷◌, ◌++◌, OnOk, IfOk};
-ghost use Rattle.verilog_sim.specs.Batches.{instructions_in, instructions_of_all, IsAddedInstruction};
+ghost use Rattle.std.specs.Prelude.{◌≡◌, true, false, List, [], ◌∷◌, ◌++◌, map, OnOk, IfOk};
+ghost use Rattle.verilog_sim.specs.Batches.{instruction_of, instructions_in, instructions_of_all, IsAddedInstruction};
 
 use crate::instruction::{Instruction, Step};
 use crate::operations::{
     Alias, Choice, Complement, Concatenation, Conjunction, Difference, Disjunction, Equality,
-    ExclusiveOr, Less, MemoryRead, PartSelect, Product, Sum,
+    ExclusiveOr, Less, MemoryRead, Operation, PartSelect, Product, Sum,
 };
 use mx_base::NoMemory;
 use rtl_ir::NetId;
@@ -69,70 +69,39 @@ impl Batch {
         ensures { IfOk result (λ batch. instructions_in batch ≡ instruction.now ∷ []) }
     {
         if !instruction.narrow {
-            return Ok(Batch::General(single(alloc, *instruction)?));
+            return Ok(Batch::General(pushed(Vec::new(alloc), *instruction)?));
         }
-        Ok(match instruction.step {
-            Step::Copy(net) => Batch::Aliases(single(alloc, instruction.entry(Alias { net }))?),
-            Step::Not(net) => Batch::Complements(single(
+        match instruction.step {
+            Step::Copy(net) => alone(alloc, instruction, Alias { net }),
+            Step::Not(net) => alone(alloc, instruction, Complement { net }),
+            Step::Add(left, right) => alone(alloc, instruction, Sum { left, right }),
+            Step::Sub(left, right) => alone(alloc, instruction, Difference { left, right }),
+            Step::Mul(left, right) => alone(alloc, instruction, Product { left, right }),
+            Step::And(left, right) => alone(alloc, instruction, Conjunction { left, right }),
+            Step::Or(left, right) => alone(alloc, instruction, Disjunction { left, right }),
+            Step::Xor(left, right) => alone(alloc, instruction, ExclusiveOr { left, right }),
+            Step::Eq(left, right) => alone(alloc, instruction, Equality { left, right }),
+            Step::Lt(left, right) => alone(alloc, instruction, Less { left, right }),
+            Step::Concat(high, low, low_width) => alone(
                 alloc,
-                instruction.entry(Complement { net }),
-            )?),
-            Step::Add(left, right) => Batch::Sums(single(
-                alloc,
-                instruction.entry(Sum { left, right }),
-            )?),
-            Step::Sub(left, right) => Batch::Differences(single(
-                alloc,
-                instruction.entry(Difference { left, right }),
-            )?),
-            Step::Mul(left, right) => Batch::Products(single(
-                alloc,
-                instruction.entry(Product { left, right }),
-            )?),
-            Step::And(left, right) => Batch::Conjunctions(single(
-                alloc,
-                instruction.entry(Conjunction { left, right }),
-            )?),
-            Step::Or(left, right) => Batch::Disjunctions(single(
-                alloc,
-                instruction.entry(Disjunction { left, right }),
-            )?),
-            Step::Xor(left, right) => Batch::ExclusiveOrs(single(
-                alloc,
-                instruction.entry(ExclusiveOr { left, right }),
-            )?),
-            Step::Eq(left, right) => Batch::Equalities(single(
-                alloc,
-                instruction.entry(Equality { left, right }),
-            )?),
-            Step::Lt(left, right) => Batch::Orders(single(
-                alloc,
-                instruction.entry(Less { left, right }),
-            )?),
-            Step::Concat(high, low, low_width) => Batch::Concatenations(single(
-                alloc,
-                instruction.entry(Concatenation {
+                instruction,
+                Concatenation {
                     high,
                     low,
                     low_width,
-                }),
-            )?),
-            Step::Part(net, low_bit) => Batch::PartSelects(single(
+                },
+            ),
+            Step::Part(net, low_bit) => alone(alloc, instruction, PartSelect { net, low_bit }),
+            Step::Choose(test, one, zero) => alone(alloc, instruction, Choice { test, one, zero }),
+            Step::Cell(memory, address) => alone(
                 alloc,
-                instruction.entry(PartSelect { net, low_bit }),
-            )?),
-            Step::Choose(test, one, zero) => Batch::Choices(single(
-                alloc,
-                instruction.entry(Choice { test, one, zero }),
-            )?),
-            Step::Cell(memory, address) => Batch::MemoryReads(single(
-                alloc,
-                instruction.entry(MemoryRead { memory, address }),
-            )?),
+                instruction,
+                MemoryRead { memory, address },
+            ),
             Step::Literal(_) | Step::Div(_, _) | Step::Repeat(_, _, _) => {
-                Batch::General(single(alloc, *instruction)?)
+                Ok(Batch::General(pushed(Vec::new(alloc), *instruction)?))
             }
-        })
+        }
     }
 
     /// The batch with an instruction more, where the instruction is of its operation, else as it is.
@@ -143,121 +112,112 @@ impl Batch {
             (Batch::General(instructions), true, _) => {
                 Ok((Batch::General(pushed(instructions, *instruction)?), true))
             }
-            (Batch::Aliases(entries), false, Step::Copy(net)) => {
-                Ok((
-                    Batch::Aliases(pushed(entries, instruction.entry(Alias { net }))?),
-                    true,
-                ))
-            }
-            (Batch::Complements(entries), false, Step::Not(net)) => {
-                Ok((
-                    Batch::Complements(pushed(entries, instruction.entry(Complement { net }))?),
-                    true,
-                ))
-            }
-            (Batch::Sums(entries), false, Step::Add(left, right)) => {
-                Ok((
-                    Batch::Sums(pushed(entries, instruction.entry(Sum { left, right }))?),
-                    true,
-                ))
-            }
-            (Batch::Differences(entries), false, Step::Sub(left, right)) => {
-                Ok((
-                    Batch::Differences(pushed(
-                        entries,
-                        instruction.entry(Difference { left, right }),
-                    )?),
-                    true,
-                ))
-            }
-            (Batch::Products(entries), false, Step::Mul(left, right)) => {
-                Ok((
-                    Batch::Products(pushed(entries, instruction.entry(Product { left, right }))?),
-                    true,
-                ))
-            }
-            (Batch::Conjunctions(entries), false, Step::And(left, right)) => {
-                Ok((
-                    Batch::Conjunctions(pushed(
-                        entries,
-                        instruction.entry(Conjunction { left, right }),
-                    )?),
-                    true,
-                ))
-            }
-            (Batch::Disjunctions(entries), false, Step::Or(left, right)) => {
-                Ok((
-                    Batch::Disjunctions(pushed(
-                        entries,
-                        instruction.entry(Disjunction { left, right }),
-                    )?),
-                    true,
-                ))
-            }
-            (Batch::ExclusiveOrs(entries), false, Step::Xor(left, right)) => {
-                Ok((
-                    Batch::ExclusiveOrs(pushed(
-                        entries,
-                        instruction.entry(ExclusiveOr { left, right }),
-                    )?),
-                    true,
-                ))
-            }
-            (Batch::Equalities(entries), false, Step::Eq(left, right)) => {
-                Ok((
-                    Batch::Equalities(pushed(
-                        entries,
-                        instruction.entry(Equality { left, right }),
-                    )?),
-                    true,
-                ))
-            }
-            (Batch::Orders(entries), false, Step::Lt(left, right)) => {
-                Ok((
-                    Batch::Orders(pushed(entries, instruction.entry(Less { left, right }))?),
-                    true,
-                ))
-            }
-            (Batch::Concatenations(entries), false, Step::Concat(high, low, low_width)) => {
-                Ok((
-                    Batch::Concatenations(pushed(
-                        entries,
-                        instruction.entry(Concatenation {
-                            high,
-                            low,
-                            low_width,
-                        }),
-                    )?),
-                    true,
-                ))
-            }
-            (Batch::PartSelects(entries), false, Step::Part(net, low_bit)) => {
-                Ok((
-                    Batch::PartSelects(pushed(
-                        entries,
-                        instruction.entry(PartSelect { net, low_bit }),
-                    )?),
-                    true,
-                ))
-            }
-            (Batch::Choices(entries), false, Step::Choose(test, one, zero)) => {
-                Ok((
-                    Batch::Choices(pushed(entries, instruction.entry(Choice { test, one, zero }))?),
-                    true,
-                ))
-            }
-            (Batch::MemoryReads(entries), false, Step::Cell(memory, address)) => {
-                Ok((
-                    Batch::MemoryReads(pushed(
-                        entries,
-                        instruction.entry(MemoryRead { memory, address }),
-                    )?),
-                    true,
-                ))
-            }
+            (Batch::Aliases(entries), false, Step::Copy(net)) => added(
+                entries,
+                instruction,
+                Alias { net },
+            ),
+            (Batch::Complements(entries), false, Step::Not(net)) => added(
+                entries,
+                instruction,
+                Complement { net },
+            ),
+            (Batch::Sums(entries), false, Step::Add(left, right)) => added(
+                entries,
+                instruction,
+                Sum { left, right },
+            ),
+            (Batch::Differences(entries), false, Step::Sub(left, right)) => added(
+                entries,
+                instruction,
+                Difference { left, right },
+            ),
+            (Batch::Products(entries), false, Step::Mul(left, right)) => added(
+                entries,
+                instruction,
+                Product { left, right },
+            ),
+            (Batch::Conjunctions(entries), false, Step::And(left, right)) => added(
+                entries,
+                instruction,
+                Conjunction { left, right },
+            ),
+            (Batch::Disjunctions(entries), false, Step::Or(left, right)) => added(
+                entries,
+                instruction,
+                Disjunction { left, right },
+            ),
+            (Batch::ExclusiveOrs(entries), false, Step::Xor(left, right)) => added(
+                entries,
+                instruction,
+                ExclusiveOr { left, right },
+            ),
+            (Batch::Equalities(entries), false, Step::Eq(left, right)) => added(
+                entries,
+                instruction,
+                Equality { left, right },
+            ),
+            (Batch::Orders(entries), false, Step::Lt(left, right)) => added(
+                entries,
+                instruction,
+                Less { left, right },
+            ),
+            (Batch::Concatenations(entries), false, Step::Concat(high, low, low_width)) => added(
+                entries,
+                instruction,
+                Concatenation {
+                    high,
+                    low,
+                    low_width,
+                },
+            ),
+            (Batch::PartSelects(entries), false, Step::Part(net, low_bit)) => added(
+                entries,
+                instruction,
+                PartSelect { net, low_bit },
+            ),
+            (Batch::Choices(entries), false, Step::Choose(test, one, zero)) => added(
+                entries,
+                instruction,
+                Choice { test, one, zero },
+            ),
+            (Batch::MemoryReads(entries), false, Step::Cell(memory, address)) => added(
+                entries,
+                instruction,
+                MemoryRead { memory, address },
+            ),
             (batch, _, _) => Ok((batch, false)),
         }
     }
+}
+
+// A batch of one instruction, which reads this by an operation.
+fn alone<R: Operation>(
+    alloc: Global,
+    instruction: &Instruction,
+    reads: R,
+) -> Result<Batch, NoMemory>
+    requires narrow { instruction.now.narrow ≡ true }
+    requires step { instruction.now.step ≡ R.step reads }
+    ensures { IfOk result (λ batch. instructions_in batch ≡ instruction.now ∷ []) }
+{
+    let entries = pushed(Vec::new(alloc), instruction.entry(reads))?;
+    Ok(R::batch(entries))
+}
+
+// The batch of these entries with an instruction more, which reads this by their operation.
+fn added<R: Operation>(
+    entries: Vec<Entry<R>>,
+    instruction: &Instruction,
+    reads: R,
+) -> Result<(Batch, bool), NoMemory>
+    requires narrow { instruction.now.narrow ≡ true }
+    requires step { instruction.now.step ≡ R.step reads }
+    ensures { (old : Batch) → instructions_in old ≡ map (instruction_of R.step) entries.items
+        → IfOk result (λ r. IsAddedInstruction instruction.now old r.0 r.1) }
+{
+    let more = pushed(entries, instruction.entry(reads))?;
+    Ok((R::batch(more), true))
 }
 
 fn pushed<T: Drop>(mut items: Vec<T>, item: T) -> Result<Vec<T>, NoMemory>
@@ -265,13 +225,6 @@ fn pushed<T: Drop>(mut items: Vec<T>, item: T) -> Result<Vec<T>, NoMemory>
 {
     items.push(item)?;
     Ok(items)
-}
-
-/// A list of one item.
-fn single<T: Drop>(alloc: Global, item: T) -> Result<Vec<T>, NoMemory>
-    ensures { IfOk result (λ items. items.items ≡ item ∷ []) }
-{
-    pushed(Vec::new(alloc), item)
 }
 
 /// The batches of these instructions, which keep their order.

@@ -7,11 +7,13 @@ ghost use Rattle.verilog_sim.specs.Instructions.{IsSafe};
 ghost use Rattle.verilog_sim.specs.Compiled.{IsBinary, IsStepOf, AreInstructionsOf, IsNarrow};
 ghost use Rattle.verilog_sim.specs.Batches.{instructions_of_all};
 ghost use Rattle.verilog_sim.specs.Updates.{AreNarrow};
-ghost use Rattle.verilog_sim.specs.Runnable.{IsRunnable, IsPartOf};
+ghost use Rattle.verilog_sim.specs.Runnable.{IsRunnable, IsPartOf, IsOrderOf};
+ghost use Rattle.verilog_sim.specs.Feeding.{ArePortsIn};
+ghost use Rattle.verilog_sim.specs.Simulates.{IsProgramOf};
 
 use crate::batch::{Batch, batches_of};
 use crate::instruction::{Instruction, Step};
-use crate::order::Orders;
+use crate::order::both_orders;
 use mx_base::NoMemory;
 use rtl_ir::{Assign, Expr, Module, NetId, Sign};
 use std::alloc::Global;
@@ -25,22 +27,32 @@ pub(crate) struct Program {
     pub(crate) narrow: bool,
 }
 
-/// The instructions of both orders of a module.
-pub(crate) fn compile(alloc: Global, module: &Module, orders: &Orders) -> Result<Program, NoMemory>
-    requires edge { IsPartOf module.now orders.now.edge.items }
-    requires feeding { IsPartOf module.now orders.now.feeding.items }
+/// The program of a module whose assignments stand each after those whose targets it reads, with
+/// the instructions that feed this net.
+pub(crate) fn program_of(alloc: Global, module: &Module, net: NetId) -> Result<Program, NoMemory>
     requires runnable { IsRunnable module.now }
-    ensures edge { IfOk result (λ p. AreInstructionsOf module.now orders.now.edge.items (instructions_of_all p.edge.items)) }
-    ensures feeding { IfOk result (λ p. AreInstructionsOf module.now orders.now.feeding.items (instructions_of_all p.feeding.items)) }
-    ensures narrow { IfOk result (λ p. p.narrow ≡ true → AreNarrow module.now) }
+    requires ordered { IsOrderOf module.now module.now.assigns }
+    requires ports { ArePortsIn module.now }
+    requires net { net < length module.now.nets }
+    ensures { IfOk result (λ p. IsProgramOf module.now net p) }
 {
-    let instructions = instructions_of(alloc, module, orders.edge.as_slice())?;
-    let feeding = instructions_of(alloc, module, orders.feeding.as_slice())?;
+    let orders = both_orders(alloc, module, net)?;
     Ok(Program {
-        edge: batches_of(alloc, instructions.as_slice())?,
-        feeding: batches_of(alloc, feeding.as_slice())?,
+        edge: compile(alloc, module, orders.edge.as_slice())?,
+        feeding: compile(alloc, module, orders.feeding.as_slice())?,
         narrow: are_narrow(module),
     })
+}
+
+/// The batches of the instructions of these assignments.
+fn compile(alloc: Global, module: &Module, order: &[Assign]) -> Result<Vec<Batch>, NoMemory>
+    requires runnable { IsRunnable module.now }
+    requires order { IsPartOf module.now order.now }
+    ensures { IfOk result (λ b. AreInstructionsOf module.now order.now
+        (instructions_of_all b.items)) }
+{
+    let instructions = instructions_of(alloc, module, order)?;
+    batches_of(alloc, instructions.as_slice())
 }
 
 /// The instructions of these assignments.

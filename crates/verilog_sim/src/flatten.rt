@@ -1,6 +1,8 @@
 // A design made flat: one module without instances that says the same.
 ghost use Rattle.std.specs.Prelude.{◌≡◌, ℕ, ◌+◌, ◌^◌, ◌<◌, ◌≤◌, [], length, Some, slice_get, IfOk, OnOk};
+ghost use Rattle.rtl_ir.specs.declared.design.Module.{Module};
 ghost use Rattle.rtl_ir.specs.declared.design.Port.{Port};
+ghost use Rattle.rtl_ir.specs.Flat.{top_of};
 ghost use Rattle.rtl_ir.specs.Rules.{IsAccepted};
 ghost use Rattle.verilog_sim.specs.Flattened.{IsRanged, IsAdded, IsAddedJoined, IsFlat, module_of};
 ghost use Rattle.verilog_sim.specs.Start.{all_cells};
@@ -123,17 +125,34 @@ pub(crate) fn flatten(alloc: Global, design: &Design) -> Result<Flat, NoMemory>
     requires small { all_cells design.now ≤ 2 ^ 26 }
     ensures { IfOk result (λ flat. IsFlat design.now flat.scopes.items flat.«module») }
 {
-    let top = design.top();
     let mut parts = Parts::new(alloc);
+    let scopes = add_design(alloc, &mut parts, design)?;
+    let ports = design.top().ports.as_slice();
+    Ok(Flat {
+        module: parts.into_module(alloc, ports)?,
+        scopes,
+    })
+}
+
+// Adds the top module of a design to lists that are empty, and each instance as a part in its
+// place. Apart from `flatten`, which owns the lists, so that no error here has them to drop.
+fn add_design(alloc: Global, parts: &mut Parts, design: &Design) -> Result<Vec<Scope>, NoMemory>
+    requires accepted { IsAccepted design.now }
+    requires small { all_cells design.now ≤ 2 ^ 26 }
+    requires nets { parts.old.nets.items ≡ [] }
+    requires mems { parts.old.mems.items ≡ [] }
+    requires assigns { parts.old.assigns.items ≡ [] }
+    requires updates { parts.old.updates.items ≡ [] }
+    requires instances { parts.old.instances.items ≡ [] }
+    ensures { IfOk result (λ scopes. (top : Module) → top_of design.now ≡ Some top
+        → IsFlat design.now scopes.items (module_of top.ports parts.new)) }
+{
+    parts.add(alloc, design.top())?;
     let mut scopes = Vec::new(alloc);
-    parts.add(alloc, top)?;
     while let Some(instance) = parts.instances.pop() {
         let part = design.modules.at(instance.module.index());
         scopes.push(parts.place_of(part))?;
         parts.join(alloc, part, instance.nets.as_slice())?;
     }
-    Ok(Flat {
-        module: parts.into_module(alloc, top.ports.as_slice())?,
-        scopes,
-    })
+    Ok(scopes)
 }

@@ -1,11 +1,13 @@
 // What instructions of one operation read, and what they make of it.
-ghost use Rattle.std.specs.Prelude.{◌≡◌, ℕ, ◌<◌, ◌≤◌, ◌%◌, ◌^◌, List, length, slice_index, if◌then◌else◌};
+ghost use Rattle.std.specs.Prelude.{◌≡◌, ℕ, ◌<◌, ◌≤◌, ◌%◌, ◌^◌, List, length, map, slice_index, if◌then◌else◌};
 ghost use Rattle.verilog_sim.specs.declared.instruction.Step.{Step};
 ghost use Rattle.verilog_sim.specs.declared.instruction.Step.TheVariants.{Copy as DoCopy, Not as DoNot, Add as DoAdd, Sub as DoSub, Mul as DoMul};
 ghost use Rattle.verilog_sim.specs.declared.instruction.Step.TheVariants.{And as DoAnd, Or as DoOr, Xor as DoXor, Eq as DoEq, Lt as DoLt};
 ghost use Rattle.verilog_sim.specs.declared.instruction.Step.TheVariants.{Concat as DoConcat, Part as DoPart, Choose as DoChoose, Cell as DoCell};
 ghost use Rattle.verilog_sim.specs.Instructions.{IsStepSafe, step_value};
+ghost use Rattle.verilog_sim.specs.Batches.{instruction_of, instructions_in};
 
+use crate::batch::{Batch, Entry};
 use crate::instruction::{low_half, reduce_half};
 use crate::memory::Memory;
 use rtl_ir::{MemId, NetId};
@@ -14,6 +16,10 @@ use rtl_ir::{MemId, NetId};
 pub(crate) trait Operation: Copy {
     /// The step of the instruction.
     ghost step: { Self → Step };
+
+    /// The batch of these instructions.
+    fn batch(entries: Vec<Entry<Self>>) -> Batch
+        ensures { instructions_in result ≡ map (instruction_of step) entries.items };
 
     /// The value for a net of so many bits, wherever it has at most 64.
     fn value(&self, width: u8, memories: &[Memory], low: &[u64]) -> u64
@@ -47,6 +53,12 @@ pub(crate) struct Alias {
 impl Operation for Alias {
     ghost step = { λ s. DoCopy s.net };
 
+    fn batch(entries: Vec<Entry<Self>>) -> Batch
+        ensures { instructions_in result ≡ map (instruction_of (λ s. DoCopy s.net)) entries.items }
+    {
+        Batch::Aliases(entries)
+    }
+
     fn value(&self, _width: u8, _memories: &[Memory], low: &[u64]) -> u64 {
         half_at(low, self.net)
     }
@@ -60,6 +72,12 @@ pub(crate) struct Complement {
 
 impl Operation for Complement {
     ghost step = { λ s. DoNot s.net };
+
+    fn batch(entries: Vec<Entry<Self>>) -> Batch
+        ensures { instructions_in result ≡ map (instruction_of (λ s. DoNot s.net)) entries.items }
+    {
+        Batch::Complements(entries)
+    }
 
     #[tactic(auto, using(crate::proofs::Halves::halving))]
     fn value(&self, width: u8, _memories: &[Memory], low: &[u64]) -> u64 {
@@ -78,6 +96,12 @@ pub(crate) struct Sum {
 impl Operation for Sum {
     ghost step = { λ s. DoAdd s.left s.right };
 
+    fn batch(entries: Vec<Entry<Self>>) -> Batch
+        ensures { instructions_in result ≡ map (instruction_of (λ s. DoAdd s.left s.right)) entries.items }
+    {
+        Batch::Sums(entries)
+    }
+
     #[tactic(auto, using(crate::proofs::Halves::halving))]
     fn value(&self, width: u8, _memories: &[Memory], low: &[u64]) -> u64 {
         let sum = half_at(low, self.left).wrapping_add(half_at(low, self.right));
@@ -94,6 +118,12 @@ pub(crate) struct Difference {
 
 impl Operation for Difference {
     ghost step = { λ s. DoSub s.left s.right };
+
+    fn batch(entries: Vec<Entry<Self>>) -> Batch
+        ensures { instructions_in result ≡ map (instruction_of (λ s. DoSub s.left s.right)) entries.items }
+    {
+        Batch::Differences(entries)
+    }
 
     #[tactic(auto, using(crate::proofs::Halves::halving))]
     fn value(&self, width: u8, _memories: &[Memory], low: &[u64]) -> u64 {
@@ -113,6 +143,12 @@ pub(crate) struct Product {
 impl Operation for Product {
     ghost step = { λ s. DoMul s.left s.right };
 
+    fn batch(entries: Vec<Entry<Self>>) -> Batch
+        ensures { instructions_in result ≡ map (instruction_of (λ s. DoMul s.left s.right)) entries.items }
+    {
+        Batch::Products(entries)
+    }
+
     #[tactic(auto, using(crate::proofs::Halves::halving))]
     fn value(&self, width: u8, _memories: &[Memory], low: &[u64]) -> u64 {
         let product = half_at(low, self.left).wrapping_mul(half_at(low, self.right));
@@ -130,6 +166,12 @@ pub(crate) struct Conjunction {
 impl Operation for Conjunction {
     ghost step = { λ s. DoAnd s.left s.right };
 
+    fn batch(entries: Vec<Entry<Self>>) -> Batch
+        ensures { instructions_in result ≡ map (instruction_of (λ s. DoAnd s.left s.right)) entries.items }
+    {
+        Batch::Conjunctions(entries)
+    }
+
     fn value(&self, _width: u8, _memories: &[Memory], low: &[u64]) -> u64 {
         half_at(low, self.left) & half_at(low, self.right)
     }
@@ -144,6 +186,12 @@ pub(crate) struct Disjunction {
 
 impl Operation for Disjunction {
     ghost step = { λ s. DoOr s.left s.right };
+
+    fn batch(entries: Vec<Entry<Self>>) -> Batch
+        ensures { instructions_in result ≡ map (instruction_of (λ s. DoOr s.left s.right)) entries.items }
+    {
+        Batch::Disjunctions(entries)
+    }
 
     fn value(&self, _width: u8, _memories: &[Memory], low: &[u64]) -> u64 {
         half_at(low, self.left) | half_at(low, self.right)
@@ -160,6 +208,12 @@ pub(crate) struct ExclusiveOr {
 impl Operation for ExclusiveOr {
     ghost step = { λ s. DoXor s.left s.right };
 
+    fn batch(entries: Vec<Entry<Self>>) -> Batch
+        ensures { instructions_in result ≡ map (instruction_of (λ s. DoXor s.left s.right)) entries.items }
+    {
+        Batch::ExclusiveOrs(entries)
+    }
+
     fn value(&self, _width: u8, _memories: &[Memory], low: &[u64]) -> u64 {
         half_at(low, self.left) ^ half_at(low, self.right)
     }
@@ -174,6 +228,12 @@ pub(crate) struct Equality {
 
 impl Operation for Equality {
     ghost step = { λ s. DoEq s.left s.right };
+
+    fn batch(entries: Vec<Entry<Self>>) -> Batch
+        ensures { instructions_in result ≡ map (instruction_of (λ s. DoEq s.left s.right)) entries.items }
+    {
+        Batch::Equalities(entries)
+    }
 
     fn value(&self, _width: u8, _memories: &[Memory], low: &[u64]) -> u64 {
         one_if(half_at(low, self.left) == half_at(low, self.right))
@@ -190,6 +250,12 @@ pub(crate) struct Less {
 impl Operation for Less {
     ghost step = { λ s. DoLt s.left s.right };
 
+    fn batch(entries: Vec<Entry<Self>>) -> Batch
+        ensures { instructions_in result ≡ map (instruction_of (λ s. DoLt s.left s.right)) entries.items }
+    {
+        Batch::Orders(entries)
+    }
+
     fn value(&self, _width: u8, _memories: &[Memory], low: &[u64]) -> u64 {
         one_if(half_at(low, self.left) < half_at(low, self.right))
     }
@@ -205,6 +271,12 @@ pub(crate) struct Concatenation {
 
 impl Operation for Concatenation {
     ghost step = { λ s. DoConcat s.high s.low s.low_width };
+
+    fn batch(entries: Vec<Entry<Self>>) -> Batch
+        ensures { instructions_in result ≡ map (instruction_of (λ s. DoConcat s.high s.low s.low_width)) entries.items }
+    {
+        Batch::Concatenations(entries)
+    }
 
     #[tactic(auto, using(crate::proofs::Halves::halving))]
     fn value(&self, _width: u8, _memories: &[Memory], low: &[u64]) -> u64 {
@@ -223,6 +295,12 @@ pub(crate) struct PartSelect {
 impl Operation for PartSelect {
     ghost step = { λ s. DoPart s.net s.low_bit };
 
+    fn batch(entries: Vec<Entry<Self>>) -> Batch
+        ensures { instructions_in result ≡ map (instruction_of (λ s. DoPart s.net s.low_bit)) entries.items }
+    {
+        Batch::PartSelects(entries)
+    }
+
     #[tactic(auto, using(crate::proofs::Halves::halving))]
     fn value(&self, width: u8, _memories: &[Memory], low: &[u64]) -> u64 {
         let bits = half_at(low, self.net) as u128 >> self.low_bit;
@@ -240,6 +318,12 @@ pub(crate) struct Choice {
 
 impl Operation for Choice {
     ghost step = { λ s. DoChoose s.test s.one s.zero };
+
+    fn batch(entries: Vec<Entry<Self>>) -> Batch
+        ensures { instructions_in result ≡ map (instruction_of (λ s. DoChoose s.test s.one s.zero)) entries.items }
+    {
+        Batch::Choices(entries)
+    }
 
     fn value(&self, _width: u8, _memories: &[Memory], low: &[u64]) -> u64 {
         let one = half_at(low, self.one);
@@ -261,6 +345,12 @@ pub(crate) struct MemoryRead {
 
 impl Operation for MemoryRead {
     ghost step = { λ s. DoCell s.memory s.address };
+
+    fn batch(entries: Vec<Entry<Self>>) -> Batch
+        ensures { instructions_in result ≡ map (instruction_of (λ s. DoCell s.memory s.address)) entries.items }
+    {
+        Batch::MemoryReads(entries)
+    }
 
     #[tactic(auto, using(crate::proofs::Halves::halving))]
     fn value(&self, _width: u8, memories: &[Memory], low: &[u64]) -> u64 {

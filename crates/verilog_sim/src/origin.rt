@@ -1,5 +1,5 @@
 // Nets that are copies of others are read where they come from.
-ghost use Rattle.std.specs.Prelude.{◌≡◌, ℕ, ◌^◌, ◌<◌, ◌≤◌, List, length, map, Some, slice_get, slice_index, IfOk};
+ghost use Rattle.std.specs.Prelude.{◌≡◌, ℕ, ◌^◌, ◌<◌, ◌≤◌, List, length, map, Some, slice_get, slice_index, IfOk, OnOk};
 ghost use Rattle.rtl_ir.specs.declared.design.Update.{Update};
 ghost use Rattle.rtl_ir.specs.Operands.{IsRead, target_net};
 ghost use Rattle.verilog_sim.specs.Feeding.{AreNetsBelow};
@@ -20,26 +20,20 @@ struct Traced {
     assigns: Vec<Assign>,
 }
 
-/// A module that does the same, and reads each copy of a net where it comes from. Its assignments
-/// stand each after those whose targets it reads.
-pub(crate) fn at_origins(alloc: Global, module: Module) -> Result<Module, NoMemory>
-    requires runnable { IsRunnable «module» }
-    requires small { length «module».nets ≤ 2 ^ 32 }
-    ensures { IfOk result (λ n. DoesSame «module» n) }
+/// Gives a module other assignments and updates, by which it does the same, and reads each copy of a
+/// net where it comes from. The assignments stand each after those whose targets it reads.
+pub(crate) fn read_at_origins(alloc: Global, module: &mut Module) -> Result<(), NoMemory>
+    requires runnable { IsRunnable module.old }
+    requires small { length module.old.nets ≤ 2 ^ 32 }
+    ensures { OnOk result (DoesSame module.old module.new) }
 {
-    let order = in_order(alloc, &module)?;
-    let traced = trace(alloc, &module, order.as_slice())?;
+    let order = in_order(alloc, module)?;
+    let traced = trace(alloc, module, order.as_slice())?;
     let origins = traced.origins.as_slice();
     let updates = updates_at(alloc, module.updates.as_slice(), origins)?;
-    Ok(Module {
-        name: module.name,
-        ports: module.ports,
-        nets: module.nets,
-        mems: module.mems,
-        assigns: List::from_vec(traced.assigns),
-        updates: List::from_vec(updates),
-        instances: module.instances,
-    })
+    module.assigns = List::from_vec(traced.assigns);
+    module.updates = List::from_vec(updates);
+    Ok(())
 }
 
 /// The assignments of a module, in this order, read at origins.

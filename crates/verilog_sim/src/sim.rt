@@ -12,14 +12,12 @@ ghost use Rattle.verilog_sim.specs.Simulates.{AreOffered};
 ghost use Rattle.verilog_sim.specs.Start.{all_cells, IsFilled, IsRefusal, filled};
 
 use crate::cells::count_cells;
-use crate::compile::{Program, compile};
+use crate::compile::Program;
 use crate::evaluate::{is_done, step, tell};
 use crate::flatten::flatten;
 use crate::memory::Memory;
-use crate::order::both_orders;
-use crate::origin::at_origins;
 use crate::scope::Scope;
-use crate::start::{first_values, memories, registers};
+use crate::start::prepare;
 use crate::stimulus::Stimulus;
 use crate::values::Values;
 use crate::{Event, Offer, SimError};
@@ -101,22 +99,18 @@ impl<'a> Sim<'a> {
             return Err(SimError::TooManyCells(cells));
         }
         let flat = flatten(alloc, design)?;
-        let module = at_origins(alloc, flat.module)?;
-        let orders = both_orders(alloc, &module, interface.done)?;
-        let held = registers(alloc, &module, fill)?;
-        let values = first_values(alloc, &module, held.as_slice())?;
-        let kernels = interface.kernels.as_slice().len();
-        let scalars = interface.scalars.as_slice().len();
+        let prepared = prepare(alloc, flat.module, interface, fill)?;
+        let start = prepared.start;
         Ok(Sim {
             design,
             interface,
-            program: compile(alloc, &module, &orders)?,
+            program: prepared.program,
+            updates: prepared.updates,
             scopes: flat.scopes,
-            steady: vec![in alloc; 0; kernels + scalars]?,
-            held,
-            memories: memories(alloc, &module, fill)?,
-            values,
-            updates: module.updates,
+            steady: start.steady,
+            held: start.held,
+            memories: start.memories,
+            values: start.values,
         })
     }
 

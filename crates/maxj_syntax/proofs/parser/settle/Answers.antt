@@ -2,7 +2,7 @@ use Rattle.std.proofs.Common.{◌≡◌, [], arith, drop, subst, sym, ap, ◌∙
 use Rattle.maxj_tokens.specs.Reading.{placed_view}
 use Rattle.maxj_syntax.specs.Symbols.{Mark, Name, Act, fixed_view, symbol_view}
 use Rattle.maxj_syntax.specs.Building.{Reached, IsRule, todo}
-use Rattle.maxj_syntax.proofs.Machine.{popped, step_act}
+use Rattle.maxj_syntax.proofs.Machine.{popped, step_act, step_less}
 use Rattle.maxj_syntax.proofs.Exits.{is_rule, expanded_on, expanded_less, stuck_on}
 use Rattle.maxj_syntax.specs.Plain.{Ranged}
 use Rattle.maxj_syntax.proofs.Ranging.{none_left, step_ranged, expanded_ranged}
@@ -18,6 +18,26 @@ returns-in-Mark-clause-ranged c =
     let e = popped _ _ c.in-Some.top (Mark c.in-Mark.class c.in-Mark.effect)
     c.in-Some.ensures.items (ap symbol_view c.in-Fixed.is ∙ ap fixed_view c.in-Mark.is) in
     subst (λ l. Ranged c.args.tokens.now l c.loop-top.builder) e c.loop-top.invariant.ranged
+
+pub loop-top-init : goal.loop-top-init
+loop-top-init c = record { reached = c.requires.reached; ranged = c.requires.ranged }
+
+pub returns-in-Name-clause-reached : goal.returns-in-Name-clause-reached
+returns-in-Name-clause-reached c =
+    let e = popped _ _ c.in-Some.top (Name c.in-Name.name.now c.in-Name.effect)
+    c.in-Some.ensures.items (ap symbol_view c.in-Name.is) in
+    subst (λ l. Reached c.args.tokens.now (drop c.args.at c.args.tokens.now) l c.loop-top.builder) e c.loop-top.invariant.reached
+
+pub returns-clause-reached : goal.returns-clause-reached
+returns-clause-reached c =
+    let e : todo c.loop-top.stack.items ≡ [] = none_left c.loop-top.stack.items
+    (omega (arith, c.loop-top.stack.ok, c.in_default.ensures.cases.0)) in
+    subst (λ l. Reached c.args.tokens.now (drop c.args.at c.args.tokens.now) l c.loop-top.builder) e c.loop-top.invariant.reached
+
+pub loop-top-smaller-in_ok-act-in-Act : goal.loop-top-smaller-in_ok-act-in-Act
+loop-top-smaller-in_ok-act-in-Act c =
+    step_less c.in-Act.action (todo c.loop-top.stack.items) (todo c.pop.new.self.items)
+    (popped _ _ c.in-Some.top (Act c.in-Act.action) c.in-Some.ensures.items (ap symbol_view c.in-Fixed.is ∙ ap fixed_view c.in-Act.is))
 
 pub loop-top-preserved-in_ok-act-in-Act : goal.loop-top-preserved-in_ok-act-in-Act
 loop-top-preserved-in_ok-act-in-Act c =

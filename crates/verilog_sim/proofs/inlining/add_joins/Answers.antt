@@ -1,3 +1,5 @@
+use Rattle.std.proofs.lemmas.Option.{slice_get_read}
+use Rattle.std.proofs.lemmas.List.{take_all}
 use Rattle.std.proofs.Common.{◌≡◌, ℕ, zero, suc, ◌+◌, ◌<◌, ◌++◌, List, [], ◌∷◌, take, length, get_or, append_assoc, refl, sym, ap, ◌∙◌, arith}
 use Rattle.rtl_ir.specs.declared.design.Port.{Port}
 use Rattle.rtl_ir.specs.declared.design.Assign.{Assign}
@@ -34,3 +36,20 @@ loop-k-preserved c =
     ∙ ap (λ l. l ++ one ∷ []) c.loop-k.invariant
     ∙ append_assoc old before (one ∷ [])
     ∙ ap (λ l. old ++ l) (ap (λ x. before ++ x ∷ []) (sym c.joined-join.ensures ∙ pick) ∙ sym more ∙ ap (λ i. joins_of c.args.first_net (take i ports) (take i nets)) next)
+
+pub joined-join-requires : goal.joined-join-requires
+joined-join-requires c =
+    let ports = c.args.ports.now in
+    let p = c.index-ports-k.result in
+    c.requires.ports c.loop-k.k p (slice_get_read ports (length ports) c.loop-k.k p refl c.loop-k-test.true c.index-ports-k.is)
+
+pub returns : goal.returns
+returns c =
+    let ports = c.args.ports.now in
+    let nets = c.args.nets.now in
+    let old = c.args.assigns.now.items in
+    let b = c.args.first_net in
+    let k = c.loop-k.k in
+    c.loop-k.invariant
+    ∙ ap (λ l. old ++ joins_of b l (take k nets)) (take_all k ports c.loop-k-test.false)
+    ∙ ap (λ l. old ++ joins_of b ports l) (take_all k nets (omega (arith, c.loop-k-test.false, c.requires.nets)))

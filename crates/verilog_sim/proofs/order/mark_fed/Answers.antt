@@ -1,5 +1,5 @@
 use Rattle.std.proofs.Common.{◌≡◌, ◌+◌, ◌-◌, ℕ, false, length, get_or, refl, subst, ◌∙◌, arith}
-use Rattle.std.proofs.lemmas.Option.{slice_get_read}
+use Rattle.std.proofs.lemmas.Option.{slice_get_read, slice_get_within}
 use Rattle.verilog_sim.specs.Feeding.{AreMarkedFrom}
 use Rattle.verilog_sim.proofs.Marking.{unmarked_passed, marked_on}
 use Rattle.verilog_sim.proofs.order.mark_fed.Goals as goal
@@ -44,3 +44,19 @@ loop-left-preserved c =
     let before : AreMarkedFrom order c.loop-left.marks (i + 1) = subst (AreMarkedFrom order c.loop-left.marks) next c.loop-left.invariant.0 in
     let off : get_or c.loop-left.marks a.target false ≡ false = subst (λ (n : ℕ). get_or c.loop-left.marks n false ≡ false) c.index.ensures.number c.if-marks-index.false in
     (unmarked_passed order i a at c.loop-left.marks off before, c.loop-left.invariant.1, c.loop-left.invariant.2, omega (arith, c.loop-left.invariant.3))
+
+pub loop-left-init : goal.loop-left-init
+loop-left-init c = (
+  record { closed = λ i n a le at marked read. absurd (omega (arith, le, slice_get_within c.args.order.now i a at)) },
+  λ n h. h,
+  refl,
+  omega arith,
+)
+
+pub returns-clause-kept : goal.returns-clause-kept
+returns-clause-kept c = c.loop-left.invariant.1
+
+pub returns-clause-marked : goal.returns-clause-marked
+returns-clause-marked c =
+    let none : c.loop-left.left ≡ 0 = omega (arith, c.loop-left-test.false) in
+    subst (AreMarkedFrom c.args.order.now c.loop-left.marks) none c.loop-left.invariant.0

@@ -1,8 +1,10 @@
-use Rattle.std.proofs.Common.{◌≡◌, ℕ, ◌<◌, List, Some, length, get_or, refl, subst}
+use Rattle.std.proofs.Common.{◌≡◌, ℕ, ◌<◌, List, Some, length, get_or, refl, subst, replicate, ap, ◌∙◌}
 use Rattle.std.specs.Prelude.{slice_get}
 use Rattle.std.proofs.lemmas.Option.{slice_get_read}
 use Rattle.rtl_ir.specs.declared.design.Mem.{Mem}
 use Rattle.verilog_sim.specs.Runnable.{IsSizedMem}
+use Rattle.verilog_sim.specs.Start.{words_at_start}
+use Rattle.verilog_sim.proofs.Pushing.{mapped_more}
 use Rattle.verilog_sim.proofs.start.memories.Goals as goal
 
 formed_at : (items mems : List Mem) (k : ℕ) (n : Mem) → ((j : ℕ) (x : Mem) → slice_get mems j ≡ Some x → IsSizedMem x) → items ≡ mems → k < length items → n ≡ get_or items k n → IsSizedMem n
@@ -19,3 +21,10 @@ reduce-word-requires-clause-at_most c =
     (formed_at c.as_slice-memory-items.result.now c.args.module.now.mems
     c.loop-memory.memory-index c.memory-item.result c.requires c.as_slice-memory-items.ensures
     c.loop-memory-test.true c.memory-item.is).at_most
+
+pub loop-memory-preserved : goal.loop-memory-preserved
+loop-memory-preserved c =
+    let x = c.memory-item.result in
+    mapped_more (words_at_start c.args.fill) c.as_slice-memory-items.result.now c.loop-memory.memory-index x
+    c.loop-memory.memories.items c.push.new.self.items c.in_ok-new.field-0 c.loop-memory-test.true c.memory-item.is
+    c.loop-memory.invariant c.in_ok-push.ensures.items (c.in_ok-new.ensures ∙ ap (replicate x.depth) c.reduce-word.ensures)

@@ -36,8 +36,8 @@ returns-clause-does c =
     let cells = c.args.class.now.cells in
     let tree = tree_of cells c.args.node in
     let is = rw c.tree.ensures at c.branch_at-parts.ensures.tree in
-    let pushed = c.in_ok-push.ensures.ok in
-    branches-next (standing c.args.class.now c.args.self.now) c.args.at
+    leads-by c.args.class.now _ _ c.evaluate_for.result c.evaluate_for.new.self
+    (branches-next (standing c.args.class.now c.args.self.now) c.args.at
     (from_place c.args.place (parts tree)) (from_place (c.args.place + 2) (parts tree))
     (tree_of cells c.part-3.result) (tree_of cells c.part-2.result) c.args.self.now.state
     (after c.args.class.now c.args.self.now) (leaving c.args.class.now c.args.self.now)
@@ -46,5 +46,5 @@ returns-clause-does c =
     ∙ ap (Cons (tree_of cells c.part-3.result))
     (at-part cells tree c.branch_at-parts.result (c.args.place + 1) (c.args.place + 2)
     c.part-2.result
-    is c.part-2.ensures (omega arith) (omega arith)))
-    ∙ rw pushed refl
+    is c.part-2.ensures (omega arith) (omega arith))))
+    c.evaluate_for.ensures.does

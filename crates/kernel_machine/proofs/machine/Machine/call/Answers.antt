@@ -2,6 +2,7 @@
 use Rattle.std.proofs.Common.{◌∙◌, refl, arith}
 use Rattle.maxj_syntax.specs.declared.tree.NodeKind.TheVariants as N
 use Rattle.kernel_plans.specs.Trees.{tree_of, trees_of}
+use Rattle.kernel_machine.specs.declared.task.Task.TheVariants as T
 use Rattle.kernel_machine.specs.Going.{go, standing, leaving, after}
 use Rattle.kernel_machine.proofs.Places.{how-many, one-part}
 use Rattle.kernel_machine.proofs.Moves
@@ -36,8 +37,9 @@ returns-then-not-count-clause-does c =
 pub returns-clause-does : goal.returns-clause-does
 unfolding go
 returns-clause-does c =
-    let pushed = c.in_ok-push.ensures.ok in
-    Moves.as-kind c.args.class.now.cells (standing c.args.class.now c.args.self.now)
+    Moves.leads-by c.args.class.now _ (Moves.evaluated c.args.class.now c.count.new.self T.Discard
+    c.part-call.result) c.evaluate_for.result c.evaluate_for.new.self
+    (Moves.as-kind c.args.class.now.cells (standing c.args.class.now c.args.self.now)
     c.args.statement.now N.Run c.args.self.now.state (after c.args.class.now c.args.self.now)
     (leaving c.args.class.now c.args.self.now) c.requires.kind
     ∙ (Moves.run-one (standing c.args.class.now c.args.self.now) c.args.statement.now.word.now
@@ -47,7 +49,6 @@ returns-clause-does c =
     c.args.self.now)
     (one-part c.args.class.now.cells c.args.statement.now c.part-call.result (omega arith)
     c.part-call.ensures)
-    ∙ (Moves.counted-to c.args.self.now c.count.new.self _ c.if-not-count.ensures ∙ rw (
-      pushed,
-      c.if-not-count.ensures.1,
-    ) refl))
+    ∙ (Moves.counted-to c.args.self.now c.count.new.self _ c.if-not-count.ensures ∙ Moves.discarded
+    c.args.class.now c.args.self.now c.count.new.self c.part-call.result c.if-not-count.ensures.1)))
+    c.evaluate_for.ensures.does

@@ -3,7 +3,7 @@ use Rattle.std.proofs.Common.{refl, arith}
 use Rattle.kernel_meaning.specs.Run.{expr}
 use Rattle.kernel_machine.specs.Going.{go, standing}
 use Rattle.kernel_machine.proofs.Places.{how-many, three-parts}
-use Rattle.kernel_machine.proofs.Moves.{choice-odd}
+use Rattle.kernel_machine.proofs.Moves.{leads-by, choice-odd}
 use Rattle.kernel_machine.proofs.machine.Machine.choice.Goals as goal
 
 pub returns-then-expression-ne3-clause-does : goal.returns-then-expression-ne3-clause-does
@@ -19,5 +19,5 @@ returns-clause-does c =
     let is = three-parts c.args.class.now.cells c.args.expression.now c.part-3.result
     c.part.result c.part-2.result
     (omega arith) c.part-3.ensures c.part.ensures c.part-2.ensures in
-    let pushed = c.in_ok-push.ensures.ok in
-    rw (is, pushed) refl
+    leads-by c.args.class.now _ _ c.evaluate_for.result c.evaluate_for.new.self
+    (rw is refl) c.evaluate_for.ensures.does

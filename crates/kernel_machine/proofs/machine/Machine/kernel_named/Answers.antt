@@ -30,8 +30,8 @@ returns-then-made-lt2-clause-does c =
 pub returns-clause-does : goal.returns-clause-does
 returns-clause-does c =
     let tree = c.node_at-made.ensures.tree in
-    let pushed = c.in_ok-push.ensures.ok in
-    rw (← c.as_slice.ensures) (c.in-Ok.ensures c.args.self.now.state (λ name state. with_name
+    Moves.leads-by c.args.class.now _ _ c.evaluate_for.result c.evaluate_for.new.self
+    (rw (← c.as_slice.ensures) (c.in-Ok.ensures c.args.self.now.state (λ name state. with_name
     (standing c.args.class.now c.args.self.now) (tree_of c.args.class.now.cells c.args.node)
     c.args.number name state (rest c.args.class.now c.args.self.now)))
     ∙ (Moves.operands-one (standing c.args.class.now c.args.self.now) (place_of (tree_of
@@ -46,5 +46,6 @@ returns-clause-does c =
     (at-part c.args.class.now.cells (tree_of c.args.class.now.cells c.args.node)
     c.node_at-made.result 1 2 c.part.result tree c.part.ensures (omega arith) refl)
     ∙ Kernels.named-next c.args.class.now c.args.self.now c.args.node c.node_at-made.result
-    (tree_of c.args.class.now.cells c.part.result) c.args.number c.in-Ok.name
-    c.in-Ok-try_from.count c.new-values.result c.push.new.self tree c.new-values.ensures pushed)
+    c.part.result c.args.number c.in-Ok.name c.in-Ok-try_from.count c.new-values.result tree
+    c.new-values.ensures))
+    c.evaluate_for.ensures.does

@@ -8,9 +8,10 @@ use Rattle.kernel_machine.proofs.Moves
 use Rattle.kernel_machine.proofs.GivenFirst
 use Rattle.kernel_machine.proofs.machine.Machine.local.Goals as goal
 
-pub returns-clause-does : goal.returns-clause-does
+pub returns-in_ok-name_of-in-Ok-introduce-clause-does :
+    goal.returns-in_ok-name_of-in-Ok-introduce-clause-does
 unfolding expr
-returns-clause-does c =
+returns-in_ok-name_of-in-Ok-introduce-clause-does c =
     let kind = c.part-kind.ensures c.args.class.now.cells (omega arith) in
     Moves.leads-by c.args.class.now _ _ c.initial.result c.initial.new.self
     (Moves.as-kind c.args.class.now.cells (standing c.args.class.now c.args.self.now)
@@ -21,7 +22,8 @@ returns-clause-does c =
     c.args.self.now.state (after c.args.class.now c.args.self.now) (leaving c.args.class.now
     c.args.self.now) kind
     ∙ Moves.counted-to c.args.self.now c.count.new.self _ c.if-not-count.ensures
-    ∙ GivenFirst.introduced-go c.args.statement.now.span.from c.args.statement.now.word.now _
-    c.in-Ok.of c.count.new.self.state _ (sym c.in-Ok.ensures) (sym c.if-is_bound.ensures)
-    ∙ rw (c.in_ok-push.ensures.ok, c.if-not-count.ensures.1, c.in_ok-name.ensures, c.in_ok-name_of.ensures) refl)
+    ∙ GivenFirst.introduced-by c.args.statement.now.span.from c.args.statement.now.word.now _
+    c.in-Ok.of c.count.new.self.state c.introduce.new.state _ (sym c.in-Ok.ensures)
+    c.in-Ok-introduce.ensures.stands
+    ∙ rw (c.if-not-count.ensures.1, c.in_ok-name_of-in-Ok-introduce.ensures) refl)
     c.initial.ensures.does

@@ -34,13 +34,14 @@ returns-then-count-eq0-clause-does c =
 pub returns-clause-does : goal.returns-clause-does
 unfolding go
 returns-clause-does c =
-    let pushed = c.in_ok-push.ensures.ok in
     let tree = tree_of c.args.class.now.cells c.args.node in
     let is = rw c.tree.ensures at c.branch_at-parts.ensures.tree in
-    Moves.operands-one (standing c.args.class.now c.args.self.now) c.args.at c.args.place
+    Moves.leads-by c.args.class.now _ _ c.evaluate_for.result c.evaluate_for.new.self
+    (Moves.operands-one (standing c.args.class.now c.args.self.now) c.args.at c.args.place
     c.args.count (c.args.count - 1) (parts tree)
     (from_place (suc c.args.place) (parts tree)) (tree_of c.args.class.now.cells c.part.result)
     c.args.values c.args.self.now.state _ (omega arith)
     (at-part c.args.class.now.cells tree c.branch_at-parts.result c.args.place (suc
     c.args.place) c.part.result is c.part.ensures (omega arith) refl)
-    ∙ rw (pushed, Moves.next-place c.args.place) refl
+    ∙ rw (Moves.next-place c.args.place) refl)
+    c.evaluate_for.ensures.does

@@ -2,6 +2,7 @@
 use Rattle.std.proofs.Common.{◌∙◌, Some, refl, sym, arith}
 use Rattle.maxj_syntax.specs.declared.tree.NodeKind.TheVariants as N
 use Rattle.kernel_plans.specs.Trees.{trees_of}
+use Rattle.kernel_machine.specs.declared.task.Task.TheVariants as T
 use Rattle.kernel_machine.specs.Going.{go, standing, leaving, after}
 use Rattle.kernel_machine.proofs.Places.{how-many, four-parts}
 use Rattle.kernel_machine.proofs.Moves
@@ -76,8 +77,15 @@ unfolding go
 returns-clause-does c =
     let counted = c.if-not-count.ensures in
     let len = c.len.ensures in
-    let pushed = c.in_ok-push.ensures.ok in
-    Moves.as-kind c.args.class.now.cells (standing c.args.class.now c.args.self.now)
+    Moves.leads-by c.args.class.now _ (Moves.executed c.args.class.now c.count.new.self
+    (T.LoopBegin (record {
+      at = c.args.statement.now.span.from;
+      condition = c.condition_at.result;
+      step = c.step_at.result;
+      body = c.part-body.result;
+      count = Some c.len.result;
+    })) c.part-first.result) c.execute_for.result c.execute_for.new.self
+    (Moves.as-kind c.args.class.now.cells (standing c.args.class.now c.args.self.now)
     c.args.statement.now N.For c.args.self.now.state (after c.args.class.now c.args.self.now)
     (leaving c.args.class.now c.args.self.now) c.requires.kind
     ∙ (Moves.for-four c.args.class.now.cells (standing c.args.class.now c.args.self.now)
@@ -102,4 +110,11 @@ returns-clause-does c =
     c.part-body.result (length c.count.new.self.state.variables)) c.count.new.self.state (after
     c.args.class.now c.args.self.now) (leaving c.args.class.now c.args.self.now)
     (rw (len, counted.1) refl) (sym c.if-absent.ensures)
-    ∙ rw (pushed, counted.1) refl)))
+    ∙ Moves.looped c.args.class.now c.args.self.now c.count.new.self (record {
+      at = c.args.statement.now.span.from;
+      condition = c.condition_at.result;
+      step = c.step_at.result;
+      body = c.part-body.result;
+      count = Some c.len.result;
+    }) c.part-first.result counted.1))))
+    c.execute_for.ensures.does

@@ -32,5 +32,5 @@ returns-clause-does c =
     let is = rw c.tree.ensures at c.branch_at-parts.ensures.tree in
     let first = at-part cells tree c.branch_at-parts.result c.args.place (c.args.place + 1)
     c.part.result is c.part.ensures (omega arith) (omega arith) in
-    let pushed = c.in_ok-push.ensures.ok in
-    rw (pushed, first) refl
+    leads-by c.args.class.now _ _ c.execute_for.result c.execute_for.new.self
+    (rw first refl) c.execute_for.ensures.does

@@ -1,7 +1,7 @@
 use Rattle.std.proofs.Common.{drop}
 use Rattle.maxj_syntax.specs.Building.{Reached, todo}
 use Rattle.maxj_syntax.specs.Plain.{Ranged}
-use Rattle.maxj_syntax.proofs.parser.build_classes.Given as goal
+use Rattle.maxj_syntax.proofs.parser.read_tokens.Given as goal
 
 abbrev pub invariant-loop-at : goal.invariant-loop-at
 invariant-loop-at l = record {
