@@ -10,7 +10,7 @@ use Rattle.rtl_ir.specs.Flat.{top_of}
 use Rattle.rtl_ir.specs.Run.{Outer}
 use Rattle.verilog_sim.specs.declared.offer.Offer.{Offer}
 use Rattle.verilog_sim.specs.declared.offer.Event.{Event as Seen}
-use Rattle.verilog_sim.specs.State.{State}
+use Rattle.verilog_sim.specs.State.{State, last_family}
 use Rattle.verilog_sim.specs.Calls.{nothing, IsEdge}
 use Rattle.verilog_sim.specs.Simulates.{AreOffered}
 use Rattle.verilog_sim.proofs.Edges.{back}
@@ -53,15 +53,15 @@ pub seen_fit : (sim next : State) (named : List (Name
     → AreOfWidth named (drop (length sim.outer.inputs) events)
 seen_fit sim next named m offers accepts holds events size widths top r = λ k n at.
     let ch = item_in sim.outer.outputs k (let w = slice_get_within named k n at in omega arith) in
-    let seen = seen_output (r.family []) sim.outer.inputs sim.outer.outputs events k ch.0 r.events_are ch.1 in
+    let seen = seen_output (last_family next []) sim.outer.inputs sim.outer.outputs events k ch.0 r.events_are ch.1 in
     let fits = (r.settled.fits.each [] m refl).words ch.0.word in
-    subst (λ (e : Seen). e.word < 2 ^ n.1) (sym seen) (subst (λ w. r.family [] ch.0.word < 2 ^ w) (sym (widths m top k n ch.0 at ch.1)) fits)
+    subst (λ (e : Seen). e.word < 2 ^ n.1) (sym seen) (subst (λ w. last_family next [] ch.0.word < 2 ^ w) (sym (widths m top k n ch.0 at ch.1)) fits)
 
 -- a bench whose parts are as long and as wide as they were
 pub bench_after :
     (b new : Bench)
     → IsBench b
-    → new.sim ≡ record b.sim { parts = new.sim.parts }
+    → new.sim ≡ record b.sim { parts = new.sim.parts; last = new.sim.last }
     → map input_of new.inputs.items ≡ map input_of b.inputs.items
     → map output_of new.outputs.items ≡ map output_of b.outputs.items
     → AreUnrefused new.inputs.items

@@ -15,7 +15,7 @@ use Rattle.rtl_ir.specs.Run.{Channel, Outer, NoneAccepted, moved, left_of}
 use Rattle.stall_source.specs.Stalls.{Answers}
 use Rattle.verilog_sim.specs.declared.offer.Offer.{Offer}
 use Rattle.verilog_sim.specs.declared.offer.Event.{Event as Seen}
-use Rattle.verilog_sim.specs.State.{State, contents}
+use Rattle.verilog_sim.specs.State.{State, contents, last_family}
 use Rattle.verilog_sim.specs.Calls.{Given, event_of, IsEdge, IsResetEdge, IsDone}
 use Rattle.simulation.specs.Inputs.{InputFile, words_of, fault_behind}
 use Rattle.simulation.specs.Inputs as lines
@@ -81,10 +81,10 @@ none_moved (ch ∷ chs) v (suc k) n = none_moved chs v k n.1
 
 pub began :
     (stalls : Answers) (s : Setup) (held : Held) (sim later : State) (is : List Input) (os : List Output)
-    → Begins s held sim is os → IsResetEdge s.top sim later → later ≡ record sim { parts = later.parts }
+    → Begins s held sim is os → IsResetEdge s.top sim later → later ≡ record sim { parts = later.parts; last = later.last }
     → Going stalls s held later is os 0
 began stalls s held sim later is os b r kept =
-    let restart = r.family in
+    let restart = last_family later in
     let given = alone_of s sim true (restart []) b.is r.settled.given in
     let reset = reset_of s.outer s.steady (restart []) given in
     record {
@@ -110,7 +110,7 @@ pub went :
     → AreReady held stalled s.inputs (left_after s.outer.inputs (map words_of s.inputs) (own_of g.vs)) js offers (length js)
     → ((k : ℕ) → k < length accepts → get_or accepts k false ≡ not (get_or stalled (length sim.outer.inputs + k) false))
     → ((k : ℕ) → get_or holds k false ≡ get_or stalled (length sim.outer.inputs + length sim.outer.outputs + k) false)
-    → IsEdge s.top offers accepts holds sim next events → next ≡ record sim { parts = next.parts }
+    → IsEdge s.top offers accepts holds sim next events → next ≡ record sim { parts = next.parts; last = next.last }
     → AreTaken events js ks (length js)
     → ChangesOnlyOutputs named held later → AreOther (map input_of ks) named
     → ArePut later (all_with_moved (all_moved s.outer.outputs (own_of (g.restart ∷ g.vs))) (drop (length sim.outer.inputs) events)) ps
@@ -119,7 +119,7 @@ went stalls s held later edge sim next is js ks os ps stalled offers accepts hol
     told g not_done inputs takes outputs offered ports asked at ready accept hold r kept taken
     only other put =
     let c = contents_after s s.contents (g.restart ∷ g.vs) in
-    let v = r.family in
+    let v = last_family next in
     let o = s.outer in
     let left = left_after o.inputs (map words_of s.inputs) (own_of g.vs) in
     let fits = fits_of s sim c s.top v g.is g.held r.settled.fits in

@@ -63,24 +63,24 @@ module _ (m : Module) (narrow : Bool) (updates : List Update) (r : IsRunnable m)
 
 -- ---- after the updates
 pub record Clocked
-    (m : Module) (c : Interface) (reset : Bool) (steady : List ℕ) (offers : List Offer) (accepts holds : List Bool)
+    (m : Module) (os : List ℕ) (c : Interface) (reset : Bool) (steady : List ℕ) (offers : List Offer) (accepts holds : List Bool)
     (held values held' : List ℕ) (memories memories' : List (List ℕ)) : Type 0 where
-  pub all : Completed m (IsSeen m) c reset steady offers accepts holds held memories values
+  pub all : Completed m (IsSeen m os) c reset steady offers accepts holds held memories values
   pub after : contents_of held' memories' ≡ after_edge m (contents_of held memories) (family_of all.values)
   pub words : HoldsWords m (contents_of held' memories')
 
 pub clocked :
-    (m : Module) (order edge : List Assign) (updates : List Update) (c : Interface) (reset : Bool) (steady : List ℕ)
+    (m : Module) (os : List ℕ) (order edge : List Assign) (updates : List Update) (c : Interface) (reset : Bool) (steady : List ℕ)
     (offers : List Offer) (accepts holds : List Bool)
     (held old values held' : List ℕ) (memories memories' : List (List ℕ))
-    → IsRunnable m → IsOrderOf m order → IsFeeding order edge (IsSeen m)
+    → IsRunnable m → IsOrderOf m order → IsFeeding order edge (IsSeen m os)
     → Every (λ (g : ℕ × ℕ). is_input m.ports g.0 ≡ true) (gifts c reset steady offers accepts holds)
     → AreKept m c steady held old memories → IsEvaluatedBy m edge c reset steady offers accepts holds held memories values → updates ≡ m.updates
     → contents_of held' memories' ≡ updated_all m (family_of values) updates (contents_of held memories)
-    → Clocked m c reset steady offers accepts holds held values held' memories memories'
-clocked m order edge updates c reset steady offers accepts holds held old values held' memories memories' r o sees inputs k by us is =
-    let all : Completed m (IsSeen m) c reset steady offers accepts holds held memories values = completed m order edge
-    (IsSeen m) c reset steady offers accepts holds held values memories r o sees inputs by in
+    → Clocked m os c reset steady offers accepts holds held values held' memories memories'
+clocked m os order edge updates c reset steady offers accepts holds held old values held' memories memories' r o sees inputs k by us is =
+    let all : Completed m (IsSeen m os) c reset steady offers accepts holds held memories values = completed m order edge
+    (IsSeen m os) c reset steady offers accepts holds held values memories r o sees inputs by in
     let start = contents_of held memories in
     let seen : updated_all m (family_of values) m.updates start ≡ after_edge m start (family_of all.values) =
     updates_agree m (family_of values) (family_of all.values) m.updates start

@@ -1,14 +1,15 @@
 -- What a call does, in the words of the meaning of a design.
 use Rattle.std.proofs.Common.{◌≡◌, ◌⊎◌, inl, inr, ℕ, zero, suc, eqb, Vec, Global, ◌+◌, ◌*◌, ◌^◌}
-use Rattle.std.proofs.Common.{◌<◌, ◌&&◌, Bool, true, false, List, [], ◌∷◌, ◌++◌, length, map, set}
+use Rattle.std.proofs.Common.{◌<◌, ◌≤◌, ◌&&◌, Bool, true, false, List, [], ◌∷◌, ◌++◌, length, map, set}
 use Rattle.std.proofs.Common.{get_or, Some, refl, sym, ap, ◌∙◌, subst, ⊎_elim, arith}
 use Rattle.std.proofs.Common.{get_or-set_other, get_or-set_same}
 use Rattle.std.specs.Prelude.{slice_get}
 use Rattle.std.specs.Vec.{with_items}
-use Rattle.std.proofs.lemmas.Bool.{cases_eq}
+use mathlib.Core.Path.{fun_ext}
+use Rattle.std.proofs.lemmas.Bool.{cases_eq, cases_lt}
 use Rattle.std.proofs.lemmas.Nat.{pow_pos}
 use Rattle.std.proofs.lemmas.Option.{slice_get-get_or, slice_get_within}
-use Rattle.std.proofs.lemmas.List.{length-set, length-map, with_items_is}
+use Rattle.std.proofs.lemmas.List.{length-set, length-map, get_or-map, get_or_past, with_items_is}
 use Rattle.rtl_ir.specs.declared.design.Design.{Design}
 use Rattle.rtl_ir.specs.declared.design.Module.{Module}
 use Rattle.rtl_ir.specs.declared.design.Port.{Port}
@@ -16,25 +17,28 @@ use Rattle.rtl_ir.specs.declared.design.Update.{Update}
 use Rattle.rtl_ir.specs.declared.interface.Interface.{Interface}
 use Rattle.rtl_ir.specs.declared.interface.KernelPorts.{KernelPorts}
 use Rattle.rtl_ir.specs.declared.interface.StreamPorts.{StreamPorts}
-use Rattle.rtl_ir.specs.Edge.{after_edge}
-use Rattle.rtl_ir.specs.Flat.{AllContents, FitsFlat, top_of, after_flat}
+use Rattle.rtl_ir.specs.Edge.{Fits, after_edge}
+use Rattle.rtl_ir.specs.Flat.{AllContents, Families, FitsFlat, top_of, after_flat}
 use Rattle.rtl_ir.specs.Interfaces.{nets_of, shape_of, scalar_shape, stream_shape, stream_channel}
 use Rattle.rtl_ir.specs.Ports.{first_input, first_output, done_port, port_net, port_view, net_at, outer_of}
 use Rattle.rtl_ir.specs.Run.{Channel, Outer}
-use Rattle.rtl_ir.specs.Value.{Family, width_of}
+use Rattle.rtl_ir.specs.Value.{Family, Contents, width_of}
 use Rattle.verilog_sim.specs.declared.offer.Offer.{Offer}
 use Rattle.verilog_sim.specs.declared.offer.Event.{Event}
 use Rattle.verilog_sim.specs.declared.compile.Program.{Program}
 use Rattle.verilog_sim.specs.declared.scope.Scope.{Scope}
 use Rattle.verilog_sim.specs.Contents.{family_of, contents_of}
 use Rattle.verilog_sim.proofs.ByPath.{families_of, contents_by_path}
-use Rattle.verilog_sim.specs.PartLists.{parts_of}
-use Rattle.verilog_sim.specs.State.{State, contents}
+use Rattle.verilog_sim.specs.PartLists.{parts_of, values_of}
+use Rattle.verilog_sim.specs.State.{State, contents, values_at, last_family}
 use Rattle.verilog_sim.specs.Gifts.{Every, gifts, AreGiven, AreNetsOf}
-use Rattle.verilog_sim.specs.Origins.{with_lists}
+use Rattle.verilog_sim.specs.Feeding.{IsSeen}
+use Rattle.verilog_sim.specs.Feeding.IsSeen.{as_origin, at_port as seen_at_port}
+use Rattle.verilog_sim.specs.Origins.{at_origins, with_lists, AreOrigins}
+use Rattle.verilog_sim.specs.Updates.{held_by}
 use Rattle.verilog_sim.specs.Calls.{nothing, Settled, SettledAlone, event_of, IsEdge, IsResetEdge, IsDone}
-use Rattle.verilog_sim.specs.Simulates.{AreOffered, IsReady, Simulates, AreKept, IsEvaluated, IsStepped}
-use Rattle.verilog_sim.proofs.PartLists.{parts_say}
+use Rattle.verilog_sim.specs.Simulates.{AreOffered, IsReady, Simulates, AreKept, AreValues, IsEvaluated, IsStepped}
+use Rattle.verilog_sim.proofs.PartLists.{parts_say, values_say}
 use Rattle.verilog_sim.proofs.Shapes.{channel_at, length_shape}
 use Rattle.verilog_sim.proofs.Outer.{SaysSame}
 use Rattle.verilog_sim.proofs.Facing.{gifts_rise, input_net, output_net}
@@ -44,26 +48,32 @@ use Rattle.verilog_sim.proofs.Whole.{whole_fits, whole_after, whole_own}
 use Rattle.verilog_sim.proofs.Fronts.{outer_same_ports, ports_flat, net_in, steady_flat, offered_flat}
 
 -- what a contract sees of a simulator
-abbrev pub state : Design → Interface → List Scope → List ℕ → List ℕ → List (List ℕ) → State
-state d i ps steady held memories = record { design = d; outer = nets_of i; steady = steady; parts = parts_of (top_of d) ps held memories }
+abbrev pub state : Design → Interface → List Scope → List ℕ → List ℕ → List ℕ → List (List ℕ) → List ℕ → State
+state d i ps os steady held memories values = record {
+  design = d;
+  outer = nets_of i;
+  steady = steady;
+  parts = parts_of (top_of d) ps held memories;
+  last = values_of (top_of d) ps (at_origins os values);
+}
 
 -- a slice that was written is that of its vector
 pub back : {X : Type 0} (v : Vec X Global) (new old : List X) → length new ≡ length old → old ≡ v.items → (with_items v new).items ≡ new
 back v new old e same = with_items_is v new (omega (arith, e, ap length same, v.ok))
 
 pub stepped_back :
-    (m : Module) (c : Interface) (reset : Bool) (steady steady' : List ℕ) (offers : List Offer)
+    (m : Module) (os : List ℕ) (c : Interface) (reset : Bool) (steady steady' : List ℕ) (offers : List Offer)
     (accepts holds : List Bool) (held held0 : List ℕ) (memories memories0 : List (List ℕ))
     (new held' held1 : List ℕ) (memories' memories1 : List (List ℕ))
-    → IsStepped m c reset steady offers accepts holds held memories new held' memories' → steady ≡ steady'
+    → IsStepped m os c reset steady offers accepts holds held memories new held' memories' → steady ≡ steady'
     → held ≡ held0 → memories ≡ memories0 → held' ≡ held1 → memories' ≡ memories1
-    → IsStepped m c reset steady' offers accepts holds held0 memories0 new held1 memories1
-stepped_back m c reset steady steady' offers accepts holds held held0 memories memories0 new held' held1 memories' memories1 s a b e f g =
-    subst (λ (l : List (List ℕ)). IsStepped m c reset steady' offers accepts holds held0 memories0 new held1 l) g
-    (subst (λ (l : List ℕ). IsStepped m c reset steady' offers accepts holds held0 memories0 new l memories') f
-    (subst (λ (l : List (List ℕ)). IsStepped m c reset steady' offers accepts holds held0 l new held' memories') e
-    (subst (λ (l : List ℕ). IsStepped m c reset steady' offers accepts holds l memories new held' memories') b
-    (subst (λ (l : List ℕ). IsStepped m c reset l offers accepts holds held memories new held' memories') a s))))
+    → IsStepped m os c reset steady' offers accepts holds held0 memories0 new held1 memories1
+stepped_back m os c reset steady steady' offers accepts holds held held0 memories memories0 new held' held1 memories' memories1 s a b e f g =
+    subst (λ (l : List (List ℕ)). IsStepped m os c reset steady' offers accepts holds held0 memories0 new held1 l) g
+    (subst (λ (l : List ℕ). IsStepped m os c reset steady' offers accepts holds held0 memories0 new l memories') f
+    (subst (λ (l : List (List ℕ)). IsStepped m os c reset steady' offers accepts holds held0 l new held' memories') e
+    (subst (λ (l : List ℕ). IsStepped m os c reset steady' offers accepts holds l memories new held' memories') b
+    (subst (λ (l : List ℕ). IsStepped m os c reset l offers accepts holds held memories new held' memories') a s))))
 
 abbrev event_made : Bool → ℕ → Event
 event_made moved word = record { moved = moved; word = word }
@@ -129,21 +139,28 @@ none_said o = record {
 }
 
 pub kept_back :
-    (m : Module) (c : Interface) (steady steady' held held' values values' : List ℕ) (memories memories' : List (List ℕ))
-    → AreKept m c steady held values memories → steady ≡ steady' → held ≡ held' → values ≡ values'
-    → memories ≡ memories' → AreKept m c steady' held' values' memories'
-kept_back m c steady steady' held held' values values' memories memories' k a b e f =
-    subst (λ (l : List (List ℕ)). AreKept m c steady' held' values' l) f
-    (subst (λ (l : List ℕ). AreKept m c steady' held' l memories) e
+    (m : Module) (c : Interface) (steady steady' held held' values : List ℕ) (memories memories' : List (List ℕ))
+    → AreKept m c steady held values memories → steady ≡ steady' → held ≡ held'
+    → memories ≡ memories' → AreKept m c steady' held' values memories'
+kept_back m c steady steady' held held' values memories memories' k a b e =
+    subst (λ (l : List (List ℕ)). AreKept m c steady' held' values l) e
     (subst (λ (l : List ℕ). AreKept m c steady' l values memories) b
-    (subst (λ (l : List ℕ). AreKept m c l held values memories) a k)))
+    (subst (λ (l : List ℕ). AreKept m c l held values memories) a k))
 
 -- nothing is offered
 pub none_offered : (m : Module) (o : Outer) → AreOffered m o []
 none_offered m o = λ k c at. pow_pos (width_of m c.word)
 
-module _ {d : Design} {c : Interface} {pr : Program} {us : List Update} {ps : List Scope} {steady held values : List ℕ}
-    {memories : List (List ℕ)} (s : Simulates d c pr us ps steady held values memories) where
+module _ {d : Design} {c : Interface} {pr : Program} {us : List Update} {ps : List Scope} {os steady ahead values : List ℕ}
+    {memories : List (List ℕ)} (s : Simulates d c pr us ps os steady ahead values memories) where
+  -- what registers hold
+  abbrev pub held : List ℕ
+  held = held_by us ahead
+
+  -- what a contract sees
+  abbrev pub now : State
+  now = state d c ps os steady held memories values
+
   -- the module that is run in place of the flat one
   abbrev pub run : Module
   run = with_lists s.flat s.assigns us
@@ -159,17 +176,38 @@ module _ {d : Design} {c : Interface} {pr : Program} {us : List Update} {ps : Li
         given = e.given;
       }
 
-  stepped_flat :
+  -- the values at origins are those of all nets
+  whole_family :
+      (contents' : Contents) (new whole : List ℕ) → Fits run contents' (family_of whole) → length whole ≡ length s.flat.nets
+      → ((n : ℕ) → IsSeen run os n → get_or new n 0 ≡ get_or whole n 0) → family_of (at_origins os new) ≡ family_of whole
+  whole_family contents' new whole fits size seen = fun_ext (λ n. ⊎_elim (within n) (past n) (cases_lt n (length os)))
+    where
+      o : AreOrigins s.flat os s.assigns us
+      o = s.stand.origins
+
+      within : (n : ℕ) → n < length os → get_or (at_origins os new) n 0 ≡ get_or whole n 0
+      within n lt =
+          let less : n < length s.flat.nets = omega (arith, lt, o.size) in
+          let there : get_or os n 0 < length os = omega (arith, o.inside n less, o.size) in
+          get_or-map (λ k. get_or new k 0) os n 0 0 lt
+          ∙ seen (get_or os n 0) (as_origin (get_or os n 0) there (o.own n less))
+          ∙ o.same contents' (family_of whole) n fits less
+
+      past : (n : ℕ) → length os ≤ n → get_or (at_origins os new) n 0 ≡ get_or whole n 0
+      past n ge =
+          get_or_past (at_origins os new) n 0 (omega (arith, ge, length-map os (λ k. get_or new k 0)))
+          ∙ sym (get_or_past whole n 0 (omega (arith, ge, size, o.size)))
+
+  -- the values of an edge are those of the last edge after it
+  last_is :
       (reset : Bool) (offers : List Offer) (accepts holds : List Bool) (new later : List ℕ) (memories' : List (List ℕ))
-      → IsStepped run c reset steady offers accepts holds held memories new later memories'
-      → IsStepped s.flat c reset steady offers accepts holds held memories new later memories'
-  stepped_flat reset offers accepts holds new later memories' e =
-      record {
-        values = e.values;
-        evaluated = evaluated_flat reset steady offers accepts holds held memories e.values e.evaluated;
-        ports = e.ports;
-        after = e.after ∙ s.stand.after (contents_of held memories) (family_of e.values) e.evaluated.fits;
-      }
+      → (e : IsStepped run os c reset steady offers accepts holds held memories new later memories')
+      → families_of s.is_flat.top ps (family_of e.values) ≡ last_family (state d c ps os steady later memories' new)
+  last_is reset offers accepts holds new later memories' e =
+      ap (families_of s.is_flat.top ps)
+      (sym (whole_family (contents_of held memories) new e.values e.evaluated.fits e.evaluated.words.nets e.seen))
+      ∙ sym (values_say s.is_flat.top ps (at_origins os new))
+      ∙ ap (λ o. λ p. values_at (values_of o ps (at_origins os new)) p) (sym s.is_flat.is_top)
 
   pub top_is : (m : Module) → top_of d ≡ Some m → s.is_flat.top ≡ m
   top_is m e = let f = s.is_flat.is_top in cc
@@ -179,24 +217,30 @@ module _ {d : Design} {c : Interface} {pr : Program} {us : List Update} {ps : Li
   nets_flat = outer_same_ports s.is_flat.top s.flat (shape_of c) (ports_flat d s.accepted s.is_flat) ∙ sym s.has.nets
 
   pub ready_at :
-      (us' : List Update) (steady' held' values' : List ℕ) (memories' : List (List ℕ)) (offers : List Offer)
-      → us' ≡ us → steady' ≡ steady → held' ≡ held → values' ≡ values → memories' ≡ memories
+      (us' : List Update) (steady' : List ℕ) (memories' : List (List ℕ)) (offers : List Offer)
+      → us' ≡ us → steady' ≡ steady → memories' ≡ memories
       → ((m : Module) → top_of d ≡ Some m → AreOffered m (nets_of c) offers)
-      → IsReady run us' c steady' offers held' values' memories'
-  ready_at us' steady' held' values' memories' offers ue se he ve me o =
+      → IsReady run us' c steady' offers (held_by us' ahead) ahead memories'
+  ready_at us' steady' memories' offers ue se me o =
       let o' : AreOffered s.is_flat.top (outer_of (shape_of c) s.is_flat.top) offers = subst
       (λ (u : Outer). AreOffered s.is_flat.top u offers) s.has.nets (o s.is_flat.top s.is_flat.is_top) in
       record {
         simulable = s.simulable;
         updates_are = ue;
-        kept = kept_back run c steady steady' held held' values values' memories memories' s.kept (sym se) (sym he) (sym ve) (sym me);
+        kept = kept_back run c steady steady' held (held_by us' ahead) ahead memories memories' s.kept (sym se)
+            (ap (λ (l : List Update). held_by l ahead) (sym ue)) (sym me);
         offered = subst (λ (u : Outer). AreOffered run u offers) nets_flat (offered_flat d s.accepted s.is_flat (shape_of c) offers o');
       }
 
+  -- the values of the last edge, where memories are seen as a slice
+  pub last_at : (memories' : List (List ℕ)) → memories' ≡ memories → AreValues run values memories'
+  last_at memories' e = subst (λ (l : List (List ℕ)). AreValues run values l) (sym e) s.last
+
   -- the same simulator with other words
-  pub kept_on : (steady' held' values' : List ℕ) (memories' : List (List ℕ))
-      → AreKept run c steady' held' values' memories' → Simulates d c pr us ps steady' held' values' memories'
-  kept_on steady' held' values' memories' k =
+  pub kept_on : (steady' ahead' values' : List ℕ) (memories' : List (List ℕ))
+      → AreKept run c steady' (held_by us ahead') ahead' memories' → AreValues run values' memories'
+      → Simulates d c pr us ps os steady' ahead' values' memories'
+  kept_on steady' ahead' values' memories' k l =
       record {
         accepted = s.accepted;
         flat = s.flat;
@@ -207,14 +251,26 @@ module _ {d : Design} {c : Interface} {pr : Program} {us : List Update} {ps : Li
         program = s.program;
         has = s.has;
         kept = k;
+        last = l;
       }
+
+  -- the same after an edge, of which the words of memories were those of a slice
+  pub stepped_on : (us' : List Update) (steady' ahead' values' : List ℕ) (memories' memories0 : List (List ℕ))
+      → us' ≡ us → steady' ≡ steady → memories' ≡ memories0
+      → AreKept run c steady' (held_by us' ahead') ahead' memories' → AreValues run values' memories'
+      → Simulates d c pr us ps os steady ahead' values' memories0
+  stepped_on us' steady' ahead' values' memories' memories0 ue se me k v =
+      kept_on steady ahead' values' memories0
+      (kept_back run c steady' steady (held_by us' ahead') (held_by us ahead') ahead' memories' memories0 k se
+      (ap (λ (l : List Update). held_by l ahead') ue) me)
+      (subst (λ (l : List (List ℕ)). AreValues run values' l) me v)
 
   -- words may be set at a port that keeps one value
   pub set_kept : (k x : ℕ) → k < length steady → ((m : Module) → top_of d ≡ Some m
       → x < 2 ^ width_of m (get_or (nets_of c).steady k 0))
-      → Simulates d c pr us ps (set steady k x) held values memories
+      → Simulates d c pr us ps os (set steady k x) ahead values memories
   set_kept k x lt fits =
-      kept_on (set steady k x) held values memories
+      kept_on (set steady k x) ahead values memories
       (record {
         blocks = s.kept.blocks;
         words = s.kept.words;
@@ -228,6 +284,7 @@ module _ {d : Design} {c : Interface} {pr : Program} {us : List Update} {ps : Li
             (sym (get_or-set_other steady k j x 0 ne)) (s.kept.steady_words j
             (omega (arith, less, length-set steady k x)))) (cases_eq j k);
       })
+      s.last
     where
       fits_run : x < 2 ^ width_of run (get_or (nets_of c).steady k 0)
       fits_run =
@@ -244,8 +301,8 @@ module _ {d : Design} {c : Interface} {pr : Program} {us : List Update} {ps : Li
   own_at : (v : Family) (k : ℕ) → v (net_at s.is_flat.top k) ≡ families_of s.is_flat.top ps v [] (net_at s.is_flat.top k)
   own_at v k = sym (whole_own d s.accepted s.is_flat v (net_at s.is_flat.top k) (net_in d s.accepted s.is_flat k))
 
-  held_is : (h : List ℕ) (ms : List (List ℕ)) → contents (state d c ps steady h ms) ≡ contents_by_path (Some s.is_flat.top) ps (contents_of h ms)
-  held_is h ms = parts_say (top_of d) ps h ms ∙ ap (λ o. contents_by_path o ps (contents_of h ms)) s.is_flat.is_top
+  held_is : (h v : List ℕ) (ms : List (List ℕ)) → contents (state d c ps os steady h ms v) ≡ contents_by_path (Some s.is_flat.top) ps (contents_of h ms)
+  held_is h v ms = parts_say (top_of d) ps h ms ∙ ap (λ o. contents_by_path o ps (contents_of h ms)) s.is_flat.is_top
 
   -- what is given to the flat module is given to the top one
   given_top :
@@ -266,11 +323,11 @@ module _ {d : Design} {c : Interface} {pr : Program} {us : List Update} {ps : Li
       → length offers' ≡ length (nets_of c).inputs → length accepts' ≡ length (nets_of c).outputs → length holds' ≡ length (nets_of c).holds
       → SaysSame offers offers' accepts accepts' holds holds'
       → IsEvaluated s.flat c reset steady offers accepts holds held memories new
-      → Settled s.is_flat.top (state d c ps steady held memories) reset offers' accepts' holds' (families_of s.is_flat.top ps (family_of new))
+      → Settled s.is_flat.top now reset offers' accepts' holds' (families_of s.is_flat.top ps (family_of new))
   settled_is reset offers offers' accepts accepts' holds holds' new lo la lh same done =
       record {
         fits = subst (λ (u : AllContents). FitsFlat d s.is_flat.top u (families_of s.is_flat.top ps (family_of new)))
-            (sym (held_is held memories)) (whole_fits d s.accepted s.is_flat (contents_of held memories)
+            (sym (held_is held values memories)) (whole_fits d s.accepted s.is_flat (contents_of held memories)
             (family_of new) done.fits);
         given = given_told (families_of s.is_flat.top ps (family_of new) []) c reset steady offers offers' accepts
             accepts' holds holds' s.kept.steady_ports (lo ∙ length-map c.inputs stream_channel)
@@ -279,15 +336,16 @@ module _ {d : Design} {c : Interface} {pr : Program} {us : List Update} {ps : Li
       }
 
   after_state :
-      (held' new : List ℕ) (memories' : List (List ℕ))
-      → contents_of held' memories' ≡ after_edge s.flat (contents_of held memories) (family_of new)
-      → contents (state d c ps steady held' memories') ≡ after_flat d s.is_flat.top
-      (contents (state d c ps steady held memories)) (families_of s.is_flat.top ps (family_of new))
-  after_state held' new memories' after =
-      held_is held' memories'
+      (held' whole values' : List ℕ) (memories' : List (List ℕ))
+      → contents_of held' memories' ≡ after_edge s.flat (contents_of held memories) (family_of whole)
+      → contents (state d c ps os steady held' memories' values') ≡ after_flat d s.is_flat.top
+      (contents now) (families_of s.is_flat.top ps (family_of whole))
+  after_state held' whole values' memories' after =
+      held_is held' values' memories'
       ∙ ap (contents_by_path (Some s.is_flat.top) ps) after
-      ∙ whole_after d s.accepted s.is_flat (contents_of held memories) (family_of new)
-      ∙ ap (λ (u : AllContents). after_flat d s.is_flat.top u (families_of s.is_flat.top ps (family_of new))) (sym (held_is held memories))
+      ∙ whole_after d s.accepted s.is_flat (contents_of held memories) (family_of whole)
+      ∙ ap (λ (u : AllContents). after_flat d s.is_flat.top u (families_of s.is_flat.top ps (family_of whole)))
+      (sym (held_is held values memories))
 
   -- where the ports of a stream stand
   ports_many : length s.is_flat.top.ports ≡ 2 + 2 * length c.kernels + length c.scalars + 3 * length c.inputs + 3 * length c.outputs + 1
@@ -355,22 +413,36 @@ module _ {d : Design} {c : Interface} {pr : Program} {us : List Update} {ps : Li
       → length events ≡ length c.inputs + length c.outputs
   streams_counted events size = omega (arith, size, length-map c.inputs stream_channel, length-map c.outputs stream_channel)
 
+  -- what registers and memories hold after an edge of the module that is run, they hold by the flat one
+  stepped_after :
+      (reset : Bool) (offers : List Offer) (accepts holds : List Bool) (new held' : List ℕ) (memories' : List (List ℕ))
+      → (e : IsStepped run os c reset steady offers accepts holds held memories new held' memories')
+      → contents_of held' memories' ≡ after_edge s.flat (contents_of held memories) (family_of e.values)
+  stepped_after reset offers accepts holds new held' memories' e =
+      e.after ∙ s.stand.after (contents_of held memories) (family_of e.values) e.evaluated.fits
+
   edge_at :
       (offers : List Offer) (accepts holds : List Bool) (held' new : List ℕ) (memories' : List (List ℕ)) (events : List Event)
       → length offers ≡ length (nets_of c).inputs → length accepts ≡ length (nets_of c).outputs → length holds ≡ length (nets_of c).holds
-      → IsStepped s.flat c false steady offers accepts holds held memories new held' memories'
+      → IsStepped run os c false steady offers accepts holds held memories new held' memories'
       → length events ≡ length (nets_of c).inputs + length (nets_of c).outputs
       → ((k : ℕ) (x : StreamPorts) (e : Event) → slice_get (c.inputs ++ c.outputs) k ≡ Some x
       → slice_get events k ≡ Some e → e ≡ event_of (family_of new) (stream_channel x))
-      → IsEdge s.is_flat.top offers accepts holds (state d c ps steady held memories) (state d c ps steady held' memories') events
+      → IsEdge s.is_flat.top offers accepts holds now (state d c ps os steady held' memories' new) events
   edge_at offers accepts holds held' new memories' events lo la lh step size told =
+      let last = last_is false offers accepts holds new held' memories' step in
       record {
-        family = families_of s.is_flat.top ps (family_of step.values);
-        settled = settled_is false offers offers accepts accepts holds holds step.values lo la lh (same_said offers accepts holds) step.evaluated;
-        after = after_state held' step.values memories' step.after;
-        events_are = all_told top (c.inputs ++ c.outputs) events
+        settled = subst (λ (v : Families). Settled s.is_flat.top now false offers accepts holds v) last
+            (settled_is false offers offers accepts accepts holds holds step.values lo la lh (same_said offers accepts holds)
+            (evaluated_flat false steady offers accepts holds held memories step.values step.evaluated));
+        after = subst (λ (v : Families). contents (state d c ps os steady held' memories' new)
+            ≡ after_flat d s.is_flat.top (contents now) v) last
+            (after_state held' step.values new memories'
+            (stepped_after false offers accepts holds new held' memories' step));
+        events_are = subst (λ (v : Families). events ≡ map (event_of (v [])) ((nets_of c).inputs ++ (nets_of c).outputs)) last
+            (all_told top (c.inputs ++ c.outputs) events
             (streams_counted events size ∙ sym (length_both c.inputs c.outputs)) seen
-            ∙ map_both (event_of top) stream_channel c.inputs c.outputs;
+            ∙ map_both (event_of top) stream_channel c.inputs c.outputs);
       }
     where
       top : Family
@@ -383,7 +455,10 @@ module _ {d : Design} {c : Interface} {pr : Program} {us : List Update} {ps : Li
           let at : slice_get s.is_flat.top.ports j ≡ Some p = slice_get-get_or s.is_flat.top.ports j none lt in
           let here : slice_get s.flat.ports j ≡ Some p = ap (λ (l : List Port). slice_get l j) (ports_flat d s.accepted s.is_flat) ∙ at in
           let e : net_at s.is_flat.top j ≡ p.net = ap port_net at in
-          ap (family_of new) e ∙ step.ports j p here ∙ ap (family_of step.values) (sym e) ∙ own_at (family_of step.values) j
+          ap (family_of new) e
+          ∙ step.seen p.net (seen_at_port j p here)
+          ∙ ap (family_of step.values) (sym e)
+          ∙ own_at (family_of step.values) j
 
       seen : (k : ℕ) (x : StreamPorts) (e : Event) → slice_get (c.inputs ++ c.outputs) k ≡ Some x
           → slice_get events k ≡ Some e → e ≡ event_of (families_of s.is_flat.top ps (family_of step.values) [])
@@ -397,17 +472,17 @@ module _ {d : Design} {c : Interface} {pr : Program} {us : List Update} {ps : Li
       (m : Module) (offers : List Offer) (accepts holds : List Bool) (held' new : List ℕ) (memories' : List (List ℕ)) (events : List Event)
       → top_of d ≡ Some m
       → length offers ≡ length (nets_of c).inputs → length accepts ≡ length (nets_of c).outputs → length holds ≡ length (nets_of c).holds
-      → IsStepped run c false steady offers accepts holds held memories new held' memories'
+      → IsStepped run os c false steady offers accepts holds held memories new held' memories'
       → length events ≡ length (nets_of c).inputs + length (nets_of c).outputs
       → ((k : ℕ) (x : StreamPorts) (e : Event) → slice_get (c.inputs ++ c.outputs) k ≡ Some x
       → slice_get events k ≡ Some e → e ≡ event_of (family_of new) (stream_channel x))
-      → IsEdge m offers accepts holds (state d c ps steady held memories) (state d c ps steady held' memories') events
+      → IsEdge m offers accepts holds now (state d c ps os steady held' memories' new) events
   edge_is m offers accepts holds held' new memories' events e lo la lh step size told =
-      subst (λ (x : Module). IsEdge x offers accepts holds (state d c ps steady held memories) (state d c ps steady held' memories') events) (top_is m e)
-      (edge_at offers accepts holds held' new memories' events lo la lh (stepped_flat false offers accepts holds new held' memories' step) size told)
+      subst (λ (x : Module). IsEdge x offers accepts holds now (state d c ps os steady held' memories' new) events) (top_is m e)
+      (edge_at offers accepts holds held' new memories' events lo la lh step size told)
 
   settled_alone : (reset : Bool) (new : List ℕ) → IsEvaluated s.flat c reset steady [] [] [] held memories new
-      → SettledAlone s.is_flat.top (state d c ps steady held memories) reset
+      → SettledAlone s.is_flat.top now reset
       (families_of s.is_flat.top ps (family_of new))
   settled_alone reset new done =
       settled_is reset [] _ [] _ [] _ new (length-map (nets_of c).inputs (λ (x : Channel). nothing))
@@ -415,20 +490,22 @@ module _ {d : Design} {c : Interface} {pr : Program} {us : List Update} {ps : Li
       (none_said (nets_of c)) done
 
   pub reset_is : (m : Module) (held' new : List ℕ) (memories' : List (List ℕ)) → top_of d ≡ Some m
-      → IsStepped run c true steady [] [] [] held memories new held' memories'
-      → IsResetEdge m (state d c ps steady held memories) (state d c ps steady held' memories')
-  reset_is m held' new memories' e st =
-      let step = stepped_flat true [] [] [] new held' memories' st in
-      subst (λ (x : Module). IsResetEdge x (state d c ps steady held memories) (state d c ps steady held' memories')) (top_is m e)
+      → IsStepped run os c true steady [] [] [] held memories new held' memories'
+      → IsResetEdge m now (state d c ps os steady held' memories' new)
+  reset_is m held' new memories' e step =
+      let last = last_is true [] [] [] new held' memories' step in
+      subst (λ (x : Module). IsResetEdge x now (state d c ps os steady held' memories' new)) (top_is m e)
       (record {
-        family = families_of s.is_flat.top ps (family_of step.values);
-        settled = settled_alone true step.values
-            step.evaluated;
-        after = after_state held' step.values memories' step.after;
+        settled = subst (λ (v : Families). SettledAlone s.is_flat.top now true v) last
+            (settled_alone true step.values
+            (evaluated_flat true steady [] [] [] held memories step.values step.evaluated));
+        after = subst (λ (v : Families). contents (state d c ps os steady held' memories' new)
+            ≡ after_flat d s.is_flat.top (contents now) v) last
+            (after_state held' step.values new memories' (stepped_after true [] [] [] new held' memories' step));
       })
 
   done_at : (new : List ℕ) (answer : Bool) → IsEvaluated s.flat c false steady [] [] [] held memories new
-      → answer ≡ eqb (get_or new c.done 0) 1 → IsDone s.is_flat.top (state d c ps steady held memories) answer
+      → answer ≡ eqb (get_or new c.done 0) 1 → IsDone s.is_flat.top now answer
   done_at new answer done is =
       record {
         family = families_of s.is_flat.top ps (family_of new);
@@ -440,7 +517,7 @@ module _ {d : Design} {c : Interface} {pr : Program} {us : List Update} {ps : Li
 
   pub done_is : (m : Module) (new : List ℕ) (answer : Bool) → top_of d ≡ Some m
       → IsEvaluated run c false steady [] [] [] held memories new → answer ≡ eqb (get_or new c.done 0) 1
-      → IsDone m (state d c ps steady held memories) answer
+      → IsDone m now answer
   done_is m new answer e done is =
-      subst (λ (x : Module). IsDone x (state d c ps steady held memories) answer) (top_is m e)
+      subst (λ (x : Module). IsDone x now answer) (top_is m e)
       (done_at new answer (evaluated_flat false steady [] [] [] held memories new done) is)

@@ -8,6 +8,7 @@ pub mod Loads
 pub mod Gathering
 pub mod Ordering
 pub mod Driving
+pub mod Holding
 pub mod Compiling
 pub mod Batching
 pub mod Levelling
@@ -17,6 +18,7 @@ pub mod Marking
 pub mod Answering
 pub mod Accepting
 pub mod Clocking
+pub mod Ahead
 pub mod Updating
 pub mod Alone
 pub mod Outer

@@ -10,7 +10,7 @@ use Rattle.rtl_ir.specs.declared.design.Update.{Update}
 use Rattle.rtl_ir.specs.Operands.{IsRead, target_net}
 use Rattle.verilog_sim.specs.Settled.{IsInOrder}
 use Rattle.verilog_sim.specs.Feeding.{is_marked, AreMarkedFrom, AreReadsMarked, AreNetsMarked, IsSeen, IsFeeding}
-use Rattle.verilog_sim.specs.Feeding.IsSeen.{at_port, by_enable, by_value, by_target}
+use Rattle.verilog_sim.specs.Feeding.IsSeen.{at_port, by_enable, by_value, by_target, as_origin}
 
 -- the first so many nets of a list are marked
 pub record Marked (nets : List ℕ) (old new : List Bool) (count : ℕ) : Type 0 where
@@ -89,15 +89,18 @@ one_update_marked updates old new i u at kept now before j w less e = ⊎_elim e
         let r : u ≡ w = cc in
         subst (AreNetsMarked new) r now
 
--- what is seen in an edge is marked where the nets of ports and updates are
+-- what is seen in an edge is marked where origins and the nets of ports and updates are
 pub seen_marked :
-    (m : Module) (marks : List Bool) → ((i : ℕ) (p : Port) → slice_get m.ports i ≡ Some p → is_marked marks p.net ≡ true)
+    (m : Module) (os : List ℕ) (marks : List Bool)
+    → ((n : ℕ) → n < length os → get_or os n 0 ≡ n → is_marked marks n ≡ true)
+    → ((i : ℕ) (p : Port) → slice_get m.ports i ≡ Some p → is_marked marks p.net ≡ true)
     → ((j : ℕ) (u : Update) → slice_get m.updates j ≡ Some u → AreNetsMarked marks u)
-    → (n : ℕ) → IsSeen m n → is_marked marks n ≡ true
-seen_marked m marks ports updates n (at_port i p at) = ports i p at
-seen_marked m marks ports updates n (by_enable j u at) = (updates j u at).enable
-seen_marked m marks ports updates n (by_value j u at) = (updates j u at).value
-seen_marked m marks ports updates n (by_target j u at) = (updates j u at).net
+    → (n : ℕ) → IsSeen m os n → is_marked marks n ≡ true
+seen_marked m os marks own ports updates n (at_port i p at) = ports i p at
+seen_marked m os marks own ports updates n (by_enable j u at) = (updates j u at).enable
+seen_marked m os marks own ports updates n (by_value j u at) = (updates j u at).value
+seen_marked m os marks own ports updates n (by_target j u at) = (updates j u at).net
+seen_marked m os marks own ports updates n (as_origin k lt e) = own k lt e
 
 -- what feeds some nets feeds fewer
 pub feeding_fewer : (order feeding : List Assign) (IsWanted IsWantedToo : ℕ → Type 0) → ((n : ℕ) → IsWantedToo n → IsWanted n) → IsFeeding order feeding IsWanted → IsFeeding order feeding IsWantedToo

@@ -93,6 +93,7 @@ own_at_first m order os size own =
     record {
       nets = size;
       inside = λ n lt. subst (λ (x : ℕ). x < length m.nets) (sym (own n lt)) lt;
+      own = λ n lt. ap (λ k. get_or os k 0) (own n lt);
       widths = λ n lt. ap (width_of m) (own n lt);
       size = refl;
       targets = λ i a b at bt. absurd (cc);
@@ -164,6 +165,7 @@ module _ (m : Module) (order : List Assign) (o : IsInOrder m order) (os : List �
         record {
           nets = p.nets;
           inside = p.inside;
+          own = p.own;
           widths = p.widths;
           size = length_more;
           targets = λ j x y xt yt. targets j x y xt (pushed_at new direct j y yt);
@@ -177,8 +179,9 @@ module _ (m : Module) (order : List Assign) (o : IsInOrder m order) (os : List �
         length_more : length (new ++ direct ∷ []) ≡ i + 1
         length_more = Rattle.std.proofs.Common.length-append new (direct ∷ []) ∙ ap (λ k. k + 1) p.size
 
-  -- a copy among them, whose origin is noted
-  module _ (k t : ℕ) (b : Assign) (bt : slice_get new k ≡ Some b) (is : b.expr ≡ Plain t) where
+  -- a copy among them, whose origin is noted: that is its own, and no other net has come from the copy
+  module _ (k t : ℕ) (b : Assign) (bt : slice_get new k ≡ Some b) (is : b.expr ≡ Plain t) (source : get_or os t 0 ≡ t)
+      (unused : (n : ℕ) → n < length m.nets → b.target ≡ get_or os n 0 → get_or os n 0 ≡ n) where
     reads_it : IsRead b.expr t
     reads_it = subst (λ (e : Expr). IsRead e t) (sym is) (0, refl)
 
@@ -201,6 +204,30 @@ module _ (m : Module) (order : List Assign) (o : IsInOrder m order) (os : List �
         (λ ne. subst (P n) (sym (get_or-set_other os b.target n t 0 ne)) (other n lt))
         (cases_eq n b.target)
 
+    at_source : get_or (set os b.target t) t 0 ≡ t
+    at_source =
+        ⊎_elim
+        (λ e. subst (λ (x : ℕ). get_or (set os b.target t) x 0 ≡ t) (sym e) same_there)
+        (λ ne. get_or-set_other os b.target t t 0 ne ∙ source)
+        (cases_eq t b.target)
+
+    own_it : (n : ℕ) → n < length m.nets → get_or (set os b.target t) (get_or (set os b.target t) n 0) 0 ≡ get_or (set os b.target t) n 0
+    own_it n lt = ⊎_elim at_target elsewhere (cases_eq n b.target)
+      where
+        at_target : n ≡ b.target → get_or (set os b.target t) (get_or (set os b.target t) n 0) 0 ≡ get_or (set os b.target t) n 0
+        at_target e =
+            let q : get_or (set os b.target t) n 0 ≡ t = ap (λ x. get_or (set os b.target t) x 0) e ∙ same_there in
+            ap (λ x. get_or (set os b.target t) x 0) q ∙ at_source ∙ sym q
+
+        elsewhere : n ≢ b.target → get_or (set os b.target t) (get_or (set os b.target t) n 0) 0 ≡ get_or (set os b.target t) n 0
+        elsewhere ne =
+            let q : get_or (set os b.target t) n 0 ≡ get_or os n 0 = get_or-set_other os b.target n t 0 ne in
+            let there : get_or (set os b.target t) (get_or os n 0) 0 ≡ get_or os n 0 = ⊎_elim
+            (λ e. absurd (ne (sym (unused n lt (sym e)) ∙ e)))
+            (λ off. get_or-set_other os b.target (get_or os n 0) t 0 off ∙ p.own n lt)
+            (cases_eq (get_or os n 0) b.target) in
+            ap (λ x. get_or (set os b.target t) x 0) q ∙ there ∙ sym q
+
     free_it : (j : ℕ) (x : Assign) → i ≤ j → slice_get order j ≡ Some x → x.target ≡ t → ⊥
     free_it j x le xt e = (let lt = slice_get_within new k b bt in p.unread k j b x (omega (arith, lt, le, p.size)) bt xt (subst (IsRead b.expr) (sym e) reads_it))
 
@@ -209,6 +236,7 @@ module _ (m : Module) (order : List Assign) (o : IsInOrder m order) (os : List �
         record {
           nets = length-set os b.target t ∙ p.nets;
           inside = at_net (λ n x. x < length m.nets) inside_it p.inside;
+          own = own_it;
           widths = at_net (λ n x. width_of m x ≡ width_of m n) width_it p.widths;
           size = p.size;
           targets = p.targets;
@@ -219,14 +247,24 @@ module _ (m : Module) (order : List Assign) (o : IsInOrder m order) (os : List �
           told = λ c v h. (let old = p.told c v h in record { origins = at_net (λ n x. v x ≡ v n) (sym (h k b bt ∙ ap (value m c v (width_of m b.target)) is)) old.origins; assigned = old.assigned });
         }
 
+-- what is read at an origin is its own origin
+pub source_own : (m : Module) (order : List Assign) (os : List ℕ) (new : List Assign) (i : ℕ) → AreAtOrigins m order os new i
+    → (a : Assign) → IsFormedAssign m a → (t : ℕ) → IsRead (expr_at os a.expr) t → get_or os t 0 ≡ t
+source_own m order os new i p a f t read =
+    let q = read_at os a.expr t read in
+    subst (λ (x : ℕ). get_or os x 0 ≡ x) q.2 (p.own q.0 (f.expr.nets q.0 q.1))
+
 -- an assignment more, and its origin where it is a copy
 pub origin_noted : (m : Module) (order : List Assign) (o : IsInOrder m order) (os : List ℕ)
     (new : List Assign) (i k : ℕ) (b : Assign) → slice_get new k ≡ Some b
+    → ((t : ℕ) → IsRead b.expr t → get_or os t 0 ≡ t)
+    → ((n : ℕ) → n < length m.nets → b.target ≡ get_or os n 0 → get_or os n 0 ≡ n)
     → AreAtOrigins m order os new i → AreAtOrigins m order (with_origin b.expr b.target os) new i
-origin_noted m order o os new i k b bt p = by_case b.expr refl
+origin_noted m order o os new i k b bt source unused p = by_case b.expr refl
   where
     by_case : (e : Expr) → b.expr ≡ e → AreAtOrigins m order (with_origin e b.target os) new i
     by_case (Plain t) is = one_origin m order o os new i p k t b bt is
+        (source t (subst (λ (e : Expr). IsRead e t) (sym is) (0, refl))) unused
     by_case (Literal x) is = p
     by_case (Not n) is = p
     by_case (Binary s n q) is = p
@@ -333,13 +371,19 @@ no_loop m unread a b ch (by j n x xt read) = behind m unread x.target n ch j x x
 
 pub stand_for : (m : Module) (order : List Assign) (os : List ℕ) (new : List Assign)
     → IsRunnable m → IsOrderOf m order → AreAtOrigins m order os new (length order)
-    → StandFor m new (map (update_at os) m.updates)
+    → StandFor m os new (map (update_at os) m.updates)
 stand_for m order os new r o p =
     record {
       runnable = runnable;
       ordered = record { in_order = record { typed = runnable.typed; unread = unread; once = once }; all = λ k a at. (k, at); from = λ k a at. (k, at) };
       fits = fits;
       after = λ c v f. updates_at_same m (with_lists m new us) v os m.updates c refl (p.told c v (hold c v f)).origins below;
+      origins = record {
+        size = p.nets;
+        inside = p.inside;
+        own = p.own;
+        same = λ c v n f lt. (p.told c v (hold c v f)).origins n lt;
+      };
     }
   where
     us : List Update
@@ -422,17 +466,17 @@ stand_for m order os new r o p =
         }
 
 -- what holds of a module that does the same
-pub runnable_same : {m n : Module} → DoesSame m n → IsRunnable n
+pub runnable_same : {m n : Module} {os : List ℕ} → DoesSame m n os → IsRunnable n
 runnable_same e = subst IsRunnable (sym e.lists) e.stand.runnable
 
-pub ordered_same : {m n : Module} → DoesSame m n → IsOrderOf n n.assigns
+pub ordered_same : {m n : Module} {os : List ℕ} → DoesSame m n os → IsOrderOf n n.assigns
 ordered_same {n = n} e = subst (λ (x : Module). IsOrderOf x n.assigns) (sym e.lists) e.stand.ordered
 
-pub nets_same : {m n : Module} → DoesSame m n → n.nets ≡ m.nets
+pub nets_same : {m n : Module} {os : List ℕ} → DoesSame m n os → n.nets ≡ m.nets
 nets_same e = ap (λ (x : Module). x.nets) e.lists
 
-pub mems_same : {m n : Module} → DoesSame m n → n.mems ≡ m.mems
+pub mems_same : {m n : Module} {os : List ℕ} → DoesSame m n os → n.mems ≡ m.mems
 mems_same e = ap (λ (x : Module). x.mems) e.lists
 
-pub ports_same : {m n : Module} → DoesSame m n → n.ports ≡ m.ports
+pub ports_same : {m n : Module} {os : List ℕ} → DoesSame m n os → n.ports ≡ m.ports
 ports_same e = ap (λ (x : Module). x.ports) e.lists

@@ -1,18 +1,20 @@
 -- What the lists of parts say by paths is what the flat module says.
 use Rattle.std.proofs.Common.{◌≡◌, ℕ, ◌+◌, ◌-◌, ◌<◌, ◌≤◌, Bool, true, false, cond, ◌&&◌, eqb, ltb}
-use Rattle.std.proofs.Common.{List, [], ◌∷◌, ◌++◌, length, take, drop, get_or, Option, Some, None}
+use Rattle.std.proofs.Common.{List, [], ◌∷◌, ◌++◌, length, map, take, drop, get_or, Option, Some, None}
 use Rattle.std.proofs.Common.{refl, sym, ap, ◌∙◌, arith, ⊎_elim}
 use mathlib.Core.Path.{fun_ext}
 use Rattle.std.proofs.lemmas.Bool.{cases_eq, cases_lt, lt-ltb, le-ltb, ltb-true, ltb-false, eq-eqb, ne_eqb}
 use Rattle.std.proofs.lemmas.List.{get_or-take, get_or-drop, get_or_past, length-take}
 use Rattle.rtl_ir.specs.declared.design.Module.{Module}
-use Rattle.rtl_ir.specs.Value.{Contents}
-use Rattle.rtl_ir.specs.Flat.{Path, AllContents}
+use Rattle.rtl_ir.specs.Value.{Family, Contents}
+use Rattle.rtl_ir.specs.Flat.{Path, AllContents, Families}
 use Rattle.verilog_sim.specs.declared.scope.Scope.{Scope}
-use Rattle.verilog_sim.specs.Contents.{contents_of}
-use Rattle.verilog_sim.proofs.ByPath.{cut_contents, no_contents, within_part, contents_before, contents_first, alone_contents, contents_by_path}
-use Rattle.verilog_sim.specs.State.{PartContents, is_path, held_at}
+use Rattle.verilog_sim.specs.Contents.{family_of, contents_of}
+use Rattle.verilog_sim.proofs.ByPath.{cut_family, cut_contents, no_family, no_contents, within_part, families_before, contents_before}
+use Rattle.verilog_sim.proofs.ByPath.{families_first, contents_first, alone, alone_contents, families_of, contents_by_path}
+use Rattle.verilog_sim.specs.State.{PartContents, PartValues, is_path, held_at, values_at}
 use Rattle.verilog_sim.specs.PartLists.{cut_list, path_before, split_at, parts_before, parts_first, top_at, tops_at, parts_of}
+use Rattle.verilog_sim.specs.PartLists.{as_values, values_of}
 
 -- ---- contents of so many nets and memories
 get_cut : {X : Type 0} (first count : ℕ) (xs : List X) (i : ℕ) (d : X) → get_or (cut_list first count xs) i d ≡ cond (ltb i count) (get_or xs (first + i) d) d
@@ -249,3 +251,49 @@ parts_say (Some m) ss held memories =
     let flat : List PartContents = record { path = []; regs = held; cells = memories } ∷ [] in
     fun_ext (tops_say (length m.nets) (length m.mems) (parts_first ss flat))
     ∙ ap (within_part 0 (cut_contents 0 (length m.nets) 0 (length m.mems))) (first_at ss flat ∙ ap (contents_first ss) (alone_at held memories))
+
+-- ---- the values of nets, which stand in the place of registers
+values_regs : (xs : List PartContents) (p : Path) → values_at (map as_values xs) p ≡ (held_at xs p).regs
+values_regs [] p = refl
+values_regs (x ∷ xs) p = by_test (values_regs xs p) (is_path x.path p)
+  where
+    by_test : values_at (map as_values xs) p ≡ (held_at xs p).regs → (b : Bool)
+        → cond b (family_of x.regs) (values_at (map as_values xs) p) ≡ (cond b (contents_of x.regs x.cells) (held_at xs p)).regs
+    by_test rest true = refl
+    by_test rest false = rest
+
+within_regs :
+    (last : ℕ) (f : Contents → Contents) (g : Family → Family) (x : AllContents) (v : Families)
+    → ((c : Contents) → (f c).regs ≡ g c.regs) → ((p : Path) → (x p).regs ≡ v p)
+    → (p : Path) → (within_part last f x p).regs ≡ within_part last g v p
+within_regs last f g x v e h [] = e (x []) ∙ ap g (h [])
+within_regs last f g x v e h (k ∷ p) = h ((last + k) ∷ p)
+
+before_regs : (s : Scope) (x : AllContents) (v : Families) → ((p : Path) → (x p).regs ≡ v p) → (p : Path) → (contents_before s x p).regs ≡ families_before s v p
+before_regs s x v h [] = ap (cut_family 0 s.first_net) (h [])
+before_regs s x v h (k ∷ p) = by_test (ltb k s.instance) (eqb k s.instance)
+  where
+    by_test : (b d : Bool)
+        → (cond b (x (k ∷ p)) (cond d (within_part s.instance (cut_contents s.first_net s.nets s.first_mem s.mems) x p) no_contents)).regs
+        ≡ cond b (v (k ∷ p)) (cond d (within_part s.instance (cut_family s.first_net s.nets) v p) no_family)
+    by_test true d = h (k ∷ p)
+    by_test false true = within_regs s.instance (cut_contents s.first_net s.nets s.first_mem s.mems) (cut_family s.first_net s.nets) x v (λ c. refl) h p
+    by_test false false = refl
+
+first_regs : (ss : List Scope) (c : Contents) (p : Path) → (contents_first ss (alone_contents c) p).regs ≡ families_first ss (alone c.regs) p
+first_regs [] c [] = refl
+first_regs [] c (k ∷ p) = refl
+first_regs (s ∷ ss) c p = before_regs s (contents_first ss (alone_contents c)) (families_first ss (alone c.regs)) (first_regs ss c) p
+
+abbrev by_values : List PartValues → Families
+by_values xs = λ p. values_at xs p
+
+-- the values of the parts are the families that the flat module says
+pub values_say : (m : Module) (ss : List Scope) (values : List ℕ)
+    → by_values (values_of (Some m) ss values) ≡ families_of m ss (family_of values)
+values_say m ss values =
+    fun_ext (λ p. values_regs (parts_of (Some m) ss values []) p
+    ∙ ap (λ (u : AllContents). (u p).regs) (parts_say (Some m) ss values [])
+    ∙ within_regs 0 (cut_contents 0 (length m.nets) 0 (length m.mems)) (cut_family 0 (length m.nets))
+    (contents_first ss (alone_contents (contents_of values []))) (families_first ss (alone (family_of values)))
+    (λ c. refl) (first_regs ss (contents_of values [])) p)

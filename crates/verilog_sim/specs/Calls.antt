@@ -6,7 +6,7 @@ use Rattle.rtl_ir.specs.Flat.{Families, FitsFlat, after_flat}
 use Rattle.rtl_ir.specs.Run.{Channel, Outer, Same, moves}
 use Rattle.verilog_sim.specs.declared.offer.Offer.{Offer}
 use Rattle.verilog_sim.specs.declared.offer.Event.{Event}
-use Rattle.verilog_sim.specs.State.{State, contents}
+use Rattle.verilog_sim.specs.State.{State, contents, last_family}
 
 -- the values of the outer inputs in an edge: the clock reads as 0
 pub record Given (o : Outer) (reset : Bool) (steady : List ℕ) (offers : List Offer) (accepts holds : List Bool) (v : Family) : Type 0 where
@@ -35,18 +35,17 @@ SettledAlone m s reset v = Settled m s reset (map (λ c. nothing) s.outer.inputs
 abbrev pub event_of : Family → Channel → Event
 event_of v c = record { moved = moves c v; word = v c.word }
 
--- an edge without reset: after it registers and memories hold what the meaning says, and the events are its moves
+-- an edge without reset: its family is the last one then, after it registers and memories hold what the meaning says, and the
+-- events are its moves
 pub record IsEdge (m : Module) (offers : List Offer) (accepts holds : List Bool) (old new : State) (events : List Event) : Type 0 where
-  pub family : Families
-  pub settled : Settled m old false offers accepts holds family
-  pub after : contents new ≡ after_flat old.design m (contents old) family
-  pub events_are : events ≡ map (event_of (family [])) (old.outer.inputs ++ old.outer.outputs)
+  pub settled : Settled m old false offers accepts holds (last_family new)
+  pub after : contents new ≡ after_flat old.design m (contents old) (last_family new)
+  pub events_are : events ≡ map (event_of (last_family new [])) (old.outer.inputs ++ old.outer.outputs)
 
 -- an edge with reset
 pub record IsResetEdge (m : Module) (old new : State) : Type 0 where
-  pub family : Families
-  pub settled : SettledAlone m old true family
-  pub after : contents new ≡ after_flat old.design m (contents old) family
+  pub settled : SettledAlone m old true (last_family new)
+  pub after : contents new ≡ after_flat old.design m (contents old) (last_family new)
 
 -- whether the port done is 1
 pub record IsDone (m : Module) (s : State) (answer : Bool) : Type 0 where

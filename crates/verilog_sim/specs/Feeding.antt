@@ -1,5 +1,5 @@
 -- Which assignments feed nets.
-use Rattle.std.specs.Prelude.{◌≡◌, ◌⊎◌, ℕ, ◌<◌, ◌≤◌, List, Bool, true, false, not, ◌&&◌, length, Some, slice_get, slice_index_or}
+use Rattle.std.specs.Prelude.{◌≡◌, ◌⊎◌, ℕ, ◌<◌, ◌≤◌, List, Bool, true, false, not, ◌&&◌, length, Some, slice_get, slice_index, slice_index_or}
 use Rattle.std.specs.List.{filter}
 use Rattle.rtl_ir.specs.declared.design.Assign.{Assign}
 use Rattle.rtl_ir.specs.declared.design.Expr.{Expr}
@@ -53,12 +53,13 @@ pub record IsFeeding (order feeding : List Assign) (IsWanted : ℕ → Type 0) :
   pub marked : AreMarkedFrom order marks 0
   pub are : feeding ≡ marked_of marks order
 
--- a net is seen in an edge: at a port, or by an update
-pub data IsSeen (m : Module) : ℕ → Type 0 where
-  at_port : (i : ℕ) (p : Port) → slice_get m.ports i ≡ Some p → IsSeen m p.net
-  by_enable : (j : ℕ) (u : Update) → slice_get m.updates j ≡ Some u → IsSeen m u.enable
-  by_value : (j : ℕ) (u : Update) → slice_get m.updates j ≡ Some u → IsSeen m u.value
-  by_target : (j : ℕ) (u : Update) → slice_get m.updates j ≡ Some u → IsSeen m (target_net u.target)
+-- a net is seen in an edge: at a port, by an update, or where other nets may come from
+pub data IsSeen (m : Module) (os : List ℕ) : ℕ → Type 0 where
+  at_port : (i : ℕ) (p : Port) → slice_get m.ports i ≡ Some p → IsSeen m os p.net
+  by_enable : (j : ℕ) (u : Update) → slice_get m.updates j ≡ Some u → IsSeen m os u.enable
+  by_value : (j : ℕ) (u : Update) → slice_get m.updates j ≡ Some u → IsSeen m os u.value
+  by_target : (j : ℕ) (u : Update) → slice_get m.updates j ≡ Some u → IsSeen m os (target_net u.target)
+  as_origin : (n : ℕ) → n < length os → slice_index os n ≡ n → IsSeen m os n
 
 -- the ports of a module are nets of it
 abbrev pub ArePortsIn : Module → Type 0
@@ -77,8 +78,8 @@ pub record AreNetsMarked (marks : List Bool) (u : Update) : Type 0 where
   pub net : is_marked marks (target_net u.target) ≡ true
 
 -- in one order of its assignments, those of a module that feed the nets seen in an edge, and those that feed one net
-pub record AreOrders (m : Module) (net : ℕ) (edge feeding : List Assign) : Type 0 where
+pub record AreOrders (m : Module) (os : List ℕ) (net : ℕ) (edge feeding : List Assign) : Type 0 where
   pub order : List Assign
   pub ordered : IsOrderOf m order
-  pub sees : IsFeeding order edge (IsSeen m)
+  pub sees : IsFeeding order edge (IsSeen m os)
   pub feeds : IsFeeding order feeding (λ n. n ≡ net)

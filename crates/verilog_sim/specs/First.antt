@@ -1,11 +1,8 @@
 -- The values of nets before the first edge.
-use Rattle.std.specs.Prelude.{◌≡◌, ◌≢◌, ◌⊎◌, ℕ, ◌<◌, true, List, length, Some, slice_get, slice_index}
-use Rattle.rtl_ir.specs.declared.design.Module.{Module}
+use Rattle.std.specs.Prelude.{◌≡◌, ◌⊎◌, ℕ, ◌<◌, List, length, Some, slice_get, slice_index}
 use Rattle.rtl_ir.specs.declared.design.Assign.{Assign}
 use Rattle.rtl_ir.specs.declared.design.Expr.TheVariants.{Literal}
-use Rattle.rtl_ir.specs.Value.{is_reg}
 use Rattle.mx_bits.specs.declared.word.Word.{Word}
-use Rattle.verilog_sim.specs.Simulates.{AreConstant}
 
 -- an assignment of a literal to a net
 pub record IsLiteralAt (assigns : List Assign) (n x : ℕ) : Type 0 where
@@ -23,10 +20,3 @@ pub record AreLiteralsSet (assigns : List Assign) (old new : List ℕ) (count : 
   pub each : (k : ℕ) (a : Assign) (x : Word) → k < count → slice_get assigns k ≡ Some a
       → a.expr ≡ Literal x → IsLiteralAt assigns a.target (slice_index new a.target)
   pub others : (n : ℕ) → (slice_index new n ≡ slice_index old n) ⊎ IsLiteralAt assigns n (slice_index new n)
-
--- the words of registers and of literals, and 0 at all others
-pub record AreFirst (m : Module) (held values : List ℕ) : Type 0 where
-  pub size : length values ≡ length m.nets
-  pub loaded : (n : ℕ) → is_reg m n ≡ true → slice_index values n ≡ slice_index held n
-  pub constant : AreConstant m values
-  pub others : (n : ℕ) → is_reg m n ≢ true → (slice_index values n ≡ 0) ⊎ IsLiteralAt m.assigns n (slice_index values n)

@@ -1,5 +1,5 @@
 -- Nets that are copies of others, and assignments and updates that read them where they come from.
-use Rattle.std.specs.Prelude.{◌≡◌, ℕ, ◌<◌, ◌≤◌, List, length, Some, slice_get, slice_index, slice_set}
+use Rattle.std.specs.Prelude.{◌≡◌, ℕ, ◌<◌, ◌≤◌, List, length, map, Some, slice_get, slice_index, slice_set}
 use Rattle.rtl_ir.specs.declared.design.Module.{Module}
 use Rattle.rtl_ir.specs.declared.design.Assign.{Assign}
 use Rattle.rtl_ir.specs.declared.design.Update.{Update}
@@ -48,6 +48,10 @@ with_origin (Part a hi lo) n os = os
 with_origin (Choose a b c) n os = os
 with_origin (Cell k a) n os = os
 
+-- the values of all nets, where those of origins stand
+abbrev pub at_origins : List ℕ → List ℕ → List ℕ
+at_origins os values = map (λ o. slice_index values o) os
+
 -- each of these assignments holds
 abbrev pub Hold : Module → Contents → Family → List Assign → Type 0
 Hold m c v as' = (i : ℕ) (a : Assign) → slice_get as' i ≡ Some a → v a.target ≡ value m c v (width_of m a.target) a.expr
@@ -62,6 +66,7 @@ pub record AreTold (m : Module) (c : Contents) (v : Family) (order : List Assign
 pub record AreAtOrigins (m : Module) (order : List Assign) (os : List ℕ) (new : List Assign) (count : ℕ) : Type 0 where
   pub nets : length os ≡ length m.nets
   pub inside : (n : ℕ) → n < length m.nets → slice_index os n < length m.nets
+  pub own : (n : ℕ) → n < length m.nets → slice_index os (slice_index os n) ≡ slice_index os n
   pub widths : (n : ℕ) → n < length m.nets → width_of m (slice_index os n) ≡ width_of m n
   pub size : length new ≡ count
   pub targets : (i : ℕ) (a b : Assign) → slice_get order i ≡ Some a → slice_get new i ≡ Some b → b.target ≡ a.target
@@ -75,15 +80,23 @@ pub record AreAtOrigins (m : Module) (order : List Assign) (os : List ℕ) (new 
 abbrev pub with_lists : Module → List Assign → List Update → Module
 with_lists m as' us = record { name = m.name; ports = m.ports; nets = m.nets; mems = m.mems; assigns = as'; updates = us; instances = m.instances }
 
--- other assignments and updates, by which a module without instances does the same. They stand in an order in which they can be
--- evaluated
-pub record StandFor (m : Module) (as' : List Assign) (us : List Update) : Type 0 where
+-- the origins of nets, which are nets that are their own origins and have the same values where these assignments hold
+pub record AreOrigins (m : Module) (os : List ℕ) (as' : List Assign) (us : List Update) : Type 0 where
+  pub size : length os ≡ length m.nets
+  pub inside : (n : ℕ) → n < length m.nets → slice_index os n < length m.nets
+  pub own : (n : ℕ) → n < length m.nets → slice_index os (slice_index os n) ≡ slice_index os n
+  pub same : (c : Contents) (v : Family) (n : ℕ) → Fits (with_lists m as' us) c v → n < length m.nets → v (slice_index os n) ≡ v n
+
+-- origins, and other assignments and updates, by which a module without instances does the same. They stand in an order in which
+-- they can be evaluated
+pub record StandFor (m : Module) (os : List ℕ) (as' : List Assign) (us : List Update) : Type 0 where
   pub runnable : IsRunnable (with_lists m as' us)
   pub ordered : IsOrderOf (with_lists m as' us) as'
   pub fits : (c : Contents) (v : Family) → Fits (with_lists m as' us) c v → Fits m c v
   pub after : (c : Contents) (v : Family) → Fits (with_lists m as' us) c v → after_edge (with_lists m as' us) c v ≡ after_edge m c v
+  pub origins : AreOrigins m os as' us
 
--- a module that does the same as another one, with the same nets, memories and ports
-pub record DoesSame (m n : Module) : Type 0 where
+-- a module that does the same as another one, with the same nets, memories and ports, and the origins of its nets
+pub record DoesSame (m n : Module) (os : List ℕ) : Type 0 where
   pub lists : n ≡ with_lists m n.assigns n.updates
-  pub stand : StandFor m n.assigns n.updates
+  pub stand : StandFor m os n.assigns n.updates

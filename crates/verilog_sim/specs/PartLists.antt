@@ -1,9 +1,9 @@
 -- What the parts of a design hold, from the words that its flat module holds.
-use Rattle.std.specs.Prelude.{ℕ, ◌-◌, List, [], ◌∷◌, ◌++◌, length, take, drop, Option, Some, None, if◌then◌else◌, nat_lt}
+use Rattle.std.specs.Prelude.{ℕ, ◌-◌, List, [], ◌∷◌, ◌++◌, length, map, take, drop, Option, Some, None, if◌then◌else◌, nat_lt}
 use Rattle.rtl_ir.specs.declared.design.Module.{Module}
 use Rattle.rtl_ir.specs.Flat.{Path}
 use Rattle.verilog_sim.specs.declared.scope.Scope.{Scope}
-use Rattle.verilog_sim.specs.State.{PartContents}
+use Rattle.verilog_sim.specs.State.{PartContents, PartValues}
 
 -- so many items from a first one on
 abbrev pub cut_list : {A : Type 0} → ℕ → ℕ → List A → List A
@@ -54,3 +54,11 @@ abbrev pub parts_of : Option Module → List Scope → List ℕ → List (List �
 parts_of None ss held memories = []
 parts_of (Some m) ss held memories =
     tops_at (length m.nets) (length m.mems) (parts_first ss (record { path = []; regs = held; cells = memories } ∷ []))
+
+-- what stands in the place of registers, as values of nets
+abbrev pub as_values : PartContents → PartValues
+as_values x = record { path = x.path; nets = x.regs }
+
+-- the values of the nets of the parts, where these are those of the flat module
+abbrev pub values_of : Option Module → List Scope → List ℕ → List PartValues
+values_of m ss values = map as_values (parts_of m ss values [])

@@ -22,7 +22,7 @@ use Rattle.verilog_sim.specs.Batches.{instructions_of_all}
 use Rattle.verilog_sim.specs.Runnable.{IsRunnable, IsOrderOf}
 use Rattle.verilog_sim.specs.Feeding.{IsFeeding, IsSeen}
 use Rattle.verilog_sim.specs.Settled.{AreWords, Settles}
-use Rattle.verilog_sim.specs.Updates.{AreNarrow}
+use Rattle.verilog_sim.specs.Updates.{AreNarrow, held_by}
 use Rattle.verilog_sim.specs.Gifts.{AreGiven, AreApart}
 use Rattle.verilog_sim.specs.Origins.{with_lists, StandFor}
 use Rattle.verilog_sim.specs.Flattened.{IsFlat}
@@ -40,11 +40,11 @@ pub record IsSimulable (m : Module) (i : Interface) : Type 0 where
 
 -- in an order in which the assignments of a module can be evaluated, the instructions of those that feed the nets seen in an edge,
 -- and of those that feed one net; and no update writes more than 64 bits where that is told
-pub record IsProgramOf (m : Module) (net : ℕ) (p : Program) : Type 0 where
+pub record IsProgramOf (m : Module) (os : List ℕ) (net : ℕ) (p : Program) : Type 0 where
   pub order : List Assign
   pub ordered : IsOrderOf m order
   pub edge : List Assign
-  pub sees : IsFeeding order edge (IsSeen m)
+  pub sees : IsFeeding order edge (IsSeen m os)
   pub edge_are : AreInstructionsOf m edge (instructions_of_all p.edge.items)
   pub feeding : List Assign
   pub feeds : IsFeeding order feeding (λ n. n ≡ net)
@@ -58,6 +58,11 @@ AreConstant m values =
     → slice_get m.assigns k ≡ Some a
     → a.expr ≡ Literal x
     → slice_index values a.target ≡ x.bits
+
+-- values of their widths at all nets, of literals their words
+pub record AreValues (m : Module) (values : List ℕ) (memories : List (List ℕ)) : Type 0 where
+  pub words : AreWords m values memories
+  pub constant : AreConstant m values
 
 -- words of their widths stand in all registers, memories and nets, and at the ports that keep one value, and the nets of
 -- registers and of literals have their words
@@ -123,38 +128,41 @@ pub record IsReady
   pub kept : AreKept m i steady held values memories
   pub offered : AreOffered m (nets_of i) offers
 
--- the updates and the program of a module that does the same as this one, and what stands before the first call of its simulator
+-- the updates and the program of a module that does the same as this one, the origins of its nets, and what stands before the
+-- first call of its simulator
 pub record IsPrepared
-    (m : Module) (i : Interface) (p : Program) (updates : List Update)
-    (steady held values : List ℕ) (memories : List (List ℕ)) : Type 0 where
+    (m : Module) (i : Interface) (p : Program) (updates : List Update) (os : List ℕ)
+    (steady ahead values : List ℕ) (memories : List (List ℕ)) : Type 0 where
   pub assigns : List Assign
-  pub stand : StandFor m assigns updates
-  pub program : IsProgramOf (with_lists m assigns updates) i.done p
-  pub kept : AreKept (with_lists m assigns updates) i steady held values memories
+  pub stand : StandFor m os assigns updates
+  pub program : IsProgramOf (with_lists m assigns updates) os i.done p
+  pub kept : AreKept (with_lists m assigns updates) i steady (held_by updates ahead) ahead memories
+  pub first : AreValues (with_lists m assigns updates) values memories
 
 -- a simulator between two calls: it has the updates, and the instructions of the assignments, of a module that does the same as the
--- flat module of an accepted design
+-- flat module of an accepted design, and the origins of its nets. What registers hold stands ahead, and the values of the last
+-- edge apart
 pub record Simulates
     (d : Design) (i : Interface) (p : Program) (updates : List Update) (scopes : List Scope)
-    (steady held values : List ℕ) (memories : List (List ℕ)) : Type 0 where
+    (os steady ahead values : List ℕ) (memories : List (List ℕ)) : Type 0 where
   pub accepted : IsAccepted d
   pub flat : Module
   pub is_flat : IsFlat d scopes flat
   pub assigns : List Assign
-  pub stand : StandFor flat assigns updates
+  pub stand : StandFor flat os assigns updates
   pub simulable : IsSimulable (with_lists flat assigns updates) i
-  pub program : IsProgramOf (with_lists flat assigns updates) i.done p
+  pub program : IsProgramOf (with_lists flat assigns updates) os i.done p
   pub has : IsInterface is_flat.top i
-  pub kept : AreKept (with_lists flat assigns updates) i steady held values memories
+  pub kept : AreKept (with_lists flat assigns updates) i steady (held_by updates ahead) ahead memories
+  pub last : AreValues (with_lists flat assigns updates) values memories
 
--- one edge: the values of all nets in it, which those of the ports still are, and what registers and memories hold after it
+-- one edge: the values of all nets in it, which those that are seen still have, and what registers and memories hold after it
 pub record IsStepped
-    (m : Module) (i : Interface) (reset : Bool) (steady : List ℕ) (offers : List Offer)
+    (m : Module) (os : List ℕ) (i : Interface) (reset : Bool) (steady : List ℕ) (offers : List Offer)
     (accepts holds : List Bool)
     (held : List ℕ) (memories : List (List ℕ)) (new later : List ℕ)
     (words : List (List ℕ)) : Type 0 where
   pub values : List ℕ
   pub evaluated : IsEvaluated m i reset steady offers accepts holds held memories values
-  pub ports : (k : ℕ) (p : Port) → slice_get m.ports k ≡ Some p
-      → slice_index new p.net ≡ slice_index values p.net
+  pub seen : (n : ℕ) → IsSeen m os n → slice_index new n ≡ slice_index values n
   pub after : contents_of later words ≡ after_edge m (contents_of held memories) (family_of values)

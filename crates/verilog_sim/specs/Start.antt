@@ -1,6 +1,6 @@
 -- What a simulator holds before its first call, and how much there is of it.
 use Rattle.std.specs.Prelude.{Option, Some, None, nat_lt, ◌≡◌, ℕ, ◌+◌, ◌-◌, ◌^◌, ◌%◌, ◌<◌, min}
-use Rattle.std.specs.Prelude.{true, if◌then◌else◌, List, [], ◌∷◌, ◌++◌, length, slice_index}
+use Rattle.std.specs.Prelude.{true, if◌then◌else◌, List, [], ◌∷◌, ◌++◌, length, map, slice_index}
 use Rattle.std.specs.Prelude.{replicate, sum_by}
 use Rattle.rtl_ir.specs.declared.design.Net.{Net}
 use Rattle.rtl_ir.specs.declared.design.Mem.{Mem}
@@ -33,6 +33,10 @@ all_cells d = slice_index (cells_after [] d.modules) (length d.modules - 1)
 
 abbrev pub held_at_start : ℕ → Net → ℕ
 held_at_start fill n = if n.reg then fill % 2 ^ n.width else 0
+
+-- each of these nets holds what it holds at the start
+abbrev pub AreFilled : ℕ → List Net → List ℕ → Type 0
+AreFilled fill nets held = (n : ℕ) → slice_index held n ≡ slice_index (map (held_at_start fill) nets) n
 
 abbrev pub words_at_start : ℕ → Mem → List ℕ
 words_at_start fill x = replicate x.depth (fill % 2 ^ x.width)

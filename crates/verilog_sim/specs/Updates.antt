@@ -1,5 +1,6 @@
 -- Updates of registers and memories whose numbers are in range.
-use Rattle.std.specs.Prelude.{◌≡◌, ◌≢◌, ℕ, ◌<◌, ◌≤◌, ◌^◌, Bool, true, List, length, Some, slice_get, slice_index}
+use Rattle.std.specs.Prelude.{◌≡◌, ◌≢◌, ℕ, ◌<◌, ◌≤◌, ◌^◌, Bool, true, List, [], ◌∷◌, length, Some}
+use Rattle.std.specs.Prelude.{slice_get, slice_index, slice_set, replicate}
 use Rattle.rtl_ir.specs.declared.design.Module.{Module}
 use Rattle.rtl_ir.specs.declared.design.Update.{Update}
 use Rattle.rtl_ir.specs.declared.design.Target.{Target}
@@ -14,6 +15,19 @@ IsTargetSafe nets memories (Cell k a) = (k < memories) × (a < nets)
 abbrev pub IsRegSafe : ℕ → Target → Type 0
 IsRegSafe nets (Reg n) = n < nets
 IsRegSafe nets (Cell k a) = Unit {0}
+
+-- with the value of a register that is written
+abbrev pub with_held : Target → List ℕ → List ℕ → List ℕ
+with_held (Reg n) values held = slice_set held n (slice_index values n)
+with_held (Cell k a) values held = held
+
+abbrev pub with_all_held : List Update → List ℕ → List ℕ → List ℕ
+with_all_held [] values held = held
+with_all_held (u ∷ us) values held = with_all_held us values (with_held u.target values held)
+
+-- what registers hold whose values these are: all that are updated have theirs, and 0 stands at all other nets
+abbrev pub held_by : List Update → List ℕ → List ℕ
+held_by us values = with_all_held us values (replicate (length values) 0)
 
 -- an update names nets and memories among so many
 pub record IsUpdateSafe (nets memories : ℕ) (u : Update) : Type 0 where

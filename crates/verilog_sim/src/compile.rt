@@ -27,16 +27,22 @@ pub(crate) struct Program {
     pub(crate) narrow: bool,
 }
 
-/// The program of a module whose assignments stand each after those whose targets it reads, with
-/// the instructions that feed this net.
-pub(crate) fn program_of(alloc: Global, module: &Module, net: NetId) -> Result<Program, NoMemory>
+/// The program of a module whose assignments stand each after those whose targets it reads, and
+/// whose nets have these origins, with the instructions that feed this net.
+pub(crate) fn program_of(
+    alloc: Global,
+    module: &Module,
+    origins: &[NetId],
+    net: NetId,
+) -> Result<Program, NoMemory>
     requires runnable { IsRunnable module.now }
     requires ordered { IsOrderOf module.now module.now.assigns }
     requires ports { ArePortsIn module.now }
+    requires origins { length origins.now ≡ length module.now.nets }
     requires net { net < length module.now.nets }
-    ensures { IfOk result (λ p. IsProgramOf module.now net p) }
+    ensures { IfOk result (λ p. IsProgramOf module.now origins.now net p) }
 {
-    let orders = both_orders(alloc, module, net)?;
+    let orders = both_orders(alloc, module, origins, net)?;
     Ok(Program {
         edge: compile(alloc, module, orders.edge.as_slice())?,
         feeding: compile(alloc, module, orders.feeding.as_slice())?,

@@ -12,7 +12,9 @@ ghost use Rattle.verilog_sim.specs.Compiled.{AreInstructionsOf};
 ghost use Rattle.verilog_sim.specs.Batches.{instructions_of_all};
 ghost use Rattle.verilog_sim.specs.Runnable.{IsPartOf};
 ghost use Rattle.verilog_sim.specs.Gifts.{AreNetsOf};
-ghost use Rattle.verilog_sim.specs.Simulates.{AreKept, IsReady, IsProgramOf, IsEvaluatedBy, IsStepped, IsAnswered};
+ghost use Rattle.verilog_sim.specs.Simulates.{AreKept, AreValues, IsReady, IsProgramOf, IsEvaluatedBy};
+ghost use Rattle.verilog_sim.specs.Simulates.{IsStepped, IsAnswered};
+ghost use Rattle.verilog_sim.specs.Updates.{held_by};
 
 use crate::Event;
 use crate::batch::Batch;
@@ -51,35 +53,39 @@ pub(crate) fn evaluate(
     settle(batches, memories, values);
 }
 
-/// One edge: gives each net its value, and writes registers and memories. After it the registers
-/// have their new values.
+/// One edge: gives each net its value, and writes memories, and ahead what registers hold then.
 pub(crate) fn step(
     updates: &[Update],
     interface: &Interface,
     program: &Program,
     stimulus: &Stimulus<'_>,
-    held: &mut [u128],
+    ahead: &mut Values,
     memories: &mut [Memory],
     values: &mut Values,
 )
-    requires { (m : Module) × (net : ℕ)
+    requires { (m : Module) × (origins : List ℕ) × (net : ℕ)
         × IsReady m updates.now interface.now stimulus.now.steady.now stimulus.now.offers.now
-        held.old values.old memories.old
-        × IsProgramOf m net program.now }
+        (held_by updates.now ahead.old) ahead.old memories.old
+        × AreValues m values.old memories.old
+        × IsProgramOf m origins net program.now }
     // each module for which all is there
-    ensures { (m : Module) (net : ℕ)
+    ensures { (m : Module) (origins : List ℕ) (net : ℕ)
         → IsReady m updates.now interface.now stimulus.now.steady.now stimulus.now.offers.now
-        held.old values.old memories.old
-        → IsProgramOf m net program.now
-        → AreKept m interface.now stimulus.now.steady.now held.new values.new memories.new
-        × IsStepped m interface.now stimulus.now.reset stimulus.now.steady.now stimulus.now.offers.now
-        stimulus.now.accepts.now stimulus.now.holds.now held.old memories.old
-        values.new held.new memories.new }
+        (held_by updates.now ahead.old) ahead.old memories.old
+        → AreValues m values.old memories.old
+        → IsProgramOf m origins net program.now
+        → AreKept m interface.now stimulus.now.steady.now (held_by updates.now ahead.new) ahead.new
+        memories.new
+        × AreValues m values.new memories.new
+        × IsStepped m origins interface.now stimulus.now.reset stimulus.now.steady.now
+        stimulus.now.offers.now stimulus.now.accepts.now stimulus.now.holds.now
+        (held_by updates.now ahead.old) memories.old values.new (held_by updates.now ahead.new)
+        memories.new }
 {
     let batches = program.edge.as_slice();
+    load(updates, program.narrow, ahead, values);
     evaluate(interface, batches, stimulus, memories, values);
-    clock(updates, program.narrow, values, held, memories);
-    load(updates, program.narrow, held, values);
+    clock(updates, program.narrow, values, ahead, memories);
 }
 
 /// Whether the port done is 1. Nets that have no part in that may keep older values.
@@ -90,15 +96,15 @@ pub(crate) fn is_done(
     memories: &[Memory],
     values: &mut Values,
 ) -> bool
-    requires { (m : Module) × (updates : List Update) × (held : List ℕ)
+    requires { (m : Module) × (origins : List ℕ) × (updates : List Update) × (held : List ℕ)
         × IsReady m updates interface.now stimulus.now.steady.now stimulus.now.offers.now
         held values.old memories.now
-        × IsProgramOf m interface.now.done program.now }
+        × IsProgramOf m origins interface.now.done program.now }
     // each module for which all is there
-    ensures { (m : Module) (updates : List Update) (held : List ℕ)
+    ensures { (m : Module) (origins : List ℕ) (updates : List Update) (held : List ℕ)
         → IsReady m updates interface.now stimulus.now.steady.now stimulus.now.offers.now
         held values.old memories.now
-        → IsProgramOf m interface.now.done program.now
+        → IsProgramOf m origins interface.now.done program.now
         → IsAnswered m interface.now.done interface.now stimulus.now.reset stimulus.now.steady.now
         stimulus.now.offers.now stimulus.now.accepts.now stimulus.now.holds.now held memories.now
         values.new result }

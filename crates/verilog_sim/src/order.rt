@@ -32,17 +32,23 @@ pub(crate) struct Orders {
     pub(crate) feeding: Vec<Assign>,
 }
 
-/// Both orders of a module whose assignments stand each after those whose targets it reads, with
-/// those that feed this net.
-pub(crate) fn both_orders(alloc: Global, module: &Module, net: NetId) -> Result<Orders, NoMemory>
+/// Both orders of a module whose assignments stand each after those whose targets it reads, and
+/// whose nets have these origins, with those that feed this net.
+pub(crate) fn both_orders(
+    alloc: Global,
+    module: &Module,
+    origins: &[NetId],
+    net: NetId,
+) -> Result<Orders, NoMemory>
     requires runnable { IsRunnable module.now }
     requires ordered { IsOrderOf module.now module.now.assigns }
     requires ports { ArePortsIn module.now }
+    requires origins { length origins.now ≡ length module.now.nets }
     requires net { net < length module.now.nets }
-    ensures { IfOk result (λ o. AreOrders module.now net o.edge.items o.feeding.items) }
+    ensures { IfOk result (λ o. AreOrders module.now origins.now net o.edge.items o.feeding.items) }
 {
     let all = by_level(alloc, module, module.assigns.as_slice())?;
-    let seen = seen_nets(alloc, module)?;
+    let seen = seen_nets(alloc, module, origins)?;
     let one = one_net(alloc, module.nets.len(), net)?;
     Ok(Orders {
         edge: feeding(alloc, module, all.as_slice(), seen)?,
@@ -138,16 +144,30 @@ fn gather(
     Ok(order)
 }
 
-/// Marks the nets that are seen in an edge: those of ports, and those that updates read or write.
-fn seen_nets(alloc: Global, module: &Module) -> Result<Vec<bool>, NoMemory>
+/// Marks the nets that are seen in an edge: those that are their own origins, those of ports, and
+/// those that updates read or write.
+fn seen_nets(alloc: Global, module: &Module, origins: &[NetId]) -> Result<Vec<bool>, NoMemory>
     requires runnable { IsRunnable module.now }
     requires ports { ArePortsIn module.now }
-    ensures seen { IfOk result (λ marks. (n : ℕ) → IsSeen module.now n → is_marked marks.items n ≡ true) }
+    requires origins { length origins.now ≡ length module.now.nets }
+    ensures seen { IfOk result (λ marks. (n : ℕ) → IsSeen module.now origins.now n → is_marked marks.items n ≡ true) }
     ensures size { IfOk result (λ marks. length marks.items ≡ length module.now.nets) }
 {
-    let mut marks = vec![in alloc; false; module.nets.len()]?;
+    let mut marks = own_marks(alloc, origins)?;
     mark_ports(module.ports.as_slice(), marks.as_mut_slice());
     mark_updates(module.updates.as_slice(), marks.as_mut_slice());
+    Ok(marks)
+}
+
+/// Marks the nets that are their own origins.
+fn own_marks(alloc: Global, origins: &[NetId]) -> Result<Vec<bool>, NoMemory>
+    ensures size { IfOk result (λ marks. length marks.items ≡ length origins.now) }
+    ensures own { IfOk result (λ marks. (n : ℕ) → n < length origins.now → slice_index origins.now n ≡ n → is_marked marks.items n ≡ true) }
+{
+    let mut marks = Vec::new(alloc);
+    for net in 0..origins.len() {
+        marks.push(origins[net].index() == net)?;
+    }
     Ok(marks)
 }
 

@@ -1,5 +1,5 @@
 // Nets that are copies of others are read where they come from.
-ghost use Rattle.std.specs.Prelude.{◌≡◌, ℕ, ◌^◌, ◌<◌, ◌≤◌, List, length, map, Some, slice_get, slice_index, IfOk, OnOk};
+ghost use Rattle.std.specs.Prelude.{◌≡◌, ℕ, ◌^◌, ◌<◌, ◌≤◌, List, length, map, Some, slice_get, slice_index, IfOk};
 ghost use Rattle.rtl_ir.specs.declared.design.Update.{Update};
 ghost use Rattle.rtl_ir.specs.Operands.{IsRead, target_net};
 ghost use Rattle.verilog_sim.specs.Feeding.{AreNetsBelow};
@@ -21,11 +21,12 @@ struct Traced {
 }
 
 /// Gives a module other assignments and updates, by which it does the same, and reads each copy of a
-/// net where it comes from. The assignments stand each after those whose targets it reads.
-pub(crate) fn read_at_origins(alloc: Global, module: &mut Module) -> Result<(), NoMemory>
+/// net where it comes from. The assignments stand each after those whose targets it reads. The
+/// answer is the origin of each net.
+pub(crate) fn read_at_origins(alloc: Global, module: &mut Module) -> Result<Vec<NetId>, NoMemory>
     requires runnable { IsRunnable module.old }
     requires small { length module.old.nets ≤ 2 ^ 32 }
-    ensures { OnOk result (DoesSame module.old module.new) }
+    ensures { IfOk result (λ os. DoesSame module.old module.new os.items) }
 {
     let order = in_order(alloc, module)?;
     let traced = trace(alloc, module, order.as_slice())?;
@@ -33,7 +34,7 @@ pub(crate) fn read_at_origins(alloc: Global, module: &mut Module) -> Result<(), 
     let updates = updates_at(alloc, module.updates.as_slice(), origins)?;
     module.assigns = List::from_vec(traced.assigns);
     module.updates = List::from_vec(updates);
-    Ok(())
+    Ok(traced.origins)
 }
 
 /// The assignments of a module, in this order, read at origins.

@@ -22,7 +22,7 @@ use crate::stimulus::Stimulus;
 use crate::values::Values;
 use crate::{Event, Offer, SimError};
 use mx_base::List;
-use rtl_ir::{Design, Interface, Update};
+use rtl_ir::{Design, Interface, NetId, Update};
 use std::alloc::Global;
 use std::marker::Model;
 
@@ -32,8 +32,8 @@ const MOST_CELLS: u64 = 1 << 26;
 /// A simulator of an accepted design.
 ///
 /// A contract sees the design, the nets of its outer ports, the values of the ports that keep one
-/// value, and what the registers and memories hold, those of the top module and of each instance by
-/// its path. All values are unsigned and two-valued.
+/// value, what the registers and memories hold, and the values of all nets in the last edge, those
+/// of the top module and of each instance by its path. All values are unsigned and two-valued.
 #[derive(Drop)]
 pub struct Sim<'a> {
     design: &'a Design,
@@ -41,10 +41,13 @@ pub struct Sim<'a> {
     program: Program,
     updates: List<Update>,
     scopes: Vec<Scope>,
+    origins: Vec<NetId>,
     steady: Vec<u128>,
-    held: Vec<u128>,
     memories: Vec<Memory>,
+    /// The values of the last edge, each at the origin of its net.
     values: Values,
+    /// The words that registers hold, from which `done` goes on.
+    ahead: Values,
 }
 
 impl<'a> Model for Sim<'a> {
@@ -53,18 +56,22 @@ impl<'a> Model for Sim<'a> {
 
     ghost Value = { State };
 
-    ghost use Rattle.verilog_sim.specs.PartLists.{parts_of};
+    ghost use Rattle.verilog_sim.specs.Origins.{at_origins};
+    ghost use Rattle.verilog_sim.specs.PartLists.{parts_of, values_of};
     ghost use Rattle.rtl_ir.specs.Interfaces.{nets_of};
     ghost use Rattle.verilog_sim.specs.Simulates.{Simulates};
+    ghost use Rattle.verilog_sim.specs.Updates.{held_by};
 
     ghost view = { λ a. record {
       design = a.design.now;
       outer = nets_of a.interface.now;
       steady = a.steady.items;
-      parts = parts_of (top_of a.design.now) a.scopes.items a.held.items a.memories.items;
+      parts = parts_of (top_of a.design.now) a.scopes.items (held_by a.updates a.ahead) a.memories.items;
+      last = values_of (top_of a.design.now) a.scopes.items (at_origins a.origins.items a.values);
     } };
 
-    ghost invariant = { λ a. Simulates a.design.now a.interface.now a.program a.updates a.scopes.items a.steady.items a.held.items a.values a.memories.items };
+    ghost invariant = { λ a. Simulates a.design.now a.interface.now a.program a.updates a.scopes.items
+        a.origins.items a.steady.items a.ahead a.values a.memories.items };
 }
 
 impl<'a> Sim<'a> {
@@ -75,7 +82,7 @@ impl<'a> Sim<'a> {
     /// words, those of all its instances counted, and there is a simulator only where it has no more.
     /// `NoMemory` comes where there is no memory to count them, 8 bytes for a module, or for what the
     /// simulator holds: 16 bytes for a memory word, and some more for a net and for what gives it its
-    /// value.
+    /// value. Nothing is promised of the values of a last edge before the first one.
     pub fn new(
         alloc: Global,
         design: &'a Design,
@@ -107,10 +114,11 @@ impl<'a> Sim<'a> {
             program: prepared.program,
             updates: prepared.updates,
             scopes: flat.scopes,
+            origins: prepared.origins,
             steady: start.steady,
-            held: start.held,
             memories: start.memories,
             values: start.values,
+            ahead: start.ahead,
         })
     }
 
@@ -128,7 +136,7 @@ impl<'a> Sim<'a> {
     /// value.
     pub fn reset(&mut self)
         ensures edge { (m : Module) → top_of self.old.design ≡ Some m → IsResetEdge m self.old self.new }
-        ensures kept { self.new ≡ record self.old { parts = self.new.parts } }
+        ensures kept { self.new ≡ record self.old { parts = self.new.parts; last = self.new.last } }
     {
         let stimulus = Stimulus {
             reset: true,
@@ -142,13 +150,14 @@ impl<'a> Sim<'a> {
             self.interface,
             &self.program,
             &stimulus,
-            self.held.as_mut_slice(),
+            &mut self.ahead,
             self.memories.as_mut_slice(),
             &mut self.values,
         );
     }
 
-    /// Whether the port done is 1 while all inputs are 0, but for the ports that keep one value.
+    /// Whether the port done is 1 while all inputs are 0, but for the ports that keep one value. The
+    /// values of the last edge stay.
     pub fn done(&mut self) -> bool
         ensures done { (m : Module) → top_of self.old.design ≡ Some m → IsDone m self.old result }
         ensures kept { self.new ≡ self.old }
@@ -165,7 +174,7 @@ impl<'a> Sim<'a> {
             &self.program,
             &stimulus,
             self.memories.as_slice(),
-            &mut self.values,
+            &mut self.ahead,
         )
     }
 
@@ -181,7 +190,7 @@ impl<'a> Sim<'a> {
         requires words { (m : Module) → top_of self.old.design ≡ Some m → AreOffered m self.old.outer offers.now }
         requires events { length events.old ≡ length self.old.outer.inputs + length self.old.outer.outputs }
         ensures edge { (m : Module) → top_of self.old.design ≡ Some m → IsEdge m offers.now accepts.now holds.now self.old self.new events.new }
-        ensures kept { self.new ≡ record self.old { parts = self.new.parts } }
+        ensures kept { self.new ≡ record self.old { parts = self.new.parts; last = self.new.last } }
     {
         let stimulus = Stimulus {
             reset: false,
@@ -195,7 +204,7 @@ impl<'a> Sim<'a> {
             self.interface,
             &self.program,
             &stimulus,
-            self.held.as_mut_slice(),
+            &mut self.ahead,
             self.memories.as_mut_slice(),
             &mut self.values,
         );

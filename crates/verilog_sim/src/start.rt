@@ -5,37 +5,39 @@ ghost use Rattle.rtl_ir.specs.declared.design.Net.{Net};
 ghost use Rattle.rtl_ir.specs.declared.design.Mem.{Mem};
 ghost use Rattle.rtl_ir.specs.declared.design.Assign.{Assign};
 ghost use Rattle.verilog_sim.specs.Runnable.{IsRunnable, IsSizedNet, IsSizedMem};
-ghost use Rattle.verilog_sim.specs.Start.{held_at_start, words_at_start};
-ghost use Rattle.verilog_sim.specs.First.{AreFirst, AreLiteralsSet};
+ghost use Rattle.verilog_sim.specs.Start.{AreFilled, words_at_start};
+ghost use Rattle.verilog_sim.specs.First.{AreLiteralsSet};
 ghost use Rattle.verilog_sim.specs.Feeding.{ArePortsIn};
-ghost use Rattle.verilog_sim.specs.Simulates.{AreKept, IsPrepared};
+ghost use Rattle.verilog_sim.specs.Simulates.{AreKept, AreValues, IsPrepared};
+ghost use Rattle.verilog_sim.specs.Updates.{held_by};
 
-use crate::clock::load;
 use crate::compile::{Program, program_of};
 use crate::instruction::reduce;
 use crate::memory::Memory;
 use crate::origin::read_at_origins;
 use crate::values::Values;
 use mx_base::{List, NoMemory};
-use rtl_ir::{Assign, Expr, Interface, Module, Update};
+use rtl_ir::{Assign, Expr, Interface, Module, NetId, Update};
 use std::alloc::Global;
 use std::mem;
 
-/// The values of the ports that keep one value, what the registers and memories hold, and the
-/// values of all nets.
+/// The values of the ports that keep one value, the words of memories, the values of all nets, and
+/// ahead of them those that registers hold.
 #[derive(Drop)]
 pub(crate) struct Start {
     pub(crate) steady: Vec<u128>,
-    pub(crate) held: Vec<u128>,
     pub(crate) memories: Vec<Memory>,
     pub(crate) values: Values,
+    pub(crate) ahead: Values,
 }
 
-/// The updates and the program of a module, and what its simulator holds before the first call.
+/// The updates and the program of a module, the origins of its nets, and what its simulator holds
+/// before the first call.
 #[derive(Drop)]
 pub(crate) struct Prepared {
     pub(crate) updates: List<Update>,
     pub(crate) program: Program,
+    pub(crate) origins: Vec<NetId>,
     pub(crate) start: Start,
 }
 
@@ -52,11 +54,11 @@ pub(crate) fn prepare(
     requires ports { ArePortsIn «module» }
     requires net { interface.now.done < length «module».nets }
     ensures prepared { IfOk result (λ p. IsPrepared «module» interface.now p.program p.updates
-        p.start.steady.items p.start.held.items p.start.values p.start.memories.items) }
+        p.origins.items p.start.steady.items p.start.ahead p.start.values p.start.memories.items) }
     ensures steady { IfOk result (λ p. p.start.steady.items
         ≡ map (λ n. 0) (nets_of interface.now).steady) }
-    ensures held { IfOk result (λ p. p.start.held.items
-        ≡ map (held_at_start fill) «module».nets) }
+    ensures held { IfOk result (λ p. AreFilled fill «module».nets
+        (held_by p.updates p.start.ahead)) }
     ensures memories { IfOk result (λ p. p.start.memories.items
         ≡ map (words_at_start fill) «module».mems) }
 {
@@ -76,21 +78,22 @@ fn take_prepared(
     requires ports { ArePortsIn module.old }
     requires net { interface.now.done < length module.old.nets }
     ensures prepared { IfOk result (λ p. IsPrepared module.old interface.now p.program p.updates
-        p.start.steady.items p.start.held.items p.start.values p.start.memories.items) }
+        p.origins.items p.start.steady.items p.start.ahead p.start.values p.start.memories.items) }
     ensures steady { IfOk result (λ p. p.start.steady.items
         ≡ map (λ n. 0) (nets_of interface.now).steady) }
-    ensures held { IfOk result (λ p. p.start.held.items
-        ≡ map (held_at_start fill) module.old.nets) }
+    ensures held { IfOk result (λ p. AreFilled fill module.old.nets
+        (held_by p.updates p.start.ahead)) }
     ensures memories { IfOk result (λ p. p.start.memories.items
         ≡ map (words_at_start fill) module.old.mems) }
 {
-    read_at_origins(alloc, module)?;
-    let program = program_of(alloc, module, interface.done)?;
+    let origins = read_at_origins(alloc, module)?;
+    let program = program_of(alloc, module, origins.as_slice(), interface.done)?;
     let start = start_of(alloc, module, interface, fill)?;
     let updates = mem::replace(&mut module.updates, List::new(alloc));
     Ok(Prepared {
         updates,
         program,
+        origins,
         start,
     })
 }
@@ -103,38 +106,46 @@ fn start_of(
     interface: &Interface,
     fill: u128,
 ) -> Result<Start, NoMemory>
-    requires { IsRunnable module.now }
+    requires runnable { IsRunnable module.now }
+    requires small { length module.now.nets ≤ 2 ^ 32 }
     ensures steady { IfOk result (λ s. s.steady.items
         ≡ map (λ n. 0) (nets_of interface.now).steady) }
-    ensures held { IfOk result (λ s. s.held.items ≡ map (held_at_start fill) module.now.nets) }
+    ensures held { IfOk result (λ s. AreFilled fill module.now.nets
+        (held_by module.now.updates s.ahead)) }
     ensures memories { IfOk result (λ s. s.memories.items
         ≡ map (words_at_start fill) module.now.mems) }
-    ensures kept { IfOk result (λ s. AreKept module.now interface.now s.steady.items s.held.items
-        s.values s.memories.items) }
+    ensures kept { IfOk result (λ s. AreKept module.now interface.now s.steady.items
+        (held_by module.now.updates s.ahead) s.ahead s.memories.items) }
+    ensures first { IfOk result (λ s. AreValues module.now s.values s.memories.items) }
 {
     let kernels = interface.kernels.as_slice().len();
     let scalars = interface.scalars.as_slice().len();
     let steady = vec![in alloc; 0; kernels + scalars]?;
-    let held = registers(alloc, module, fill)?;
     let memories = memories(alloc, module, fill)?;
-    let values = first_values(alloc, module, held.as_slice())?;
+    let mut ahead = registers(alloc, module, fill)?;
+    let mut values = Values::zeros(alloc, module.nets.len())?;
+    set_literals(module.assigns.as_slice(), &mut ahead);
+    set_literals(module.assigns.as_slice(), &mut values);
     Ok(Start {
         steady,
-        held,
         memories,
         values,
+        ahead,
     })
 }
 
 /// The low bits of a word in each register, and 0 at each other net.
-fn registers(alloc: Global, module: &Module, fill: u128) -> Result<Vec<u128>, NoMemory>
-    requires { (k : ℕ) (n : Net) → slice_get module.now.nets k ≡ Some n → IsSizedNet n }
-    ensures { IfOk result (λ held. held.items ≡ map (held_at_start fill) module.now.nets) }
+fn registers(alloc: Global, module: &Module, fill: u128) -> Result<Values, NoMemory>
+    requires sized { (k : ℕ) (n : Net) → slice_get module.now.nets k ≡ Some n → IsSizedNet n }
+    requires small { length module.now.nets ≤ 2 ^ 32 }
+    ensures size { IfOk result (λ held. length held ≡ length module.now.nets) }
+    ensures filled { IfOk result (λ held. AreFilled fill module.now.nets held) }
 {
-    let mut held = Vec::new(alloc);
-    for net in module.nets.as_slice() {
-        let word = reduce(fill, net.width);
-        held.push(if net.reg { word } else { 0 })?;
+    let mut held = Values::zeros(alloc, module.nets.len())?;
+    for (k, net) in module.nets.as_slice().iter().enumerate() {
+        if net.reg {
+            held.set(NetId::new(k as u32), reduce(fill, net.width));
+        }
     }
     Ok(held)
 }
@@ -150,19 +161,6 @@ fn memories(alloc: Global, module: &Module, fill: u128) -> Result<Vec<Memory>, N
         memories.push(Memory::new(alloc, word, memory.depth)?)?;
     }
     Ok(memories)
-}
-
-/// The values of nets before the first edge: the words of registers and of literals, and 0 at all
-/// others.
-fn first_values(alloc: Global, module: &Module, held: &[u128]) -> Result<Values, NoMemory>
-    requires runnable { IsRunnable module.now }
-    requires held { length held.now ≡ length module.now.nets }
-    ensures { IfOk result (λ values. AreFirst module.now held.now values) }
-{
-    let mut values = Values::zeros(alloc, module.nets.len())?;
-    set_literals(module.assigns.as_slice(), &mut values);
-    load(module.updates.as_slice(), false, held, &mut values);
-    Ok(values)
 }
 
 /// Gives each net that is assigned a literal its word.

@@ -8,12 +8,12 @@ use Rattle.verilog_sim.proofs.evaluate.is_done.Goals as goal
 
 pub evaluate-requires : goal.evaluate-requires
 evaluate-requires c =
-    let p = c.requires.4 in (
+    let p = c.requires.5 in (
       c.requires.0,
       p.feeding,
-      c.requires.1,
       c.requires.2,
       c.requires.3,
+      c.requires.4,
       part_of_feeding c.requires.0 p.order p.feeding
           _ p.ordered p.feeds,
       instructions_at c.requires.0 p.feeding (instructions_of_all c.args.program.now.feeding.items)
@@ -22,10 +22,9 @@ evaluate-requires c =
 
 pub get-requires : goal.get-requires
 get-requires c =
-    let p = c.requires.4 in
-    let r = c.requires.3 in
-    let g = c.args.stimulus.now in
-    let by = c.evaluate.ensures c.requires.0 p.feeding c.requires.1 c.requires.2 r
+    let p = c.requires.5 in
+    let r = c.requires.4 in
+    let by = c.evaluate.ensures c.requires.0 p.feeding c.requires.2 c.requires.3 r
     (part_of_feeding c.requires.0 p.order p.feeding _ p.ordered p.feeds)
     (instructions_at c.requires.0 p.feeding (instructions_of_all c.args.program.now.feeding.items)
     (instructions_of_all c.as_slice-batches.result.now) (ap instructions_of_all c.as_slice-batches.ensures.value)
@@ -34,7 +33,7 @@ get-requires c =
     omega (arith, lt, by.settles.nets)
 
 pub returns : goal.returns
-returns c = λ m updates held r p.
+returns c = λ m os updates held r p.
     let g = c.args.stimulus.now in
     let part = part_of_feeding m p.order p.feeding _ p.ordered p.feeds in
     let by = c.evaluate.ensures m p.feeding updates held r part

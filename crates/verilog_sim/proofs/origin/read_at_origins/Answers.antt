@@ -25,6 +25,6 @@ returns c =
     c.as_slice-origins.ensures.value ∙ ap (map (update_at os)) c.as_slice-2.ensures in
     record {
       lists = refl;
-      stand = subst (λ (l : List Assign). StandFor m l c.from_vec-2.result) (sym c.from_vec.ensures)
-          (subst (StandFor m new) (sym (c.from_vec-2.ensures ∙ updates)) (stand_for m order os new c.requires.runnable c.in_ok-order.ensures p));
+      stand = subst (λ (l : List Assign). StandFor m os l c.from_vec-2.result) (sym c.from_vec.ensures)
+          (subst (StandFor m os new) (sym (c.from_vec-2.ensures ∙ updates)) (stand_for m order os new c.requires.runnable c.in_ok-order.ensures p));
     }

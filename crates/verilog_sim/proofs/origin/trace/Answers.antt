@@ -5,7 +5,7 @@ use Rattle.rtl_ir.specs.declared.design.Assign.{Assign}
 use Rattle.verilog_sim.specs.Origins.{assign_at, with_origin, AreAtOrigins}
 use Rattle.verilog_sim.proofs.Edges.{back}
 use Rattle.verilog_sim.proofs.Gathering.{get_last}
-use Rattle.verilog_sim.proofs.Origins.{own_at_first, one_more_direct, origin_noted}
+use Rattle.verilog_sim.proofs.Origins.{own_at_first, one_more_direct, source_own, origin_noted}
 use Rattle.verilog_sim.proofs.origin.trace.Goals as goal
 
 pub assign_at-direct-requires : goal.assign_at-direct-requires
@@ -46,7 +46,9 @@ loop-assign-preserved c =
     let from = c.requires.order.from i a at in
     let f = c.requires.runnable.assigns from.0 a from.1 in
     let one = one_more_direct m order o os old i c.loop-assign.invariant a at f in
-    let noted = origin_noted m order o os (old ++ assign_at os a ∷ []) (i + 1) (length old) (assign_at os a) (get_last old (assign_at os a)) one in
+    let noted = origin_noted m order o os (old ++ assign_at os a ∷ []) (i + 1) (length old) (assign_at os a)
+    (get_last old (assign_at os a)) (source_own m order os old i c.loop-assign.invariant a f)
+    (λ n lt e. c.loop-assign.invariant.free n i a lt (omega arith) at e) one in
     let direct : c.assign_at-direct.result ≡ assign_at os a = c.assign_at-direct.ensures ∙ ap (λ (l : List ℕ). assign_at l a) c.as_slice.ensures.value in
     let origins : c.note_origin.new.origins ≡ with_origin (assign_at os a).expr (assign_at os a).target os =
     c.note_origin.ensures ∙ ap

@@ -1,34 +1,31 @@
-use Rattle.std.proofs.Common.{◌≡◌, ℕ, ◌<◌, List, Some, length, get_or, refl, subst}
-use Rattle.std.specs.Prelude.{slice_get}
-use Rattle.std.proofs.lemmas.Option.{slice_get_read}
-use Rattle.rtl_ir.specs.declared.design.Net.{Net}
-use Rattle.verilog_sim.specs.Runnable.{IsSizedNet}
+use Rattle.std.proofs.Common.{◌≡◌, ◌∙◌, ◌%◌, ◌^◌, ℕ, length, set, cond, inl, inr, sym, ap, arith}
+use Rattle.std.proofs.lemmas.List.{length-set}
 use Rattle.verilog_sim.specs.Start.{held_at_start}
-use Rattle.verilog_sim.proofs.Pushing.{mapped_more}
+use Rattle.verilog_sim.proofs.Starting.{filled_more}
 use Rattle.verilog_sim.proofs.start.registers.Goals.{then-net, else-net}
 use Rattle.verilog_sim.proofs.start.registers.Goals as goal
 
-formed_at : (items nets : List Net) (k : ℕ) (n : Net) → ((j : ℕ) (x : Net) → slice_get nets j ≡ Some x → IsSizedNet x) → items ≡ nets → k < length items → n ≡ get_or items k n → IsSizedNet n
-formed_at items nets k n formed e lt is = formed k n (subst (λ (l : List Net). slice_get l k ≡ Some n) e (slice_get_read items (length items) k n refl lt is))
-
-pub reduce-word-requires-clause-some : goal.reduce-word-requires-clause-some
-reduce-word-requires-clause-some c =
-    (formed_at c.as_slice-net-items.result.now c.args.module.now.nets c.loop-net.net-index
-    c.net-item.result c.requires c.as_slice-net-items.ensures c.loop-net-test.true
-    c.net-item.is).some
-
-pub reduce-word-requires-clause-at_most : goal.reduce-word-requires-clause-at_most
-reduce-word-requires-clause-at_most c =
-    (formed_at c.as_slice-net-items.result.now c.args.module.now.nets c.loop-net.net-index
-    c.net-item.result c.requires c.as_slice-net-items.ensures c.loop-net-test.true
-    c.net-item.is).at_most
-
-pub loop-net-preserved : goal.loop-net-preserved
-loop-net-preserved c =
-    let n = c.net-item.result in
-    let made : c.if-net.push ≡ held_at_start c.args.fill n = elim c.if-net.branch [
-      | then-net w ↦ rw (w.push-is, w.if-net.true) c.reduce-word.ensures
-      | else-net w ↦ rw (w.push-is, w.if-net.false) refl
-    ] in
-    mapped_more (held_at_start c.args.fill) c.as_slice-net-items.result.now c.loop-net.net-index n c.loop-net.held.items
-    c.push.new.self.items c.if-net.push c.loop-net-test.true c.net-item.is c.loop-net.invariant c.in_ok-push.ensures.items made
+pub loop-k-preserved : goal.loop-k-preserved
+loop-k-preserved c =
+    let fill = c.args.fill in
+    let items = c.as_slice-net-items.result.now in
+    let k = c.loop-k.k in
+    let x = c.net-item.result in
+    let size : length c.loop-k.held ≡ length items = c.loop-k.invariant.0 ∙ sym (ap length c.as_slice-net-items.ensures) in
+    elim c.if-net.branch [
+      | then-net w ↦ (
+          let number : w.new.result ≡ k = omega (arith, w.new.ensures, c.loop-k-test.true, c.requires.small, ap length c.as_slice-net-items.ensures) in
+          let word : w.reduce.result ≡ held_at_start fill x = w.reduce.ensures
+          ∙ sym (ap (λ b. cond b (fill % 2 ^ x.width) 0) w.if-net.true) in
+          let now : c.if-net.held ≡ set c.loop-k.held k (held_at_start fill x) = w.held-is ∙ w.set.ensures
+          ∙ ap (λ i. set c.loop-k.held i w.reduce.result) number ∙ ap (set c.loop-k.held k) word in (
+            ap length now ∙ length-set c.loop-k.held k (held_at_start fill x) ∙ c.loop-k.invariant.0,
+            filled_more fill items k x c.loop-k.held c.if-net.held c.loop-k-test.true c.net-item.is size
+                c.loop-k.invariant.1 (inl now),
+          ))
+      | else-net w ↦ (
+        ap length w.held-is ∙ c.loop-k.invariant.0,
+        filled_more fill items k x c.loop-k.held c.if-net.held c.loop-k-test.true c.net-item.is size c.loop-k.invariant.1
+            (inr (w.held-is, ap (λ b. cond b (fill % 2 ^ x.width) 0) w.if-net.false)),
+      )
+    ]

@@ -1,25 +1,29 @@
-use Rattle.std.proofs.Common.{rules, ◌≡◌, ◌+◌, ℕ, List, replicate, map, length, ap, sym, subst, ◌∙◌, arith}
-use Rattle.std.proofs.lemmas.List.{length-append, length-map}
+use Rattle.std.proofs.Common.{rules, ◌≡◌, ◌+◌, ℕ, List, Some, replicate, map, length, ap, sym, subst, ◌∙◌, arith}
+use Rattle.std.specs.Prelude.{slice_get}
+use Rattle.std.proofs.lemmas.List.{length-append, length-map, length-replicate}
+use Rattle.rtl_ir.specs.declared.design.Assign.{Assign}
 use Rattle.rtl_ir.specs.declared.interface.KernelPorts.{KernelPorts}
 use Rattle.rtl_ir.specs.declared.interface.ScalarPort.{ScalarPort}
 use Rattle.rtl_ir.specs.Interfaces.{nets_of}
-use Rattle.verilog_sim.specs.First.{AreFirst}
-use Rattle.verilog_sim.specs.Start.{held_at_start}
-use Rattle.verilog_sim.proofs.Starting.{start_kept, map_zero}
+use Rattle.verilog_sim.specs.First.{AreLiteralsSet}
+use Rattle.verilog_sim.proofs.Starting.{start_held, start_kept, start_values, map_zero}
 use Rattle.verilog_sim.proofs.start.start_of.Goals as goal
 
-pub registers-requires : goal.registers-requires
-registers-requires c = c.requires.nets
-
-pub first_values-requires-clause-runnable : goal.first_values-requires-clause-runnable
-first_values-requires-clause-runnable c = c.requires
-
-pub first_values-requires-clause-held : goal.first_values-requires-clause-held
-first_values-requires-clause-held c = ap length c.as_slice.ensures.value ∙ ap length c.in_ok-held.ensures
-    ∙ length-map c.args.module.now.nets (held_at_start c.args.fill)
+pub registers-requires-clause-sized : goal.registers-requires-clause-sized
+registers-requires-clause-sized c = c.requires.runnable.nets
 
 pub memories-requires : goal.memories-requires
-memories-requires c = c.requires.mems
+memories-requires c = c.requires.runnable.mems
+
+pub set_literals-requires : goal.set_literals-requires
+set_literals-requires c = λ k a at.
+    let f = c.requires.runnable.assigns k a (subst (λ (l : List Assign). slice_get l k ≡ Some a) c.as_slice.ensures at) in
+    omega (arith, f.target, c.in_ok-ahead.ensures.size)
+
+pub set_literals-requires-2 : goal.set_literals-requires-2
+set_literals-requires-2 c = λ k a at.
+    let f = c.requires.runnable.assigns k a (subst (λ (l : List Assign). slice_get l k ≡ Some a) c.as_slice-2.ensures at) in
+    omega (arith, f.target, ap length c.in_ok-values.ensures, length-replicate {A = ℕ} c.len.result 0, c.len.ensures)
 
 pub returns-clause-steady : goal.returns-clause-steady
 returns-clause-steady c =
@@ -36,11 +40,30 @@ returns-clause-steady c =
     ) in
     steady ∙ ap (λ n. replicate n 0) size ∙ sym (map_zero (nets_of i).steady)
 
+pub returns-clause-held : goal.returns-clause-held
+returns-clause-held c =
+    let m = c.args.module.now in
+    start_held m c.args.fill c.in_ok-ahead.ahead c.set_literals.new.values c.requires.runnable c.in_ok-ahead.ensures.size
+    c.in_ok-ahead.ensures.filled
+    (subst (λ (l : List Assign). AreLiteralsSet l c.in_ok-ahead.ahead c.set_literals.new.values (length l))
+    c.as_slice.ensures c.set_literals.ensures)
+
 pub returns-clause-kept : goal.returns-clause-kept
 returns-clause-kept c =
     let i = c.args.interface.now in
+    let m = c.args.module.now in
     let steady : c.in_ok-steady.steady.items ≡ replicate (length i.kernels + length i.scalars) 0 = search rules in
-    start_kept c.args.module.now i c.args.fill c.in_ok-steady.steady.items c.in_ok-held.held.items c.in_ok-values.values
-    c.in_ok-memories.memories.items c.requires c.in_ok-held.ensures c.in_ok-memories.ensures
-    (subst (λ (l : List ℕ). AreFirst c.args.module.now l c.in_ok-values.values) c.as_slice.ensures.value c.in_ok-values.ensures)
-    steady
+    start_kept m c.args.fill c.in_ok-ahead.ahead c.set_literals.new.values c.requires.runnable c.in_ok-ahead.ensures.size
+    c.in_ok-ahead.ensures.filled
+    (subst (λ (l : List Assign). AreLiteralsSet l c.in_ok-ahead.ahead c.set_literals.new.values (length l))
+    c.as_slice.ensures c.set_literals.ensures)
+    i c.in_ok-steady.steady.items c.in_ok-memories.memories.items c.in_ok-memories.ensures steady
+
+pub returns-clause-first : goal.returns-clause-first
+returns-clause-first c =
+    let m = c.args.module.now in
+    start_values m c.args.fill c.in_ok-values.values c.set_literals-2.new.values c.in_ok-memories.memories.items c.requires.runnable
+    (c.in_ok-values.ensures ∙ ap (λ k. replicate k 0) c.len.ensures)
+    (subst (λ (l : List Assign). AreLiteralsSet l c.in_ok-values.values c.set_literals-2.new.values (length l))
+    c.as_slice-2.ensures c.set_literals-2.ensures)
+    c.in_ok-memories.ensures

@@ -13,6 +13,7 @@ use Rattle.verilog_sim.specs.PartLists.{parts_of}
 use Rattle.verilog_sim.specs.State.{held_at}
 use Rattle.verilog_sim.proofs.PartLists.{parts_say}
 use Rattle.verilog_sim.specs.Start.{IsFilled, filled}
+use Rattle.verilog_sim.specs.Updates.{held_by}
 use Rattle.verilog_sim.proofs.Starting.{contents_filled, part_filled, all_words}
 use Rattle.verilog_sim.proofs.Accepting.{runnable_of}
 use Rattle.verilog_sim.proofs.Whole.{placed_flat}
@@ -80,6 +81,7 @@ invariant_of-result c =
       program = made.program;
       has = is;
       kept = made.kept;
+      last = made.first;
     }
 
 pub returns-clause-outer : goal.returns-clause-outer
@@ -98,11 +100,11 @@ returns-clause-filled c = λ m e.
     let scopes = c.in_ok-flat.flat.scopes.items in
     let start = c.in_ok-prepared.prepared.start in
     let same : f.top ≡ m = (let g = f.is_top in cc) in
-    let at = parts_say (top_of c.args.design.now) scopes start.held.items start.memories.items
+    let at = parts_say (top_of c.args.design.now) scopes (held_by c.in_ok-prepared.prepared.updates start.ahead) start.memories.items
     ∙ contents_filled c.args.design.now c.requires.accepted scopes c.in_ok-flat.flat.«module» f c.args.fill
-    start.held.items start.memories.items c.in_ok-prepared.ensures.held c.in_ok-prepared.ensures.memories in
+    (held_by c.in_ok-prepared.prepared.updates start.ahead) start.memories.items c.in_ok-prepared.ensures.held c.in_ok-prepared.ensures.memories in
     subst (λ (x : Module). IsFilled x c.args.fill (held_at
-    (parts_of (top_of c.args.design.now) scopes start.held.items start.memories.items) [])) same
+    (parts_of (top_of c.args.design.now) scopes (held_by c.in_ok-prepared.prepared.updates start.ahead) start.memories.items) [])) same
     (subst (λ (u : AllContents). IsFilled f.top c.args.fill (u [])) (sym at) (part_filled f.top c.args.fill))
 
 pub returns-clause-start : goal.returns-clause-start
@@ -111,9 +113,9 @@ returns-clause-start c = λ m e.
     let scopes = c.in_ok-flat.flat.scopes.items in
     let start = c.in_ok-prepared.prepared.start in
     let same : f.top ≡ m = (let g = f.is_top in cc) in
-    parts_say (top_of c.args.design.now) scopes start.held.items start.memories.items
+    parts_say (top_of c.args.design.now) scopes (held_by c.in_ok-prepared.prepared.updates start.ahead) start.memories.items
     ∙ contents_filled c.args.design.now c.requires.accepted scopes c.in_ok-flat.flat.«module» f c.args.fill
-    start.held.items start.memories.items c.in_ok-prepared.ensures.held c.in_ok-prepared.ensures.memories
+    (held_by c.in_ok-prepared.prepared.updates start.ahead) start.memories.items c.in_ok-prepared.ensures.held c.in_ok-prepared.ensures.memories
     ∙ ap (λ x. filled c.args.design.now x c.args.fill) same
 
 pub returns-clause-words : goal.returns-clause-words
@@ -122,9 +124,9 @@ returns-clause-words c = λ m e.
     let scopes = c.in_ok-flat.flat.scopes.items in
     let start = c.in_ok-prepared.prepared.start in
     let same : f.top ≡ m = (let g = f.is_top in cc) in
-    let at = parts_say (top_of c.args.design.now) scopes start.held.items start.memories.items
+    let at = parts_say (top_of c.args.design.now) scopes (held_by c.in_ok-prepared.prepared.updates start.ahead) start.memories.items
     ∙ contents_filled c.args.design.now c.requires.accepted scopes c.in_ok-flat.flat.«module» f c.args.fill
-    start.held.items start.memories.items c.in_ok-prepared.ensures.held c.in_ok-prepared.ensures.memories in
+    (held_by c.in_ok-prepared.prepared.updates start.ahead) start.memories.items c.in_ok-prepared.ensures.held c.in_ok-prepared.ensures.memories in
     subst (λ (x : Module). AllHold c.args.design.now x (λ p. held_at
-    (parts_of (top_of c.args.design.now) scopes start.held.items start.memories.items) p)) same
+    (parts_of (top_of c.args.design.now) scopes (held_by c.in_ok-prepared.prepared.updates start.ahead) start.memories.items) p)) same
     (subst (AllHold c.args.design.now f.top) (sym at) (all_words c.args.design.now f.top c.args.fill))
