@@ -6,10 +6,12 @@ Runs `rt ci` (or the command that is given) and looks every fifth of a second at
 says on its command line which crate it is of and whether it is of the tests, and an edit is checked in a folder of
 its own. What an earlier run on the machine proved costs nothing here, so on a new machine the table is that of the
 gate from nothing. The table is written to the file behind `--table`, or after the run's own lines; the run's exit
-status is kept.
+status is kept. Behind `--most` stand the seconds that all may take together, and behind `--dearest` those that one edit may
+take in the mean of its crate: where the run passed and one of them is exceeded, that is said, and the status is 1.
 
-    bench/gate_cost.py [--table docs/GATE.md] [COMMAND ..]
+    bench/gate_cost.py [--table docs/GATE.md] [--most SECONDS] [--dearest SECONDS] [COMMAND ..]
 """
+import argparse
 import collections
 import os
 import pathlib
@@ -17,6 +19,7 @@ import subprocess
 import sys
 import time
 
+TOP = pathlib.Path(__file__).resolve().parent.parent
 TICKS = os.sysconf("SC_CLK_TCK")
 PAUSE = 0.2
 KINDS = ("proof", "tests", "edits")
@@ -103,19 +106,44 @@ def table(sums, wall):
     return HEAD.format(note=note) + "\n".join(lines) + "\n"
 
 
+def edits_of(crate):
+    """How many must-fail edits a crate has; at least one, so that it can be divided by."""
+    return max(1, len(list((TOP / "crates" / crate / "must-fail").glob("*.edit"))))
+
+
+def excesses(sums, most, dearest):
+    """What takes more than it may, line by line."""
+    whole = sum(sum(row.values()) for row in sums.values())
+    if most is not None and whole > most:
+        yield f"all takes {whole:.0f} processor seconds, and may take {most:.0f}"
+    for crate, row in sorted(sums.items()):
+        each = row["edits"] / edits_of(crate)
+        if dearest is not None and each > dearest:
+            yield f"an edit of {crate} takes {each:.0f} processor seconds, and may take {dearest:.0f}"
+
+
+def words_given():
+    parser = argparse.ArgumentParser(description="Processor seconds of the gate, crate by crate.")
+    parser.add_argument("--table", type=pathlib.Path)
+    parser.add_argument("--most", type=float)
+    parser.add_argument("--dearest", type=float)
+    parser.add_argument("command", nargs=argparse.REMAINDER)
+    return parser.parse_args()
+
+
 def main():
-    words = sys.argv[1:]
-    to = None
-    if words[:1] == ["--table"]:
-        to, words = words[1], words[2:]
+    given = words_given()
     begin = time.monotonic()
-    status, sums = measured(words or ["rt", "ci"])
+    status, sums = measured(given.command or ["rt", "ci"])
     text = table(sums, time.monotonic() - begin)
-    if to:
-        pathlib.Path(to).write_text(text)
+    if given.table:
+        given.table.write_text(text)
     else:
         print(text)
-    sys.exit(status)
+    over = list(excesses(sums, given.most, given.dearest))
+    for line in over:
+        print(line)
+    sys.exit(status or (1 if over else 0))
 
 
 if __name__ == "__main__":
