@@ -30,9 +30,9 @@ def listed(before, behind):
     return text[: text.index(behind)]
 
 
-RESERVED = set(listed("The words `", "` are no names").split()) | {"super"}
+RESERVED = set(listed("The words `", "` are reserved").split()) | {"super"}
 SIGNS = listed("The signs are `", "`.").split()
-LEVELS = [re.search(r"`(.*)`", part).group(1).split() for part in listed("the loosest first, are ", "; the prefixes").split(";")]
+LEVELS = [re.search(r"`(.*)`", part).group(1).split() for part in listed("the loosest first, are ", ". Tighter are").split(";")]
 PREFIXES = listed("the prefixes `", "`").split()
 
 
