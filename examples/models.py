@@ -6,6 +6,7 @@ schedules, and nothing is read from the sources. Chance is seeded, so each run w
 
     examples/models.py     writes NAME/PORT.txt and NAME/PORT.expected.txt
 """
+import math
 import pathlib
 import random
 
@@ -15,6 +16,7 @@ PLATE_WIDE, PLATE_HIGH, STEPS = 48, 36, 8
 DEGREE = 2**15  # parts of a degree
 TAPS = [-71, -26, 177, 774, 1876, 3329, 4731, 5594]
 SCALE, LEAST, MOST = 10000, -3000, 3000
+LIMIT = 11  # of the counter of methods
 
 
 def walk(chance, start, count, step, pull=0):
@@ -192,8 +194,55 @@ def crossing_out(words):
     return {"at": [price[tick] for tick in ticks], "tick": ticks}
 
 
+# methods to copy
+
+
+def methods_in():
+    chance = random.Random(44)
+    small = lambda: chance.choice([chance.randrange(-300, 301), chance.randrange(-(2**15), 2**15)])
+    count = 64
+    return {
+        "a": [small() for _ in range(count)],
+        "b": [small() for _ in range(count)],
+        "u": [chance.randrange(2**16) for _ in range(count)],
+        "by": [chance.randrange(16) for _ in range(count)],
+    }
+
+
+def held_words(u):
+    """The word of the last tick whose place in its eight is 2, and 0 from one whose place is 5 on."""
+    kept, words = 0, []
+    for tick, word in enumerate(u):
+        kept = {2: word, 5: 0}.get(tick % 8, kept)
+        words.append(kept)
+    return words
+
+
+def methods_out(words):
+    a, b, u, by = (words[name] for name in ("a", "b", "u", "by"))
+    ticks = range(len(u))
+    return {
+        "min": [min(pair) for pair in zip(a, b)],
+        "max": [max(pair) for pair in zip(a, b)],
+        "abs": [abs(number) for number in a],
+        "saturated": [max(-128, min(127, number)) for number in a],
+        "slice": [word // 16 % 256 for word in u],
+        "joined": [word % 256 * 256 + word // 256 for word in u],
+        "modulo": [word % 32 for word in u],
+        "shifted": [word // 2**count for word, count in zip(u, by)],
+        "root": [math.isqrt(word) for word in u],
+        "window": [sum(u[max(0, tick - 4) : tick + 1]) for tick in ticks],
+        "total": [sum(u[tick - tick % 8 : tick + 1]) for tick in ticks],
+        "held": held_words(u),
+        "counted": [tick % LIMIT for tick in ticks],
+        "not": [int(tick % 8 != 0) for tick in ticks],
+    }
+
+
 # files: the example, its words, its model, and the width of each port's words
 
+METHODS_WIDTHS = dict.fromkeys(["a", "b", "u", "min", "max", "abs", "joined", "modulo", "shifted", "window", "total", "held"], 16)
+METHODS_WIDTHS |= {"by": 4, "saturated": 8, "slice": 8, "root": 8, "counted": 8, "not": 1}
 EXAMPLES = [
     ("average", average_in, average_out, {"price": 16, "mean": 16}),
     ("fir", fir_in, fir_out, {"x": 16, "y": 16}),
@@ -202,6 +251,7 @@ EXAMPLES = [
     ("maximum", maximum_in, maximum_out, {"price": 16, "greatest": 16, "since": 40}),
     ("imbalance", imbalance_in, imbalance_out, {"isAsk": 1, "bid": 16, "ask": 16, "imbalance": 32, "tick": 40, "signal": 32}),
     ("crossing", crossing_in, crossing_out, {"price": 16, "at": 16, "tick": 40}),
+    ("methods", methods_in, methods_out, METHODS_WIDTHS),
 ]
 
 
