@@ -155,6 +155,44 @@ def crossing():
     series.save("crossing/crossing.svg")
 
 
+def biquad():
+    series = Series(240)
+    for name, port, color in (("x, before the filter", "x", BEFORE), ("y, behind it", "y.expected", AFTER)):
+        numbers = [number / models.UNIT for number in numbers_of(f"biquad/{port}.txt", 24)]
+        series.panel([(name, color)], [-2, 3])
+        series.line(numbers, color)
+    series.save("biquad/biquad.svg")
+
+
+def roles_of(data):
+    """What each byte of a stream of packets is, by its color."""
+    left, wanted, roles = None, False, []
+    for byte in data:
+        if left is None:
+            left, wanted = "size", byte == models.KIND
+            roles.append(MARK if wanted else RULE)
+        elif left == "size":
+            left = byte or None
+            roles.append(INK if wanted else RULE)
+        else:
+            left = left - 1 or None
+            roles.append(AFTER if wanted else "#eaeef2")
+    return roles
+
+
+def packets():
+    """The bytes that come in, in rows: kinds and sizes of wanted packets, their payloads, and what is passed over."""
+    roles, across, size = roles_of(numbers_of("packets/data.txt")), 38, 17
+    series = Series(1)
+    for x, (name, color) in zip((0, 130, 230, 340), (("wanted kind", MARK), ("size", INK), ("payload", AFTER), ("passed over", GREY))):
+        series.text(LEFT - 40 + x, 16, name, color)
+    for place, color in enumerate(roles):
+        x, y = LEFT - 40 + place % across * size, HEAD + place // across * size
+        series.lines.append(f'<rect x="{x}" y="{y}" width="{size - 2}" height="{size - 2}" fill="{color}"/>')
+    series.top = HEAD + -(-len(roles) // across) * size
+    series.save("packets/packets.svg")
+
+
 # pictures
 
 
@@ -181,7 +219,20 @@ def picture(name, numbers, wide, most, colors, scale):
     (HERE / name).write_bytes(b"\x89PNG\r\n\x1a\n" + b"".join(chunk(*part) for part in parts))
 
 
+def colored(name, points, wide, scale):
+    """Writes a PNG of points of 24 bits, the red in the low ones, in which each point is a square."""
+    lines = b""
+    for start in range(0, len(points), wide):
+        line = b"".join(point.to_bytes(3, "little") * scale for point in points[start : start + wide])
+        lines += (b"\0" + line) * scale
+    size = struct.pack(">II5B", wide * scale, len(points) // wide * scale, 8, 2, 0, 0, 0)
+    parts = [(b"IHDR", size), (b"IDAT", zlib.compress(lines, 9)), (b"IEND", b"")]
+    (HERE / name).write_bytes(b"\x89PNG\r\n\x1a\n" + b"".join(chunk(*part) for part in parts))
+
+
 def pictures():
+    colored("sharpen/before.png", numbers_of("sharpen/x.txt"), models.WIDE, 5)
+    colored("sharpen/after.png", numbers_of("sharpen/y.expected.txt"), models.WIDE, 5)
     sobel = (models.WIDE, 255, GREYS, 5)
     picture("sobel/before.png", numbers_of("sobel/x.txt"), *sobel)
     picture("sobel/after.png", numbers_of("sobel/y.expected.txt"), *sobel)
@@ -191,7 +242,7 @@ def pictures():
 
 
 def main():
-    for draw in (average, fir, maximum, imbalance, crossing, pictures):
+    for draw in (average, fir, maximum, imbalance, crossing, biquad, packets, pictures):
         draw()
     for path in sorted([*HERE.glob("*/*.svg"), *HERE.glob("*/*.png")]):
         print(f"{path.relative_to(HERE)}: {path.stat().st_size} bytes")

@@ -17,6 +17,8 @@ DEGREE = 2**15  # parts of a degree
 TAPS = [-71, -26, 177, 774, 1876, 3329, 4731, 5594]
 SCALE, LEAST, MOST = 10000, -3000, 3000
 LIMIT = 11  # of the counter of methods
+UNIT = 2**20  # the filter of second order counts in parts of 2^-20
+KIND = 23  # of the packets that are taken
 
 
 def walk(chance, start, count, step, pull=0):
@@ -194,6 +196,88 @@ def crossing_out(words):
     return {"at": [price[tick] for tick in ticks], "tick": ticks}
 
 
+# low-pass filter of second order
+
+
+def biquad_in():
+    """A step, a slow wave of straight lines, and noise."""
+    chance, words = random.Random(55), []
+    for place in range(240):
+        level = 0 if place < 20 else 2 if place < 90 else -1 if place < 130 else abs((place - 130) % 60 - 30) / 10 - 1
+        words.append(round(level * UNIT) + chance.randrange(-UNIT // 3, UNIT // 3))
+    return {"x": words}
+
+
+def biquad_out(words):
+    ahead = [nearest(part * UNIT, 10000) for part in (201, 402, 201)]
+    back = [nearest(part * UNIT, 10000) for part in (15610, 6414)]
+    x, y = [0, 0, *words["x"]], [0, 0]
+    for place in range(2, len(x)):
+        terms = [nearest(part * x[place - ago], UNIT) for ago, part in enumerate(ahead)]
+        y.append(sum(terms) + nearest(back[0] * y[place - 1], UNIT) - nearest(back[1] * y[place - 2], UNIT))
+    return {"y": y[2:]}
+
+
+# sharper colours
+
+
+def joined(colours):
+    """A point of 24 bits, the first colour in the low ones."""
+    return sum(colour << 8 * place for place, colour in enumerate(colours))
+
+
+def sharpen_in():
+    """A soft disk and stripes on a slope of colours."""
+    chance, words = random.Random(66), []
+    for row in range(HIGH):
+        for column in range(WIDE):
+            far = math.hypot(row - 24, column - 22)
+            inside = max(0.0, min(1.0, (17 - far) / 5))
+            stripe = 40 if column > 42 and (row + column) // 4 % 2 else 0
+            colours = (60 + row + 120 * inside, 90 + column + stripe, 150 - row - 70 * inside + stripe)
+            words.append(joined(max(0, min(255, round(colour) + chance.randrange(5))) for colour in colours))
+    return {"x": words}
+
+
+def sharpened(points, row, column):
+    """A point twice, less the mean of the 25 points around it, by weights."""
+    weights, colours = (1, 4, 6, 4, 1), []
+    for low in (0, 8, 16):
+        near = ((points[(row + a - 2) * WIDE + column + b - 2] >> low) % 256 * weights[a] * weights[b] for a in range(5) for b in range(5))
+        colours.append(max(0, min(255, 2 * ((points[row * WIDE + column] >> low) % 256) - sum(near) // 256)))
+    return joined(colours)
+
+
+def sharpen_out(words):
+    points, out = words["x"], list(words["x"])
+    for row in range(2, HIGH - 2):
+        for column in range(2, WIDE - 2):
+            out[row * WIDE + column] = sharpened(points, row, column)
+    return {"y": out}
+
+
+# packets of one kind
+
+
+def packets_in():
+    chance, data = random.Random(77), []
+    while len(data) < 300:
+        payload = [chance.randrange(256) for _ in range(chance.choice([0, 1, 3, 8, 14]))]
+        data += [chance.choice([KIND, KIND, 4, 99]), len(payload), *payload]
+    return {"data": data}
+
+
+def packets_out(words):
+    out, data = {"size": [], "payload": [], "sum": []}, words["data"]
+    while data:
+        kind, size, payload, data = data[0], data[1], data[2 : 2 + data[1]], data[2 + data[1] :]
+        if kind == KIND:
+            out["size"].append(size)
+            out["payload"] += payload
+            out["sum"] += [sum(payload) % 256] if payload else []
+    return out
+
+
 # methods to copy
 
 
@@ -251,6 +335,9 @@ EXAMPLES = [
     ("maximum", maximum_in, maximum_out, {"price": 16, "greatest": 16, "since": 40}),
     ("imbalance", imbalance_in, imbalance_out, {"isAsk": 1, "bid": 16, "ask": 16, "imbalance": 32, "tick": 40, "signal": 32}),
     ("crossing", crossing_in, crossing_out, {"price": 16, "at": 16, "tick": 40}),
+    ("biquad", biquad_in, biquad_out, {"x": 24, "y": 24}),
+    ("sharpen", sharpen_in, sharpen_out, {"x": 24, "y": 24}),
+    ("packets", packets_in, packets_out, {"data": 8, "size": 8, "payload": 8, "sum": 8}),
     ("methods", methods_in, methods_out, METHODS_WIDTHS),
 ]
 
