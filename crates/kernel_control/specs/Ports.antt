@@ -14,8 +14,8 @@ use Rattle.rtl_ir.specs.Ports.{
 }
 use Rattle.stream_graph.specs.declared.node.Kind.{Kind}
 use Rattle.stream_graph.specs.declared.node.Node.{Node}
-use Rattle.stream_graph.specs.PortKinds.{is_input, is_output, is_scalar}
-use Rattle.offset_edges.specs.Edges.{node_at, width_at}
+use Rattle.stream_graph.specs.Kinds.{is_input, is_output, is_scalar}
+use Rattle.stream_graph.specs.LookUps.{node_at, width_at}
 
 -- the numbers, from this one on, of the nodes of a kind
 abbrev pub numbers_from : (Kind → Bool) → ℕ → List Node → List ℕ

@@ -27,7 +27,7 @@ pub data IsBehind (nodes : List Node) (a b : Place) : Type 0 where
 
 module _ (nodes : List Node) where
   same_dead : (a b : Place) → base nodes b ≡ base nodes a → is_dead nodes b.node ≡ is_dead nodes a.node
-  same_dead a b e = ap (λ n. Rattle.offset_edges.specs.Edges.is_steady (Rattle.offset_edges.specs.Edges.kind_at nodes n)) e
+  same_dead a b e = ap (λ n. Rattle.stream_graph.specs.Kinds.is_steady (Rattle.stream_graph.specs.LookUps.kind_at nodes n)) e
 
   pub one : (a b : Place) → IsMove nodes a b → IsBehind nodes a b
   one a b (past e t l) = by_dead (is_dead nodes a.node) refl

@@ -6,9 +6,10 @@ use Rattle.std.proofs.lemmas.Int.{ints}
 use Rattle.stream_graph.specs.declared.node.Kind.{Kind}
 use Rattle.stream_graph.specs.declared.node.Kind.TheVariants as K
 use Rattle.stream_graph.specs.declared.node.Node.{Node}
-use Rattle.offset_edges.specs.Edges.{kind_at, operands_at, operand_at, edges_of}
+use Rattle.stream_graph.specs.LookUps.{kind_at, operands_at, operand_at}
+use Rattle.offset_edges.specs.Edges.{edges_of}
 use Rattle.offset_edges.specs.Walks.{IsCausal}
-use Rattle.offset_edges.proofs.NodeLemmas.{IsOrderly}
+use Rattle.stream_graph.proofs.NodeLemmas.{IsOrderly}
 use Rattle.stream_equations.specs.Equations.{GivenRun, Values, StreamEquations, IsInRun}
 use Rattle.kernel_types.specs.Types.{AreTyped}
 use Rattle.kernel_family.specs.declared.place.Place.{Place}

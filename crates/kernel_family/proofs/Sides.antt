@@ -5,14 +5,11 @@ use Rattle.std.proofs.lemmas.Int.{ints}
 use Rattle.stream_graph.specs.declared.node.Kind.{Kind}
 use Rattle.stream_graph.specs.declared.node.Kind.TheVariants as K
 use Rattle.stream_graph.specs.declared.node.Node.{Node}
-use Rattle.offset_edges.specs.Edges.{kind_at, operands_at, operand_at}
+use Rattle.stream_graph.specs.LookUps.{kind_at, operands_at, operand_at, type_at, control_of}
 use Rattle.stream_equations.specs.Equations.{
   GivenRun,
   Values,
   operated,
-  type_at,
-  control_in,
-  control_of,
   enabled_by,
   enabled,
   is_one,
@@ -20,6 +17,7 @@ use Rattle.stream_equations.specs.Equations.{
   held,
   right_side,
 }
+use Rattle.stream_graph.specs.Kinds.{control_in}
 use Rattle.kernel_types.specs.Types.{is_like, AreTyped}
 use Rattle.kernel_family.specs.Steps.{keeps, ahead}
 

@@ -7,21 +7,11 @@ use Rattle.stream_graph.specs.declared.node.Kind.{Kind}
 use Rattle.stream_graph.specs.declared.node.Kind.TheVariants as K
 use Rattle.stream_graph.specs.declared.node.Node.{Node}
 use Rattle.offset_edges.specs.declared.edge.Edge.{Edge}
-use Rattle.offset_edges.specs.Edges.{
-  kind_at,
-  operands_at,
-  operand_at,
-  source_of,
-  is_steady,
-  is_offset,
-  edge_of,
-  edges_into,
-  edges_below,
-  edges_of,
-  edge_at,
-}
+use Rattle.stream_graph.specs.LookUps.{kind_at, operands_at, operand_at}
+use Rattle.offset_edges.specs.Edges.{source_of, edge_of, edges_into, edges_below, edges_of, edge_at}
+use Rattle.stream_graph.specs.Kinds.{is_steady, is_offset}
 use Rattle.offset_edges.specs.Walks.{start_of, end_of}
-use Rattle.offset_edges.proofs.NodeLemmas.{IsOrderly}
+use Rattle.stream_graph.proofs.NodeLemmas.{IsOrderly}
 use Rattle.offset_edges.proofs.SourceLemmas.{kind_cases, source_past, source_here}
 use Rattle.kernel_types.specs.Types.{AreTyped}
 use Rattle.kernel_family.specs.declared.place.Place.{Place}

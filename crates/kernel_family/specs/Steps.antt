@@ -3,7 +3,7 @@ use Rattle.std.specs.Prelude.{◌≡◌, ℕ, suc, ◌<◌, Bool, true, false, �
 use Rattle.stream_graph.specs.declared.node.Kind.{Kind}
 use Rattle.stream_graph.specs.declared.node.Kind.TheVariants as K
 use Rattle.stream_graph.specs.declared.node.Node.{Node}
-use Rattle.offset_edges.specs.Edges.{kind_at, operands_at, operand_at}
+use Rattle.stream_graph.specs.LookUps.{kind_at, operands_at, operand_at}
 use Rattle.kernel_family.specs.declared.place.Place.{Place}
 
 -- what a node of this kind has in a tick hangs on the tick before too

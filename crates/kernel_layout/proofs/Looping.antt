@@ -7,9 +7,11 @@ use Rattle.cycle_find.specs.Constraints.{Numbers}
 use Rattle.digraph.specs.Graph.{reads_of, IsGraph, Reads, IsClosedWalk}
 use Rattle.stream_graph.specs.declared.node.Node.{Node}
 use Rattle.offset_edges.specs.declared.edge.Edge.{Edge}
-use Rattle.offset_edges.specs.Edges.{kind_at, operands_at, operand_at, source_of, is_steady, is_offset, edges_of, edge_at}
+use Rattle.stream_graph.specs.LookUps.{kind_at, operands_at, operand_at}
+use Rattle.offset_edges.specs.Edges.{source_of, edges_of, edge_at}
+use Rattle.stream_graph.specs.Kinds.{is_steady, is_offset}
 use Rattle.offset_edges.specs.Walks.{IsWalk, IsCausal, start_of, end_of, offsets_of}
-use Rattle.offset_edges.proofs.NodeLemmas.{IsOrderly}
+use Rattle.stream_graph.proofs.NodeLemmas.{IsOrderly}
 use Rattle.kernel_layout.specs.declared.reads.Read.{Read}
 use Rattle.kernel_layout.specs.Reads.{reads_count, read_at, direct_of}
 use Rattle.kernel_layout.specs.Layouts.{AreReads, HaveNoLoop}

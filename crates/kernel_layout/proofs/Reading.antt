@@ -5,8 +5,8 @@ use Rattle.std.specs.Option.{option_map}
 use Rattle.std.proofs.lemmas.List.{get_or_default}
 use Rattle.cycle_find.specs.Constraints.{Numbers}
 use Rattle.stream_graph.specs.declared.node.Node.{Node}
-use Rattle.offset_edges.specs.Edges.{operands_at, operand_at}
-use Rattle.offset_edges.proofs.Reading.{operands_read}
+use Rattle.stream_graph.specs.LookUps.{operands_at, operand_at}
+use Rattle.stream_graph.proofs.Reading.{operands_read}
 use Rattle.kernel_layout.specs.declared.reads.Read.{Read}
 use Rattle.kernel_layout.specs.Reads.{IsRead, AreReadsBelow, AreReadsOf, no_read}
 use Rattle.kernel_layout.specs.Layouts.{AreReads}

@@ -6,7 +6,9 @@ use Rattle.cycle_find.specs.Constraints.{Numbers}
 use Rattle.stream_graph.specs.declared.node.Node.{Node}
 use Rattle.offset_edges.specs.declared.edge.Edge.{Edge}
 use Rattle.offset_edges.specs.declared.source.Source.{Source}
-use Rattle.offset_edges.specs.Edges.{kind_at, operands_at, operand_at, source_of, new_source, is_steady, is_offset, edge_of, edges_into, edges_below, edges_of, AreSources}
+use Rattle.stream_graph.specs.LookUps.{kind_at, operands_at, operand_at}
+use Rattle.offset_edges.specs.Edges.{source_of, new_source, edge_of, edges_into, edges_below, edges_of, AreSources}
+use Rattle.stream_graph.specs.Kinds.{is_steady, is_offset}
 use Rattle.kernel_layout.specs.Reads.{behind_of, AreTimes, IsLater}
 
 -- the source that was read

@@ -21,16 +21,9 @@ use Rattle.std.specs.Prelude.{
 use Rattle.cycle_find.specs.Constraints.{Numbers}
 use Rattle.stream_graph.specs.declared.node.Node.{Node}
 use Rattle.offset_edges.specs.declared.edge.Edge.{Edge}
-use Rattle.offset_edges.specs.Edges.{
-  kind_at,
-  operands_at,
-  operand_at,
-  source_of,
-  is_offset,
-  is_steady,
-  edges_of,
-  edge_at,
-}
+use Rattle.stream_graph.specs.LookUps.{kind_at, operands_at, operand_at}
+use Rattle.offset_edges.specs.Edges.{source_of, edges_of, edge_at}
+use Rattle.stream_graph.specs.Kinds.{is_offset, is_steady}
 use Rattle.kernel_layout.specs.declared.reads.Read.{Read}
 
 -- how many advances after the word of its source was computed an edge's reader reads it

@@ -1,7 +1,8 @@
 // Where the operands of nodes are read.
 ghost use Rattle.std.specs.Prelude.{◌≡◌, ◌<◌, ◌≤◌, length, IfOk};
 ghost use Rattle.cycle_find.specs.Constraints.{numbers_of};
-ghost use Rattle.offset_edges.specs.Edges.{is_steady, is_offset, AreSources};
+ghost use Rattle.stream_graph.specs.Kinds.{is_steady, is_offset};
+ghost use Rattle.offset_edges.specs.Edges.{AreSources};
 ghost use Rattle.kernel_layout.specs.Reads.{AreTimes, IsLater, IsRead, AreReadsOf};
 ghost use Rattle.kernel_layout.specs.Layouts.{AreReads};
 

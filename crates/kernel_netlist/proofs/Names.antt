@@ -18,7 +18,7 @@ use Rattle.rtl_delays.specs.Names.{memory_name}
 use Rattle.rtl_delays.specs.Partial.{IsPartial, IsOwnName, OfWire, OfRegister, OfPosition}
 use Rattle.stream_graph.specs.declared.kernel.Kernel.{Kernel}
 use Rattle.stream_graph.specs.declared.node.Node.{Node}
-use Rattle.offset_edges.specs.Edges.{node_at}
+use Rattle.stream_graph.specs.LookUps.{node_at}
 use Rattle.kernel_control.specs.Ports.{module_ports}
 use Rattle.kernel_control.specs.Refines.{Refines}
 use Rattle.link_fifo.specs.TextNames.{HasTextNames, is_text_name}

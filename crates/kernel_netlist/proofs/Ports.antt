@@ -7,8 +7,8 @@ use Rattle.std.proofs.lemmas.List.Elements.{All-nil, All-cons, All-append}
 use Rattle.rtl_ir.specs.Ports.{PortView, input_port, output_port, host_input_ports, host_output_ports}
 use Rattle.stream_graph.specs.declared.node.Kind.{Kind}
 use Rattle.stream_graph.specs.declared.node.Node.{Node}
-use Rattle.stream_graph.specs.PortKinds.{is_input, is_output, is_scalar}
-use Rattle.offset_edges.specs.Edges.{node_at, width_at}
+use Rattle.stream_graph.specs.Kinds.{is_input, is_output, is_scalar}
+use Rattle.stream_graph.specs.LookUps.{node_at, width_at}
 use Rattle.kernel_control.specs.Ports.{numbers_from, inputs_of, outputs_of, scalars_of, port_shape, scalar_ports, module_ports}
 use Rattle.kernel_netlist.proofs.Lists.{length_map}
 

@@ -16,7 +16,9 @@ use Rattle.std.proofs.lemmas.Map.Views.{Contains-from_any, list_any-from_Contain
 use Rattle.cycle_find.specs.Constraints.{Numbers}
 use Rattle.stream_graph.specs.declared.node.Node.{Node}
 use Rattle.offset_edges.specs.declared.edge.Edge.{Edge}
-use Rattle.offset_edges.specs.Edges.{kind_at, operands_at, source_of, is_steady, is_offset, no_node, edge_of, edges_into, edges_below, edges_of, edge_at}
+use Rattle.stream_graph.specs.LookUps.{kind_at, operands_at, no_node}
+use Rattle.offset_edges.specs.Edges.{source_of, edge_of, edges_into, edges_below, edges_of, edge_at}
+use Rattle.stream_graph.specs.Kinds.{is_steady, is_offset}
 use Rattle.offset_edges.proofs.EdgeLemmas.{few_flat}
 use Rattle.kernel_layout.specs.Reads.{behind_of}
 use Rattle.kernel_layout.specs.Stages.{AreStages, IsReadBehind, up_to}

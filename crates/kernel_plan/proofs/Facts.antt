@@ -16,12 +16,14 @@ use Rattle.stream_graph.specs.declared.node.Node.{Node}
 use Rattle.stream_graph.specs.Kernels.{AreKernel}
 use Rattle.latency_table.specs.declared.table.Table.{Table}
 use Rattle.offset_edges.specs.declared.edge.Edge.{Edge}
-use Rattle.offset_edges.specs.Edges.{kind_at, is_offset, edges_of, edge_at, width_at, no_node}
+use Rattle.stream_graph.specs.LookUps.{kind_at, width_at, no_node}
+use Rattle.stream_graph.specs.Kinds.{is_offset}
+use Rattle.offset_edges.specs.Edges.{edges_of, edge_at}
 use Rattle.offset_edges.specs.Latencies.{latency_as, ticks_of, AreLatencies}
 use Rattle.offset_edges.specs.Problems.{term_of, terms_below, problem_over, reader_of}
 use Rattle.offset_edges.specs.Schedules.{IsLegal, fifo_bits}
 use Rattle.offset_edges.specs.Walks.{IsCausal, AreCovered}
-use Rattle.offset_edges.proofs.NodeLemmas.{orderly}
+use Rattle.stream_graph.proofs.NodeLemmas.{orderly}
 use Rattle.offset_edges.proofs.EdgeLemmas.{edges_small}
 use Rattle.offset_edges.proofs.SourceLemmas.{kind_cases}
 use Rattle.kernel_schedule.specs.declared.schedule.Schedule.{Schedule}

@@ -10,7 +10,8 @@ use Rattle.std.proofs.lemmas.Bool.{cases_cond, cases_lt, eqb-true}
 use Rattle.cycle_find.specs.Constraints.{Numbers}
 use Rattle.stream_graph.specs.declared.node.Node.{Node}
 use Rattle.offset_edges.specs.declared.edge.Edge.{Edge}
-use Rattle.offset_edges.specs.Edges.{edges_of, edge_at, width_at}
+use Rattle.offset_edges.specs.Edges.{edges_of, edge_at}
+use Rattle.stream_graph.specs.LookUps.{width_at}
 use Rattle.offset_edges.specs.Schedules.{delay_of, IsLegal, greater, greatest_delay, bits_of, bits_below, fifo_bits}
 use Rattle.kernel_layout.specs.Stages.{AreStages, IsReadBehind}
 use Rattle.kernel_layout.specs.Layouts.{AreAllStages}

@@ -1,7 +1,7 @@
 -- The bits of the registers behind the nodes of a kernel.
 use Rattle.std.specs.Prelude.{ℕ, zero, suc, ◌+◌, ◌*◌, List, length}
 use Rattle.stream_graph.specs.declared.node.Node.{Node}
-use Rattle.offset_edges.specs.Edges.{width_at}
+use Rattle.stream_graph.specs.LookUps.{width_at}
 
 -- for each of the first so many nodes its width times its latency
 abbrev pub latency_bits_below : (ℕ → ℕ) → List Node → ℕ → ℕ

@@ -15,9 +15,9 @@ use Rattle.stream_graph.specs.Nodes.{later, name_by, IsKind, AreNodes}
 use Rattle.stream_graph.specs.Ports.{is_again, AllDiffer}
 use Rattle.stream_graph.specs.Steps.{WereLawful}
 use Rattle.stream_graph.proofs.NamesDiffer.{DidDiffer, did_later, or_first, or_second}
-use Rattle.offset_edges.specs.Edges.{node_at, kind_at}
-use Rattle.offset_edges.proofs.CallLemmas.{made_below, makes_cases, were_later}
-use Rattle.offset_edges.proofs.NodeLemmas.{of_node}
+use Rattle.stream_graph.specs.LookUps.{node_at, kind_at}
+use Rattle.stream_graph.proofs.CallLemmas.{made_below, makes_cases, were_later}
+use Rattle.stream_graph.proofs.NodeLemmas.{of_node}
 
 -- ---- which port a call makes: 1 an input, 2 an output, 3 a scalar, and 0 none
 

@@ -10,8 +10,8 @@ use Rattle.stream_graph.specs.declared.node.Node.{Node}
 use Rattle.stream_graph.specs.declared.node.NodeView.{NodeView}
 use Rattle.rtl_ir.specs.declared.design.Module.{Module}
 use Rattle.rtl_ir.specs.Ports.{PortView, host_input_ports, host_output_ports}
-use Rattle.offset_edges.specs.Edges.{node_at, kind_at, width_at, no_node}
-use Rattle.offset_edges.proofs.NodeLemmas.{orderly}
+use Rattle.stream_graph.specs.LookUps.{node_at, kind_at, width_at, no_node}
+use Rattle.stream_graph.proofs.NodeLemmas.{orderly}
 use Rattle.kernel_control.specs.Ports.{numbers_from, port_shape, scalar_ports}
 use Rattle.kernel_ports.specs.declared.signals.NodeSignal.{NodeSignal}
 use Rattle.kernel_ports.specs.declared.signals.StreamSignals.{StreamSignals}

@@ -8,8 +8,8 @@ use Rattle.rtl_ir.specs.Ports.{PortView, input_port, output_port, host_input_por
 use Rattle.stream_graph.specs.declared.node.Kind.{Kind}
 use Rattle.stream_graph.specs.declared.node.Kind.TheVariants as K
 use Rattle.stream_graph.specs.declared.node.Node.{Node}
-use Rattle.stream_graph.specs.PortKinds.{is_input, is_output, is_scalar}
-use Rattle.offset_edges.specs.Edges.{node_at, kind_at}
+use Rattle.stream_graph.specs.Kinds.{is_input, is_output, is_scalar}
+use Rattle.stream_graph.specs.LookUps.{node_at, kind_at}
 use Rattle.kernel_control.specs.Ports.{numbers_from, inputs_of, outputs_of, scalars_of, port_shape, scalar_ports, module_ports}
 use Rattle.kernel_ports.proofs.Kernels.{role_of, AreNamed}
 use Rattle.kernel_ports.proofs.Spelled.{

@@ -5,7 +5,7 @@ use Rattle.rtl_ir.specs.Ports.{PortView, ports_of}
 use Rattle.rtl_build.specs.declared.signal.Signal.{Signal}
 use Rattle.rtl_delays.specs.Partial.{HasPortsAlone}
 use Rattle.stream_graph.specs.declared.node.Node.{Node}
-use Rattle.offset_edges.specs.Edges.{width_at}
+use Rattle.stream_graph.specs.LookUps.{width_at}
 use Rattle.kernel_control.specs.Ports.{
   scalars_of,
   inputs_of,

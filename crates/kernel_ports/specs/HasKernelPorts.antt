@@ -9,7 +9,7 @@ use Rattle.rtl_build.specs.Ports.{HasOutput}
 use Rattle.rtl_delays.specs.Partial.{HasPortsAlone, is_own_name}
 use Rattle.stream_graph.specs.declared.kernel.Kernel.{Kernel}
 use Rattle.stream_graph.specs.declared.node.Node.{Node}
-use Rattle.offset_edges.specs.Edges.{width_at}
+use Rattle.stream_graph.specs.LookUps.{width_at}
 use Rattle.kernel_control.specs.Ports.{
   PortChannel,
   ModuleNets,

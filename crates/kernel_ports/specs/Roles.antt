@@ -1,7 +1,7 @@
 -- The nodes of a kernel that have ports, by what they are.
 use Rattle.std.specs.Prelude.{Bool}
 use Rattle.stream_graph.specs.declared.node.Kind.{Kind}
-use Rattle.stream_graph.specs.PortKinds.{is_input, is_output, is_scalar}
+use Rattle.stream_graph.specs.Kinds.{is_input, is_output, is_scalar}
 use Rattle.kernel_ports.specs.declared.role.Role.{Role}
 use Rattle.kernel_ports.specs.declared.role.Role.TheVariants as R
 

@@ -44,25 +44,17 @@ use Rattle.rtl_ir.specs.Grow.{Holds}
 use Rattle.stream_graph.specs.declared.node.Kind.{Kind}
 use Rattle.stream_graph.specs.declared.node.Kind.TheVariants as K
 use Rattle.stream_graph.specs.declared.node.Node.{Node}
-use Rattle.offset_edges.specs.Edges.{
-  kind_at,
-  operands_at,
-  operand_at,
-  source_of,
-  is_steady,
-  is_offset,
-}
+use Rattle.stream_graph.specs.LookUps.{kind_at, operands_at, operand_at, type_at, digits_at}
+use Rattle.offset_edges.specs.Edges.{source_of}
+use Rattle.stream_graph.specs.Kinds.{is_steady, is_offset, control_in}
 use Rattle.counter_chains.specs.Chains.{part_at, chain_at}
 use Rattle.stream_equations.specs.Equations.{
   GivenRun,
   Values,
   StreamEquations,
   IsInRun,
-  type_at,
-  digits_at,
   operated,
   right_side,
-  control_in,
   is_one,
   enabled,
   enabled_by,

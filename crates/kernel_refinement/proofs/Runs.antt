@@ -49,12 +49,12 @@ use Rattle.rtl_ir.specs.Run.{Same}
 use Rattle.rtl_ir.proofs.Grow.{fits_holds}
 use Rattle.stream_graph.specs.declared.node.Kind.TheVariants as K
 use Rattle.stream_graph.specs.declared.node.Node.{Node}
-use Rattle.offset_edges.specs.Edges.{kind_at, operands_at, is_offset}
+use Rattle.stream_graph.specs.LookUps.{kind_at, operands_at}
+use Rattle.stream_graph.specs.Kinds.{is_offset, control_in}
 use Rattle.stream_equations.specs.Equations.{
   GivenRun,
   Values,
   StreamEquations,
-  control_in,
   enabled,
   enabled_by,
   count_before,

@@ -57,7 +57,8 @@ use Rattle.fix_arith.specs.Table.{applied}
 use Rattle.stream_graph.specs.declared.node.Kind.{Kind}
 use Rattle.stream_graph.specs.declared.node.Kind.TheVariants as K
 use Rattle.stream_graph.specs.declared.node.Node.{Node}
-use Rattle.offset_edges.specs.Edges.{kind_at, operand_at, past, source_within}
+use Rattle.stream_graph.specs.LookUps.{kind_at, operand_at}
+use Rattle.offset_edges.specs.Edges.{past, source_within}
 use Rattle.stream_equations.specs.Equations.{
   GivenRun,
   Values,

@@ -37,17 +37,11 @@ use Rattle.stream_graph.specs.declared.node.Kind.{Kind}
 use Rattle.stream_graph.specs.declared.node.Kind.TheVariants as K
 use Rattle.stream_graph.specs.declared.node.Node.{Node}
 use Rattle.offset_edges.specs.declared.edge.Edge.{Edge}
-use Rattle.offset_edges.specs.Edges.{
-  kind_at,
-  operands_at,
-  operand_at,
-  source_of,
-  is_steady,
-  is_offset,
-}
+use Rattle.stream_graph.specs.LookUps.{kind_at, operands_at, operand_at, type_at, digits_at}
+use Rattle.offset_edges.specs.Edges.{source_of}
+use Rattle.stream_graph.specs.Kinds.{is_steady, is_offset, control_in}
 use Rattle.offset_edges.specs.Schedules.{delay_of}
 use Rattle.counter_chains.specs.Chains.{part_at, chain_at}
-use Rattle.stream_equations.specs.Equations.{type_at, digits_at, control_in}
 use Rattle.rtl_delays.specs.Steps.{IsSound}
 use Rattle.rtl_delays.specs.Delays.{IsTap}
 use Rattle.rtl_delays.specs.Extends.{AllOff}

@@ -14,7 +14,7 @@ use Rattle.kernel_calls.specs.Laws.{is_port_name}
 use Rattle.kernel_schedule.specs.declared.schedule.Schedule.{Schedule}
 use Rattle.kernel_schedule.specs.Schedules.{IsLeast}
 use Rattle.schedule_report.specs.declared.report.ReportKernel.{ReportKernel}
-use Rattle.offset_edges.proofs.NodeLemmas.{orderly}
+use Rattle.stream_graph.proofs.NodeLemmas.{orderly}
 use Rattle.offset_edges.proofs.EdgeLemmas.{edges_few}
 use Rattle.kernel_report.specs.Parts.{IsPartOf}
 use Rattle.kernel_report.proofs.Ranges.{arcs_length}

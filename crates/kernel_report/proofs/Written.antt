@@ -15,7 +15,7 @@ use Rattle.offset_edges.specs.declared.edge.Edge.{Edge}
 use Rattle.offset_edges.specs.Edges.{edge_at, edges_of, IsSmall}
 use Rattle.offset_edges.specs.Latencies.{ticks_of}
 use Rattle.offset_edges.specs.Problems.{arcs_over}
-use Rattle.offset_edges.proofs.NodeLemmas.{orderly}
+use Rattle.stream_graph.proofs.NodeLemmas.{orderly}
 use Rattle.offset_edges.proofs.EdgeLemmas.{edges_small}
 use Rattle.offset_edges.proofs.LatencyLemmas.{ticks_read}
 use Rattle.offset_edges.proofs.ProblemFacts.{problem_solvable}

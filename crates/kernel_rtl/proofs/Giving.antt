@@ -38,7 +38,7 @@ use Rattle.rtl_build.specs.declared.signal.Signal.{Signal}
 use Rattle.rtl_delays.proofs.Added.{within}
 use Rattle.stream_graph.specs.declared.node.Kind.{Kind}
 use Rattle.stream_graph.specs.declared.node.Node.{Node}
-use Rattle.offset_edges.specs.Edges.{kind_at}
+use Rattle.stream_graph.specs.LookUps.{kind_at}
 use Rattle.kernel_control.specs.Ports.{numbers_from}
 use Rattle.kernel_ports.specs.declared.signals.NodeSignal.{NodeSignal}
 use Rattle.kernel_wiring.specs.Words.{no_signal}

@@ -31,8 +31,8 @@ use Rattle.std.proofs.lemmas.List.Elements.{All-nil, All-cons}
 use Rattle.stream_graph.specs.declared.node.Kind.{Kind}
 use Rattle.stream_graph.specs.declared.node.Kind.TheVariants as K
 use Rattle.stream_graph.specs.declared.node.Node.{Node}
-use Rattle.stream_graph.specs.PortKinds.{is_input, is_output, is_scalar}
-use Rattle.offset_edges.specs.Edges.{kind_at}
+use Rattle.stream_graph.specs.Kinds.{is_input, is_output, is_scalar}
+use Rattle.stream_graph.specs.LookUps.{kind_at}
 use Rattle.kernel_control.specs.Ports.{numbers_from, scalars_of, inputs_of, outputs_of}
 use Rattle.kernel_control.specs.Refines.{greatest_time}
 

@@ -51,9 +51,10 @@ use Rattle.stream_graph.specs.declared.node.Kind.{Kind}
 use Rattle.stream_graph.specs.declared.node.Kind.TheVariants as K
 use Rattle.stream_graph.specs.declared.node.Node.{Node}
 use Rattle.offset_edges.specs.declared.source.Source.{Source}
-use Rattle.offset_edges.specs.Edges.{kind_at, width_at, operands_at, operand_at, source_of, is_steady, is_offset}
+use Rattle.stream_graph.specs.LookUps.{kind_at, width_at, operands_at, operand_at, digits_at}
+use Rattle.offset_edges.specs.Edges.{source_of}
+use Rattle.stream_graph.specs.Kinds.{is_steady, is_offset, control_in}
 use Rattle.offset_edges.proofs.SourceLemmas.{source_here}
-use Rattle.stream_equations.specs.Equations.{digits_at, control_in}
 use Rattle.kernel_control.specs.Ports.{ModuleNets, PortChannel, scalars_of, inputs_of, outputs_of}
 use Rattle.kernel_control.specs.Due.{is_in_ticks, is_let}
 use Rattle.kernel_control.specs.Refines.{is_active, last_time}

@@ -56,7 +56,7 @@ use Rattle.rtl_delays.proofs.Undriven.{register_undriven, undriven_on}
 use Rattle.stream_graph.specs.declared.kernel.Kernel.{Kernel}
 use Rattle.stream_graph.specs.declared.node.Node.{Node}
 use Rattle.stream_graph.specs.declared.node.NodeView.{NodeView}
-use Rattle.offset_edges.specs.Edges.{no_node, width_at}
+use Rattle.stream_graph.specs.LookUps.{no_node, width_at}
 use Rattle.kernel_ports.proofs.Looping.{field_at, wide}
 use Rattle.kernel_layout.specs.declared.layout.Layout.{Layout}
 use Rattle.kernel_layout.specs.Stages.{AreStages}

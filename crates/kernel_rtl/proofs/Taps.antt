@@ -41,9 +41,11 @@ use Rattle.rtl_delays.specs.Delays.{IsDelay, IsTap}
 use Rattle.rtl_delays.specs.Elements.{shown}
 use Rattle.stream_graph.specs.declared.node.Node.{Node}
 use Rattle.offset_edges.specs.declared.edge.Edge.{Edge}
-use Rattle.offset_edges.specs.Edges.{kind_at, operands_at, operand_at, source_of, is_steady, is_offset, edges_of, edge_at}
+use Rattle.stream_graph.specs.LookUps.{kind_at, operands_at, operand_at}
+use Rattle.offset_edges.specs.Edges.{source_of, edges_of, edge_at}
+use Rattle.stream_graph.specs.Kinds.{is_steady, is_offset}
 use Rattle.offset_edges.specs.Schedules.{delay_of, IsLegal}
-use Rattle.offset_edges.proofs.NodeLemmas.{IsOrderly}
+use Rattle.stream_graph.proofs.NodeLemmas.{IsOrderly}
 use Rattle.offset_edges.proofs.SourceLemmas.{source_known}
 use Rattle.kernel_layout.specs.declared.layout.Layout.{Layout}
 use Rattle.kernel_layout.specs.declared.reads.Read.{Read}

@@ -54,9 +54,9 @@ use Rattle.rtl_delays.proofs.Kept.{ports_kept, no_register_on, written_kept}
 use Rattle.stream_graph.specs.declared.kernel.Kernel.{Kernel}
 use Rattle.stream_graph.specs.declared.node.Kind.TheVariants as K
 use Rattle.stream_graph.specs.declared.node.Node.{Node}
-use Rattle.offset_edges.specs.Edges.{kind_at}
-use Rattle.offset_edges.proofs.NodeLemmas.{IsOrderly}
-use Rattle.stream_equations.specs.Equations.{control_in}
+use Rattle.stream_graph.specs.LookUps.{kind_at}
+use Rattle.stream_graph.proofs.NodeLemmas.{IsOrderly}
+use Rattle.stream_graph.specs.Kinds.{control_in}
 use Rattle.kernel_control.specs.Ports.{ModuleNets, PortChannel, nets_of}
 use Rattle.kernel_control.specs.Nets.{net_of, AreHandshakesOf, AreNetsOf, told_ports}
 use Rattle.kernel_control.specs.IsControl.{IsControl}

@@ -44,8 +44,9 @@ use Rattle.rtl_delays.proofs.Started.{shown_signal}
 use Rattle.stream_graph.specs.declared.node.Kind.{Kind}
 use Rattle.stream_graph.specs.declared.node.Kind.TheVariants as K
 use Rattle.stream_graph.specs.declared.node.Node.{Node}
-use Rattle.offset_edges.specs.Edges.{kind_at, operands_at, width_at, is_offset}
-use Rattle.offset_edges.proofs.NodeLemmas.{IsOrderly}
+use Rattle.stream_graph.specs.LookUps.{kind_at, operands_at, width_at}
+use Rattle.stream_graph.specs.Kinds.{is_offset}
+use Rattle.stream_graph.proofs.NodeLemmas.{IsOrderly}
 use Rattle.kernel_control.specs.Nets.{MayEnable}
 use Rattle.kernel_control.specs.Outputs.{AreUndriven}
 use Rattle.kernel_control.proofs.Outs.{AllUnder, undriven_kept}

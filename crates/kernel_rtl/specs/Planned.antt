@@ -21,7 +21,9 @@ use Rattle.cycle_find.specs.Constraints.{Numbers, numbers_of}
 use Rattle.fix_arith.specs.Types.{width_of}
 use Rattle.stream_graph.specs.declared.node.Kind.TheVariants as K
 use Rattle.stream_graph.specs.declared.node.Node.{Node}
-use Rattle.offset_edges.specs.Edges.{kind_at, is_offset, edges_of}
+use Rattle.stream_graph.specs.LookUps.{kind_at}
+use Rattle.stream_graph.specs.Kinds.{is_offset}
+use Rattle.offset_edges.specs.Edges.{edges_of}
 use Rattle.offset_edges.specs.Schedules.{IsLegal}
 use Rattle.kernel_control.specs.Ports.{inputs_of, outputs_of, ended_port}
 use Rattle.kernel_layout.specs.declared.layout.Layout.{Layout}

@@ -28,7 +28,7 @@ use Rattle.rtl_delays.specs.Stored.{stored_bits}
 use Rattle.rtl_delays.specs.Elements.{shown}
 use Rattle.stream_graph.specs.declared.node.Kind.TheVariants as K
 use Rattle.stream_graph.specs.declared.node.Node.{Node}
-use Rattle.offset_edges.specs.Edges.{kind_at}
+use Rattle.stream_graph.specs.LookUps.{kind_at}
 use Rattle.kernel_control.specs.Ports.{scalars_of, inputs_of, outputs_of}
 use Rattle.kernel_control.specs.Nets.{MayEnable}
 use Rattle.kernel_control.specs.Outputs.{AreDriven, DrivesAtMost}

@@ -10,8 +10,8 @@ use Rattle.stream_graph.specs.declared.node.Kind.{Kind}
 use Rattle.stream_graph.specs.declared.node.Kind.TheVariants as K
 use Rattle.stream_graph.specs.declared.node.Node.{Node}
 use Rattle.stream_graph.specs.Nodes.{IsKind, IsNode, AreNodes}
-use Rattle.offset_edges.specs.Edges.{no_node}
-use Rattle.offset_edges.proofs.CallLemmas.{made}
+use Rattle.stream_graph.specs.LookUps.{no_node}
+use Rattle.stream_graph.proofs.CallLemmas.{made}
 
 -- ---- words
 

@@ -15,8 +15,7 @@ use Rattle.rtl_delays.proofs.Undriven.{same_undriven}
 use Rattle.stream_graph.specs.declared.node.Kind.{Kind}
 use Rattle.stream_graph.specs.declared.node.Kind.TheVariants as K
 use Rattle.stream_graph.specs.declared.node.Node.{Node}
-use Rattle.offset_edges.specs.Edges.{kind_at}
-use Rattle.stream_equations.specs.Equations.{digits_at}
+use Rattle.stream_graph.specs.LookUps.{kind_at, digits_at}
 use Rattle.kernel_refinement.specs.States.{IsStepping}
 use Rattle.kernel_states.specs.declared.registers.AdvanceNets.{AdvanceNets}
 use Rattle.kernel_types.specs.Types.{counts}

@@ -10,9 +10,9 @@ use Rattle.kernel_calls.specs.Calls.{count_of, nodes_of, Makes}
 use Rattle.stream_graph.specs.declared.node.Kind.{Kind}
 use Rattle.stream_graph.specs.declared.node.Node.{Node}
 use Rattle.stream_graph.specs.Nodes.{digits_to, IsKind, digits_by, AreNodes}
-use Rattle.offset_edges.specs.Edges.{no_node}
+use Rattle.stream_graph.specs.LookUps.{no_node}
 use Rattle.stream_graph.proofs.Facts.{makes_older}
-use Rattle.offset_edges.proofs.CallLemmas.{makes_next}
+use Rattle.stream_graph.proofs.CallLemmas.{makes_next}
 use Rattle.kernel_states.specs.States.{has_state, state_count, step_nets}
 
 -- ---- sums over the numbers of nodes

@@ -9,8 +9,8 @@ use Rattle.stream_graph.specs.declared.node.Node.{Node}
 use Rattle.stream_graph.specs.declared.node.NodeView.{NodeView}
 use Rattle.stream_graph.specs.Nodes.{later}
 use Rattle.stream_graph.specs.Kernels.{AreKernel}
-use Rattle.offset_edges.proofs.Reading.{view_read}
-use Rattle.offset_edges.proofs.NodeLemmas.{orderly}
+use Rattle.stream_graph.proofs.Reading.{view_read}
+use Rattle.stream_graph.proofs.NodeLemmas.{orderly}
 use Rattle.kernel_states.specs.States.{step_nets}
 use Rattle.kernel_states.proofs.Costs.{few_nets}
 

@@ -30,8 +30,7 @@ use Rattle.rtl_delays.specs.Driven.{KeepsUndriven}
 use Rattle.rtl_delays.specs.Stored.{stored_bits}
 use Rattle.stream_graph.specs.declared.node.Kind.TheVariants as K
 use Rattle.stream_graph.specs.declared.node.Node.{Node}
-use Rattle.offset_edges.specs.Edges.{kind_at, width_at}
-use Rattle.stream_equations.specs.Equations.{digits_at}
+use Rattle.stream_graph.specs.LookUps.{kind_at, width_at, digits_at}
 use Rattle.kernel_control.specs.Nets.{HasWidth}
 use Rattle.kernel_refinement.specs.States.{IsCounter, IsKeeper, IsPosition, IsStepping}
 use Rattle.kernel_states.specs.declared.registers.AdvanceNets.{AdvanceNets}

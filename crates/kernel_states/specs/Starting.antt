@@ -19,7 +19,7 @@ use Rattle.rtl_delays.specs.Extends.{Extends}
 use Rattle.rtl_delays.specs.Driven.{KeepsUndriven}
 use Rattle.rtl_delays.specs.Stored.{stored_bits}
 use Rattle.stream_graph.specs.declared.node.Node.{Node}
-use Rattle.offset_edges.specs.Edges.{kind_at, width_at}
+use Rattle.stream_graph.specs.LookUps.{kind_at, width_at}
 use Rattle.kernel_states.specs.States.{
   has_state,
   state_bits,

@@ -31,7 +31,7 @@ use Rattle.rtl_delays.specs.Steps.{writes_reg}
 use Rattle.stream_graph.specs.declared.node.Kind.{Kind}
 use Rattle.stream_graph.specs.declared.node.Kind.TheVariants as K
 use Rattle.stream_graph.specs.declared.node.Node.{Node}
-use Rattle.offset_edges.specs.Edges.{kind_at, width_at}
+use Rattle.stream_graph.specs.LookUps.{kind_at, width_at}
 
 -- A node of this kind keeps a state: a hold the word that was stored last, a counter its value, and
 -- a chain those of all its counters.

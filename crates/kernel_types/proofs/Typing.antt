@@ -52,11 +52,10 @@ use Rattle.stream_graph.specs.declared.node.Node.{Node}
 use Rattle.stream_graph.specs.Kernels.{AreKernel}
 use Rattle.stream_graph.specs.Nodes.{later, connected_to, one_or_none, IsKind, type_of, operands_by, IsNode, AreNodes}
 use Rattle.stream_graph.specs.Steps.{WereLawful}
-use Rattle.offset_edges.specs.Edges.{node_at, kind_at, operands_at, width_at, no_node}
+use Rattle.stream_graph.specs.LookUps.{node_at, kind_at, operands_at, width_at, no_node, type_at}
 use Rattle.stream_graph.proofs.Facts.{makes_older}
-use Rattle.offset_edges.proofs.CallLemmas.{makes_cases, made, were_later}
-use Rattle.stream_equations.specs.Equations.{type_at}
-use Rattle.offset_edges.proofs.NodeLemmas.{IsOrderly, orderly}
+use Rattle.stream_graph.proofs.CallLemmas.{makes_cases, made, were_later}
+use Rattle.stream_graph.proofs.NodeLemmas.{IsOrderly, orderly}
 use Rattle.kernel_types.specs.Types.{is_like, takes_bit, HasFirst, AreTyped}
 
 -- ---- streams

@@ -27,8 +27,14 @@ use Rattle.fix_arith.specs.Table.{GivesType}
 use Rattle.stream_graph.specs.declared.node.Kind.{Kind}
 use Rattle.stream_graph.specs.declared.node.Kind.TheVariants as K
 use Rattle.stream_graph.specs.declared.node.Node.{Node}
-use Rattle.offset_edges.specs.Edges.{kind_at, width_at, operands_at, operand_at}
-use Rattle.stream_equations.specs.Equations.{type_at, digits_at}
+use Rattle.stream_graph.specs.LookUps.{
+  kind_at,
+  width_at,
+  operands_at,
+  operand_at,
+  type_at,
+  digits_at,
+}
 
 -- ---- operands
 

@@ -48,10 +48,16 @@ use Rattle.rtl_ops.specs.Fragments.{IsFragment}
 use Rattle.stream_graph.specs.declared.node.Kind.{Kind}
 use Rattle.stream_graph.specs.declared.node.Kind.TheVariants as K
 use Rattle.stream_graph.specs.declared.node.Node.{Node}
-use Rattle.offset_edges.specs.Edges.{kind_at, operands_at, operand_at, width_at}
-use Rattle.stream_equations.specs.Equations.{type_at, digits_at}
+use Rattle.stream_graph.specs.LookUps.{
+  kind_at,
+  operands_at,
+  operand_at,
+  width_at,
+  type_at,
+  digits_at,
+}
 use Rattle.kernel_types.specs.Types.{IsPartOf}
-use Rattle.offset_edges.proofs.NodeLemmas.{IsOrderly}
+use Rattle.stream_graph.proofs.NodeLemmas.{IsOrderly}
 use Rattle.kernel_layout.specs.declared.layout.Layout.{Layout}
 use Rattle.kernel_layout.specs.declared.reads.Read.{Read}
 use Rattle.kernel_layout.specs.Reads.{no_read, read_at}

@@ -36,8 +36,10 @@ use Rattle.stream_graph.specs.declared.node.Kind.TheVariants as K
 use Rattle.stream_graph.specs.declared.node.Node.{Node}
 use Rattle.offset_edges.specs.declared.edge.Edge.{Edge}
 use Rattle.offset_edges.specs.declared.source.Source.{Source}
-use Rattle.offset_edges.specs.Edges.{kind_at, operands_at, operand_at, width_at, source_of, is_steady, is_offset, edges_of}
-use Rattle.offset_edges.proofs.NodeLemmas.{IsOrderly}
+use Rattle.stream_graph.specs.LookUps.{kind_at, operands_at, operand_at, width_at}
+use Rattle.offset_edges.specs.Edges.{source_of, edges_of}
+use Rattle.stream_graph.specs.Kinds.{is_steady, is_offset}
+use Rattle.stream_graph.proofs.NodeLemmas.{IsOrderly}
 use Rattle.offset_edges.proofs.SourceLemmas.{kind_cases, source_past, source_here, source_known}
 use Rattle.kernel_layout.specs.declared.layout.Layout.{Layout}
 use Rattle.kernel_layout.specs.declared.reads.Read.{Read}

@@ -27,7 +27,7 @@ use Rattle.rtl_build.specs.Signals.{HasSignal}
 use Rattle.stream_graph.specs.declared.node.Kind.{Kind}
 use Rattle.stream_graph.specs.declared.node.Kind.TheVariants as K
 use Rattle.stream_graph.specs.declared.node.Node.{Node}
-use Rattle.offset_edges.specs.Edges.{kind_at, width_at}
+use Rattle.stream_graph.specs.LookUps.{kind_at, width_at}
 use Rattle.kernel_layout.specs.declared.layout.Layout.{Layout}
 use Rattle.kernel_layout.specs.declared.reads.Read.{Read}
 use Rattle.kernel_layout.specs.Reads.{read_at}

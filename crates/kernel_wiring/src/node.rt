@@ -1,7 +1,7 @@
 // The wires of one node.
 ghost use Rattle.std.specs.Prelude.{◌≡◌, ◌<◌, length, IfOk};
 ghost use Rattle.stream_graph.specs.declared.node.Kind.TheVariants.{Hold};
-ghost use Rattle.offset_edges.specs.Edges.{kind_at};
+ghost use Rattle.stream_graph.specs.LookUps.{kind_at};
 ghost use Rattle.kernel_wiring.specs.Timing.{IsTiming};
 ghost use Rattle.kernel_wiring.specs.Words.{signal_at, IsWordOf};
 ghost use Rattle.kernel_wiring.specs.OneNode.{IsReadable, AddsWord};

@@ -1,6 +1,6 @@
 // The signals from which a node reads its operands.
 ghost use Rattle.std.specs.Prelude.{◌≡◌, ◌<◌, map, length, All, Contains, IfOk};
-ghost use Rattle.stream_equations.specs.Equations.{type_at};
+ghost use Rattle.stream_graph.specs.LookUps.{type_at};
 ghost use Rattle.kernel_wiring.specs.Words.{late_of, read_signal, operand_signal};
 ghost use Rattle.kernel_wiring.specs.Words.{reads_at, taps_at, IsReadIn};
 

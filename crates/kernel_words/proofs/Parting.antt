@@ -5,8 +5,7 @@ use Rattle.counter_chains.specs.Digits.{IsDigit}
 use Rattle.counter_chains.specs.Chains.{bits_of, bits_below}
 use Rattle.stream_graph.specs.declared.node.Kind.TheVariants as K
 use Rattle.stream_graph.specs.declared.node.Node.{Node}
-use Rattle.offset_edges.specs.Edges.{kind_at, operand_at, width_at}
-use Rattle.stream_equations.specs.Equations.{digits_at}
+use Rattle.stream_graph.specs.LookUps.{kind_at, operand_at, width_at, digits_at}
 use Rattle.kernel_types.specs.Types.{counts, AreTyped, AreCounting, IsPartOf}
 use Rattle.counter_chains.proofs.Below.{bits_within}
 

@@ -34,8 +34,8 @@ use Rattle.std.proofs.lemmas.Bool.{false≢true, ltb-true, lt-ltb, cases_lt, cas
 use Rattle.std.proofs.lemmas.Int.{ints}
 use Rattle.stream_graph.specs.declared.node.Kind.TheVariants as K
 use Rattle.stream_graph.specs.declared.node.Node.{Node}
-use Rattle.offset_edges.specs.Edges.{kind_at, operands_at, operand_at, width_at}
-use Rattle.offset_edges.proofs.NodeLemmas.{IsOrderly}
+use Rattle.stream_graph.specs.LookUps.{kind_at, operands_at, operand_at, width_at}
+use Rattle.stream_graph.proofs.NodeLemmas.{IsOrderly}
 use Rattle.stream_equations.specs.Equations.{enabled, count_before, right_side}
 use Rattle.kernel_types.specs.Types.{AreTyped}
 use Rattle.kernel_family.specs.declared.place.Place.{Place}

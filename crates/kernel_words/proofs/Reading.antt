@@ -6,9 +6,8 @@ use Rattle.counter_chains.specs.declared.digits.CounterDigit.{CounterDigit}
 use Rattle.fix_arith.specs.Types.{width_of, HasWidth}
 use Rattle.stream_graph.specs.declared.node.Node.{Node}
 use Rattle.stream_graph.specs.declared.node.NodeView.{NodeView}
-use Rattle.offset_edges.specs.Edges.{kind_at, width_at, no_node}
-use Rattle.offset_edges.proofs.Reading.{read, view_read}
-use Rattle.stream_equations.specs.Equations.{type_at, digits_at}
+use Rattle.stream_graph.specs.LookUps.{kind_at, width_at, no_node, type_at, digits_at}
+use Rattle.stream_graph.proofs.Reading.{read, view_read}
 use Rattle.kernel_types.specs.Types.{AreTyped}
 
 abbrev pub IsView : List Node → ℕ → NodeView → Type 0

@@ -7,7 +7,7 @@ use Rattle.std.proofs.Math.Seq.{get_or-append_seam}
 use Rattle.stream_graph.specs.declared.node.Node.{Node}
 use Rattle.offset_edges.specs.Edges.{edges_of}
 use Rattle.offset_edges.specs.Walks.{IsCausal}
-use Rattle.offset_edges.proofs.NodeLemmas.{IsOrderly}
+use Rattle.stream_graph.proofs.NodeLemmas.{IsOrderly}
 use Rattle.kernel_types.specs.Types.{AreTyped}
 use Rattle.kernel_family.specs.declared.place.Place.{Place}
 use Rattle.kernel_family.specs.Steps.{IsStep}

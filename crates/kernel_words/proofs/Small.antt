@@ -13,8 +13,8 @@ use Rattle.fix_arith.specs.Types.{width_of}
 use Rattle.fix_arith.specs.Table.{GivesType}
 use Rattle.stream_graph.specs.declared.node.Kind.TheVariants as K
 use Rattle.stream_graph.specs.declared.node.Node.{Node}
-use Rattle.offset_edges.specs.Edges.{kind_at, operands_at, operand_at, width_at}
-use Rattle.stream_equations.specs.Equations.{Values, type_at, enabled, held, first_word}
+use Rattle.stream_graph.specs.LookUps.{kind_at, operands_at, operand_at, width_at, type_at}
+use Rattle.stream_equations.specs.Equations.{Values, enabled, held, first_word}
 use Rattle.kernel_types.specs.Types.{is_like, AreTyped}
 use Rattle.kernel_words.specs.Streams.{AreWords}
 use Rattle.kernel_words.specs.Sides.{hold_at}

@@ -3,7 +3,7 @@ use Rattle.std.proofs.Common.{◌≡◌, ◌∙◌, ℕ, ◌<◌, false, List, l
 use Rattle.std.specs.Prelude.{ℤ, pos, ◌+ℤ◌, ◌<ℤ◌}
 use Rattle.std.proofs.lemmas.Int.{ints}
 use Rattle.stream_graph.specs.declared.node.Node.{Node}
-use Rattle.offset_edges.specs.Edges.{kind_at, operands_at, operand_at}
+use Rattle.stream_graph.specs.LookUps.{kind_at, operands_at, operand_at}
 use Rattle.kernel_family.specs.declared.place.Place.{Place}
 use Rattle.kernel_family.specs.Steps.{ahead, IsStep, over, back}
 use Rattle.kernel_words.specs.declared.streams.Streams.{Streams}

@@ -8,9 +8,9 @@ use Rattle.std.proofs.lemmas.List.{length-set, get_or-set_same, get_or-set_other
 use Rattle.stream_graph.specs.declared.node.Kind.{Kind}
 use Rattle.stream_graph.specs.declared.node.Kind.TheVariants as K
 use Rattle.stream_graph.specs.declared.node.Node.{Node}
-use Rattle.stream_graph.specs.PortKinds.{is_input}
-use Rattle.offset_edges.specs.Edges.{kind_at, operand_at}
-use Rattle.offset_edges.proofs.NodeLemmas.{IsOrderly}
+use Rattle.stream_graph.specs.Kinds.{is_input}
+use Rattle.stream_graph.specs.LookUps.{kind_at, operand_at}
+use Rattle.stream_graph.proofs.NodeLemmas.{IsOrderly}
 use Rattle.stream_equations.specs.Equations.{chosen, count_before, enabled, right_side}
 use Rattle.kernel_family.specs.declared.place.Place.{Place}
 use Rattle.kernel_family.specs.Steps.{keeps, ahead, over, back}

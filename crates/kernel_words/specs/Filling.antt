@@ -2,7 +2,7 @@
 use Rattle.std.specs.Prelude.{◌≡◌, ℕ, suc, ◌<◌, Bool, true, false, if◌then◌else◌, pos, List, length, sum_by, slice_index, Option, Some, None}
 use Rattle.stream_graph.specs.declared.node.Kind.TheVariants as K
 use Rattle.stream_graph.specs.declared.node.Node.{Node}
-use Rattle.offset_edges.specs.Edges.{kind_at, operands_at, operand_at}
+use Rattle.stream_graph.specs.LookUps.{kind_at, operands_at, operand_at}
 use Rattle.stream_equations.specs.Equations.{enabled, count_before, right_side}
 use Rattle.kernel_words.specs.declared.cell.Cell.{Cell}
 use Rattle.kernel_words.specs.declared.cell.Cell.TheVariants.{Open, Undefined, Word}

@@ -1,7 +1,8 @@
 -- Where a run of a kernel first isn't guarded.
 use Rattle.std.specs.Prelude.{◌≡◌, ◌⊎◌, ℕ, ◌<◌, pos, List, length, Option, Some, None}
 use Rattle.stream_graph.specs.declared.node.Node.{Node}
-use Rattle.stream_equations.specs.Equations.{Values, control_of}
+use Rattle.stream_equations.specs.Equations.{Values}
+use Rattle.stream_graph.specs.LookUps.{control_of}
 use Rattle.kernel_family.specs.declared.place.Place.{Place}
 
 -- by tick, then node

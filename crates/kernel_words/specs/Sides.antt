@@ -7,8 +7,8 @@ use Rattle.fix_arith.specs.Table.{applied}
 use Rattle.stream_graph.specs.declared.node.Kind.{Kind}
 use Rattle.stream_graph.specs.declared.node.Kind.TheVariants as K
 use Rattle.stream_graph.specs.declared.node.Node.{Node}
-use Rattle.offset_edges.specs.Edges.{kind_at, operands_at, operand_at}
-use Rattle.stream_equations.specs.Equations.{GivenRun, Values, count_before, right_side, all_defined, chosen, operated, type_at, enabled, held, first_word}
+use Rattle.stream_graph.specs.LookUps.{kind_at, operands_at, operand_at, type_at}
+use Rattle.stream_equations.specs.Equations.{GivenRun, Values, count_before, right_side, all_defined, chosen, operated, enabled, held, first_word}
 use Rattle.kernel_family.specs.Steps.{keeps}
 
 -- a hold's word

@@ -23,7 +23,7 @@ use Rattle.std.specs.Prelude.{
 }
 use Rattle.stream_graph.specs.declared.node.Kind.TheVariants as K
 use Rattle.stream_graph.specs.declared.node.Node.{Node}
-use Rattle.offset_edges.specs.Edges.{kind_at, width_at}
+use Rattle.stream_graph.specs.LookUps.{kind_at, width_at}
 use Rattle.stream_equations.specs.Equations.{GivenRun, Values, chosen}
 use Rattle.kernel_words.specs.declared.run.KernelRun.{KernelRun}
 use Rattle.kernel_words.specs.declared.cell.Cell.{Cell}

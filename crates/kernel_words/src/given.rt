@@ -1,7 +1,7 @@
 // Whether what is given to a run has the widths of a kernel's nodes.
 ghost use Rattle.std.specs.Prelude.{◌≡◌, ◌≤◌, ◌<◌, ◌^◌, ℕ, true, false, Some, length, slice_index};
 ghost use Rattle.stream_graph.specs.declared.node.Kind.TheVariants.{Scalar};
-ghost use Rattle.offset_edges.specs.Edges.{kind_at};
+ghost use Rattle.stream_graph.specs.LookUps.{kind_at};
 ghost use Rattle.stream_equations.specs.Equations.{chosen};
 ghost use Rattle.kernel_words.specs.Streams.{IsGiven, IsGivenAt};
 

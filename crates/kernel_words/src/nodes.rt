@@ -1,8 +1,14 @@
 // Reading the nodes of a kernel.
 ghost use Rattle.std.specs.Prelude.{◌≡◌, ◌≤◌, ◌<◌, length};
 ghost use Rattle.fix_arith.specs.Types.{HasWidth};
-ghost use Rattle.offset_edges.specs.Edges.{kind_at, operand_at, operands_at, width_at};
-ghost use Rattle.stream_equations.specs.Equations.{digits_at, type_at};
+ghost use Rattle.stream_graph.specs.LookUps.{
+  kind_at,
+  operand_at,
+  operands_at,
+  width_at,
+  digits_at,
+  type_at,
+};
 
 use counter_chains::CounterDigit;
 use fix_arith::StreamType;

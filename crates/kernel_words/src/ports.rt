@@ -1,6 +1,7 @@
 // The words of the ports of a kernel.
 ghost use Rattle.std.specs.Prelude.{◌≡◌, ◌<◌, ◌++◌, ◌∷◌, [], pos, length, if◌then◌else◌, IfOk, OnOk};
-ghost use Rattle.stream_equations.specs.Equations.{GivenRun, control_of, enabled};
+ghost use Rattle.stream_equations.specs.Equations.{GivenRun, enabled};
+ghost use Rattle.stream_graph.specs.LookUps.{control_of};
 ghost use Rattle.stream_equations.specs.Words.{port_words};
 ghost use Rattle.kernel_words.specs.Streams.{values_of};
 

@@ -1,8 +1,9 @@
 // The words of all nodes in all ticks.
 ghost use Rattle.std.specs.Prelude.{◌≡◌, ◌≤◌, ◌*◌, ◌^◌, ◌<◌, [], true, length, slice_index, ℕ, Option, IfOk, IfSome, IfNone};
 ghost use Rattle.stream_graph.specs.declared.node.Kind.TheVariants.{Input};
-ghost use Rattle.stream_graph.specs.PortKinds.{is_input};
-ghost use Rattle.offset_edges.specs.Edges.{edges_of, kind_at};
+ghost use Rattle.stream_graph.specs.Kinds.{is_input};
+ghost use Rattle.offset_edges.specs.Edges.{edges_of};
+ghost use Rattle.stream_graph.specs.LookUps.{kind_at};
 ghost use Rattle.offset_edges.specs.Walks.{IsCausal};
 ghost use Rattle.stream_equations.specs.Equations.{StreamEquations};
 ghost use Rattle.kernel_family.specs.Steps.{IsStep, keeps, ahead};

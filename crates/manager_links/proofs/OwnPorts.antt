@@ -11,9 +11,9 @@ use Rattle.kernel_meaning.specs.declared.plan.Plan.{Plan}
 use Rattle.stream_graph.specs.declared.kernel.Kernel.{Kernel}
 use Rattle.stream_graph.specs.declared.node.Kind.{Kind}
 use Rattle.stream_graph.specs.declared.node.Node.{Node}
-use Rattle.stream_graph.specs.PortKinds.{is_input, is_output}
-use Rattle.offset_edges.specs.Edges.{no_node}
-use Rattle.offset_edges.proofs.NodeLemmas.{short_names}
+use Rattle.stream_graph.specs.Kinds.{is_input, is_output}
+use Rattle.stream_graph.specs.LookUps.{no_node}
+use Rattle.stream_graph.proofs.NodeLemmas.{short_names}
 use Rattle.manager_links.specs.declared.hosts.HostPort.{HostPort}
 use Rattle.manager_links.specs.declared.links.LinkEnds.{LinkEnds}
 use Rattle.manager_links.specs.declared.links.PortAt.{PortAt}

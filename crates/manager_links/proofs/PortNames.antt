@@ -17,9 +17,9 @@ use Rattle.stream_graph.specs.Nodes.{later, name_by, IsKind, AreNodes}
 use Rattle.stream_graph.specs.Ports.{is_again, AllDiffer}
 use Rattle.stream_graph.specs.Steps.{WereLawful}
 use Rattle.stream_graph.proofs.NamesDiffer.{DidDiffer, did_later, or_first, or_second}
-use Rattle.offset_edges.specs.Edges.{node_at, no_node}
-use Rattle.offset_edges.proofs.CallLemmas.{made_below, makes_cases, were_later}
-use Rattle.offset_edges.proofs.NodeLemmas.{IsOf, of_node}
+use Rattle.stream_graph.specs.LookUps.{node_at, no_node}
+use Rattle.stream_graph.proofs.CallLemmas.{made_below, makes_cases, were_later}
+use Rattle.stream_graph.proofs.NodeLemmas.{IsOf, of_node}
 use Rattle.manager_links.specs.Terminals.{Terminal, Input, Output, terminal_by, terminal_of}
 
 -- ---- calls

@@ -5,7 +5,7 @@ use Rattle.kernel_meaning.specs.declared.plan.End.{End}
 use Rattle.kernel_meaning.specs.declared.plan.End.TheVariants as E
 use Rattle.kernel_meaning.specs.declared.plan.Join.{Join}
 use Rattle.stream_graph.specs.declared.kernel.Kernel.{Kernel}
-use Rattle.stream_graph.specs.PortKinds.{is_input, is_output}
+use Rattle.stream_graph.specs.Kinds.{is_input, is_output}
 use Rattle.manager_links.specs.declared.links.Link.{Link}
 use Rattle.manager_links.specs.declared.links.LinkEnds.{LinkEnds}
 use Rattle.manager_links.specs.Ports.{IsPortAt}

@@ -7,7 +7,7 @@ use Rattle.std.specs.Option.{option_eq}
 use Rattle.kernel_meaning.specs.declared.plan.Join.{Join}
 use Rattle.kernel_meaning.specs.declared.plan.Plan.{Plan}
 use Rattle.stream_graph.specs.declared.kernel.Kernel.{Kernel}
-use Rattle.stream_graph.specs.PortKinds.{is_input, is_output}
+use Rattle.stream_graph.specs.Kinds.{is_input, is_output}
 use Rattle.manager_links.specs.declared.ends.Ends.{Ends}
 use Rattle.manager_links.specs.declared.names.Names.{Names}
 use Rattle.manager_links.specs.declared.terminals.Slot.{Slot}

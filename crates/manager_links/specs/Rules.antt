@@ -4,7 +4,7 @@ use Rattle.std.specs.List.{Contains}
 use Rattle.kernel_meaning.specs.declared.plan.Join.{Join}
 use Rattle.kernel_meaning.specs.declared.plan.Plan.{Plan}
 use Rattle.stream_graph.specs.declared.kernel.Kernel.{Kernel}
-use Rattle.stream_graph.specs.PortKinds.{is_input, is_output}
+use Rattle.stream_graph.specs.Kinds.{is_input, is_output}
 use Rattle.manager_links.specs.declared.error.EndName.TheVariants as N
 use Rattle.manager_links.specs.declared.error.LinkError.{LinkError}
 use Rattle.manager_links.specs.declared.error.LinkError.TheVariants as L

@@ -3,7 +3,7 @@ ghost use Rattle.std.specs.Prelude.{◌≡◌, ◌<◌, All, Some, length, slice
 ghost use Rattle.std.specs.List.{AllZip};
 ghost use Rattle.kernel_meaning.specs.declared.plan.Join.{Join as OneJoin};
 ghost use Rattle.stream_graph.specs.declared.node.Node.{Node};
-ghost use Rattle.stream_graph.specs.PortKinds.{is_input, is_output};
+ghost use Rattle.stream_graph.specs.Kinds.{is_input, is_output};
 ghost use Rattle.manager_links.specs.Hosts as Own;
 ghost use Rattle.manager_links.specs.Hosts.{IsHostInput, IsHostOutput, HasType, own_host};
 ghost use Rattle.manager_links.specs.Numbers.{IsSlot};

@@ -9,8 +9,8 @@ use Rattle.manager_links.specs.Hosts.{HasType}
 use Rattle.manager_links.specs.declared.hosts.HostPort.{HostPort}
 use Rattle.manager_links.specs.declared.project.Project.{Project}
 use Rattle.mx_base.specs.Files.{Name}
-use Rattle.offset_edges.specs.Edges.{node_at}
-use Rattle.offset_edges.proofs.NodeLemmas.{orderly}
+use Rattle.stream_graph.specs.LookUps.{node_at}
+use Rattle.stream_graph.proofs.NodeLemmas.{orderly}
 use Rattle.project_rtl.specs.Shapes.{shape_of, host_shape}
 use Rattle.project_streams.specs.Streams.{nodes_at}
 use Rattle.project_words.proofs.Ports.{IsThere, host_there}

@@ -19,7 +19,8 @@ use Rattle.schedule_problem.specs.Flow.{cost_of}
 use Rattle.kernel_schedule.specs.declared.schedule.Schedule.{Schedule}
 use Rattle.kernel_schedule.specs.Schedules.{IsSchedulable, IsLeastLegal}
 use Rattle.kernel_netlist.specs.Scheduled.{IsBestSchedule}
-use Rattle.offset_edges.specs.Edges.{kind_at, edges_of}
+use Rattle.stream_graph.specs.LookUps.{kind_at}
+use Rattle.offset_edges.specs.Edges.{edges_of}
 use Rattle.offset_edges.specs.Problems.{problem_of, problem_over}
 use Rattle.offset_edges.specs.Schedules.{IsLegal, fifo_bits}
 use Rattle.offset_edges.specs.Walks.{AreCovered}

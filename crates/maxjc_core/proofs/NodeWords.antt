@@ -49,14 +49,14 @@ use Rattle.std.proofs.lemmas.List.{
 use Rattle.std.proofs.lemmas.List.Folds.{length-flat_map-take}
 use Rattle.std.proofs.Math.Seq.{take-add}
 use Rattle.kernel_control.specs.Ports.{numbers_from, scalars_of}
-use Rattle.offset_edges.specs.Edges.{kind_at, no_node, node_at}
+use Rattle.stream_graph.specs.LookUps.{kind_at, no_node, node_at}
 use Rattle.project_rtl.specs.Shapes.{scalar_shape, scalar_shapes}
 use Rattle.stream_graph.specs.declared.kernel.Kernel.{Kernel}
 use Rattle.stream_graph.specs.declared.node.Kind.{Kind}
 use Rattle.stream_graph.specs.declared.node.Kind.TheVariants as K
 use Rattle.stream_graph.specs.declared.node.Node.{Node}
 use Rattle.stream_graph.specs.declared.node.NodeView.{NodeView}
-use Rattle.stream_graph.specs.PortKinds.{is_scalar}
+use Rattle.stream_graph.specs.Kinds.{is_scalar}
 use Rattle.maxjc_core.specs.ExpectStops.{AreNodeLists, AreNodeWords}
 
 -- ---- what the code reads of a node

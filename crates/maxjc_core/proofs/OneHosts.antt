@@ -18,7 +18,7 @@ use Rattle.manager_links.proofs.OnlyPort.{only_input, only_output}
 use Rattle.manager_links.proofs.Pieces.{differ_head, differ_tail, in_more}
 use Rattle.manager_links.proofs.Sides.{of_any}
 use Rattle.stream_graph.specs.declared.kernel.Kernel.{Kernel}
-use Rattle.stream_graph.specs.PortKinds.{is_input, is_output}
+use Rattle.stream_graph.specs.Kinds.{is_input, is_output}
 use Rattle.maxjc_core.proofs.Lists.{zip_only}
 use Rattle.maxjc_core.proofs.OneProject.{AreSame}
 

@@ -36,7 +36,7 @@ use Rattle.kernel_control.specs.Ports.{numbers_from, scalars_of}
 use Rattle.manager_links.specs.declared.hosts.HostPort.{HostPort}
 use Rattle.manager_links.specs.declared.project.Project.{Project}
 use Rattle.mx_base.specs.Files.{Name}
-use Rattle.offset_edges.specs.Edges.{kind_at, width_at}
+use Rattle.stream_graph.specs.LookUps.{kind_at, width_at}
 use Rattle.project_rtl.specs.Shapes.{host_shape, scalar_shape, scalar_shapes}
 use Rattle.project_rtl.specs.Words.{scalars_from, ticks_from}
 use Rattle.project_streams.specs.Streams.{GivenProject, nodes_at}
@@ -48,7 +48,7 @@ use Rattle.simulation.specs.declared.plan.Plan.{Plan}
 use Rattle.stream_graph.specs.declared.kernel.Kernel.{Kernel}
 use Rattle.stream_graph.specs.declared.node.Kind.TheVariants as K
 use Rattle.stream_graph.specs.declared.node.Node.{Node}
-use Rattle.stream_graph.specs.PortKinds.{is_scalar}
+use Rattle.stream_graph.specs.Kinds.{is_scalar}
 use Rattle.maxjc_core.specs.Expecting.{IsGivenBy}
 use Rattle.maxjc_core.specs.ExpectStops.{AreNodeLists, AreWithin, FitsPorts}
 use Rattle.maxjc_core.specs.InputWords.{readings_of}

@@ -35,13 +35,9 @@ use Rattle.std.proofs.lemmas.List.{get_or_default, take_more, flat_map_more}
 use Rattle.std.proofs.lemmas.List.Elements.{All-nil, All-cons, All-append}
 use Rattle.stream_graph.specs.declared.node.Node.{Node}
 use Rattle.offset_edges.specs.declared.edge.Edge.{Edge}
+use Rattle.stream_graph.specs.LookUps.{kind_at, operands_at, operand_at}
 use Rattle.offset_edges.specs.Edges.{
-  kind_at,
-  operands_at,
-  operand_at,
   source_of,
-  is_steady,
-  is_offset,
   edge_of,
   edges_into,
   edges_below,
@@ -50,7 +46,8 @@ use Rattle.offset_edges.specs.Edges.{
   IsSmall,
   IsEdge,
 }
-use Rattle.offset_edges.proofs.NodeLemmas.{IsOrderly}
+use Rattle.stream_graph.specs.Kinds.{is_steady, is_offset}
+use Rattle.stream_graph.proofs.NodeLemmas.{IsOrderly}
 use Rattle.offset_edges.proofs.SourceLemmas.{source_known}
 
 picked : {X : Type 0} (b : Bool) (x y : X) (P : X → Type 0) → P x → P y → P (if b then x else y)

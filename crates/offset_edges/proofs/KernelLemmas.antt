@@ -32,7 +32,7 @@ use Rattle.offset_edges.specs.Refused.{IsUncovered}
 use Rattle.offset_edges.specs.Walks.{offsets_of, latencies_of, IsShown}
 use Rattle.offset_edges.specs.Problems.{problem_over, problem_of, edge_under}
 use Rattle.offset_edges.proofs.CoveredLemmas.{IsShortRound, short_round}
-use Rattle.offset_edges.proofs.NodeLemmas.{orderly}
+use Rattle.stream_graph.proofs.NodeLemmas.{orderly}
 use Rattle.offset_edges.proofs.EdgeLemmas.{edges_small, edges_few}
 use Rattle.offset_edges.proofs.LatencyLemmas.{ticks_read}
 use Rattle.offset_edges.proofs.ShownLemmas.{shown_same}

@@ -21,12 +21,16 @@ use Rattle.std.proofs.Common.{
 use Rattle.std.specs.Prelude.{Option, Some, None, IsSome, unwrap_or}
 use Rattle.std.proofs.lemmas.Bool.{cases_lt}
 use Rattle.std.proofs.lemmas.List.{length_push, get_or_append_left, get_or_push, get_or_past}
+use Rattle.mx_bits.specs.declared.op.Op.{Op}
+use Rattle.mx_bits.specs.declared.op.Op.TheVariants.{Mux}
 use Rattle.stream_graph.specs.declared.node.Node.{Node}
+use Rattle.stream_graph.proofs.NodeLemmas.{least_args}
 use Rattle.latency_table.specs.declared.table.Table.{Table}
 use Rattle.offset_edges.specs.declared.error.EdgeError.{EdgeError}
 use Rattle.offset_edges.specs.declared.error.EdgeError.TheVariants as E
-use Rattle.offset_edges.specs.Edges.{no_node}
+use Rattle.stream_graph.specs.LookUps.{no_node}
 use Rattle.offset_edges.specs.Latencies.{
+  deciding,
   latency_at,
   latency_as,
   ticks_of,
@@ -35,6 +39,11 @@ use Rattle.offset_edges.specs.Latencies.{
   Lacks,
   IsMissing,
 }
+
+-- an operation has the operand that decides its latency
+pub decides : (op : Op) (count : ℕ) → least_args op ≤ count → deciding op < count
+decides Mux count h = omega (arith, h)
+decides _ count h = omega (arith, h)
 
 pub some_from : {X : Type 0} (o : Option X) (x : X) → o ≡ Some x → IsSome o
 some_from None x e = absurd (cc)

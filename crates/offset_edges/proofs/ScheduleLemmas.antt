@@ -57,7 +57,8 @@ use Rattle.schedule_problem.specs.declared.problem.Term.{Term}
 use Rattle.schedule_problem.specs.Flow.{total, term_cost, cost_of}
 use Rattle.stream_graph.specs.declared.node.Node.{Node}
 use Rattle.offset_edges.specs.declared.edge.Edge.{Edge}
-use Rattle.offset_edges.specs.Edges.{edge_at, width_at, IsSmall}
+use Rattle.offset_edges.specs.Edges.{edge_at, IsSmall}
+use Rattle.stream_graph.specs.LookUps.{width_at}
 use Rattle.offset_edges.specs.Problems.{
   arcs_over,
   reader_of,

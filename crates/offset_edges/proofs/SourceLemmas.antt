@@ -26,16 +26,10 @@ use Rattle.stream_graph.specs.declared.node.Kind.{Kind}
 use Rattle.stream_graph.specs.declared.node.Kind.TheVariants as K
 use Rattle.stream_graph.specs.declared.node.Node.{Node}
 use Rattle.offset_edges.specs.declared.source.Source.{Source}
-use Rattle.offset_edges.specs.Edges.{
-  kind_at,
-  operand_at,
-  new_source,
-  past,
-  source_within,
-  source_of,
-  is_offset,
-}
-use Rattle.offset_edges.proofs.NodeLemmas.{IsOrderly}
+use Rattle.stream_graph.specs.LookUps.{kind_at, operand_at}
+use Rattle.offset_edges.specs.Edges.{new_source, past, source_within, source_of}
+use Rattle.stream_graph.specs.Kinds.{is_offset}
+use Rattle.stream_graph.proofs.NodeLemmas.{IsOrderly}
 
 -- of a kind: an offset, or another one
 pub kind_cases : (kind : Kind) → ((ticks : ℤ) × (kind ≡ K.Offset ticks)) ⊎ (is_offset kind ≡ false)

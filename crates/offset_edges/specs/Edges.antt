@@ -24,40 +24,13 @@ use Rattle.std.specs.Prelude.{
   slice_index_or,
 }
 use Rattle.std.specs.List.{flat_map}
-use Rattle.fix_arith.specs.declared.types.StreamType.TheVariants.{UInt}
-use Rattle.fix_arith.specs.Types.{width_of}
 use Rattle.stream_graph.specs.declared.node.Kind.{Kind}
 use Rattle.stream_graph.specs.declared.node.Kind.TheVariants as K
 use Rattle.stream_graph.specs.declared.node.Node.{Node}
+use Rattle.stream_graph.specs.LookUps.{kind_at, operands_at, operand_at}
+use Rattle.stream_graph.specs.Kinds.{is_steady, is_offset}
 use Rattle.offset_edges.specs.declared.edge.Edge.{Edge}
 use Rattle.offset_edges.specs.declared.source.Source.{Source}
-
--- ---- nodes by their numbers
-
--- what stands past the last node
-abbrev pub no_node : Node
-no_node = record {
-  view = record { kind = K.Scalar; t = UInt 0; controlled = false };
-  operands = [];
-  name = [];
-  digits = [];
-}
-
-abbrev pub node_at : List Node → ℕ → Node
-node_at nodes n = slice_index_or nodes n no_node
-
-abbrev pub kind_at : List Node → ℕ → Kind
-kind_at nodes n = (node_at nodes n).view.kind
-
-abbrev pub operands_at : List Node → ℕ → List ℕ
-operands_at nodes n = (node_at nodes n).operands
-
-abbrev pub operand_at : List Node → ℕ → ℕ → ℕ
-operand_at nodes n place = slice_index (operands_at nodes n) place
-
--- the bits of a node's words
-abbrev pub width_at : List Node → ℕ → ℕ
-width_at nodes n = width_of (node_at nodes n).view.t
 
 -- ---- past offsets
 
@@ -87,16 +60,6 @@ pub record AreSources (nodes : List Node) (count : ℕ) (sources : List Source) 
   pub each : (n : ℕ) (d : Source) → n < count → slice_index_or sources n d ≡ source_of nodes n
 
 -- ---- edges
-
--- the words of such a node are one word in all ticks of a run
-abbrev pub is_steady : Kind → Bool
-is_steady (K.Constant word) = true
-is_steady K.Scalar = true
-is_steady _ = false
-
-abbrev pub is_offset : Kind → Bool
-is_offset (K.Offset ticks) = true
-is_offset _ = false
 
 -- the edge over which a node reads an operand; none from one word in all ticks
 abbrev pub edge_of : List Node → ℕ → ℕ → List Edge

@@ -23,7 +23,7 @@ use Rattle.latency_table.specs.declared.table.Table.{Table}
 use Rattle.latency_table.specs.Tables.{latency_of}
 use Rattle.offset_edges.specs.declared.error.EdgeError.{EdgeError}
 use Rattle.offset_edges.specs.declared.error.EdgeError.TheVariants as E
-use Rattle.offset_edges.specs.Edges.{kind_at, operand_at, width_at}
+use Rattle.stream_graph.specs.LookUps.{kind_at, operand_at, width_at}
 
 -- the place of the operand whose width says which row of the table counts: the first, of a
 -- multiplexer the second

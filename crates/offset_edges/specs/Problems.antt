@@ -31,7 +31,8 @@ use Rattle.schedule_problem.specs.declared.problem.Problem.{Problem}
 use Rattle.stream_graph.specs.declared.node.Node.{Node}
 use Rattle.latency_table.specs.declared.table.Table.{Table}
 use Rattle.offset_edges.specs.declared.edge.Edge.{Edge}
-use Rattle.offset_edges.specs.Edges.{edges_of, width_at}
+use Rattle.offset_edges.specs.Edges.{edges_of}
+use Rattle.stream_graph.specs.LookUps.{width_at}
 use Rattle.offset_edges.specs.Latencies.{ticks_of}
 
 -- the two arcs of an edge: a reader comes after the latency of what it reads, and so many ticks

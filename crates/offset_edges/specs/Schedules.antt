@@ -27,7 +27,8 @@ use Rattle.schedule_problem.specs.Flow.{cost_of}
 use Rattle.stream_graph.specs.declared.node.Node.{Node}
 use Rattle.latency_table.specs.declared.table.Table.{Table}
 use Rattle.offset_edges.specs.declared.edge.Edge.{Edge}
-use Rattle.offset_edges.specs.Edges.{edges_of, edge_at, width_at}
+use Rattle.offset_edges.specs.Edges.{edges_of, edge_at}
+use Rattle.stream_graph.specs.LookUps.{width_at}
 use Rattle.offset_edges.specs.Latencies.{ticks_of}
 use Rattle.offset_edges.specs.Problems.{problem_of}
 

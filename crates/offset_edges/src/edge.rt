@@ -1,6 +1,7 @@
 // The edges of a kernel, in order.
 ghost use Rattle.std.specs.Prelude.{◌≡◌, ◌<◌, ◌≤◌, ◌^◌, ◌++◌, All, length, option_to_list, IfOk, OnOk};
-ghost use Rattle.offset_edges.specs.Edges.{edges_of, edges_into, edge_of, is_steady, is_offset, IsEdge, AreSources};
+ghost use Rattle.offset_edges.specs.Edges.{edges_of, edges_into, edge_of, IsEdge, AreSources};
+ghost use Rattle.stream_graph.specs.Kinds.{is_steady, is_offset};
 
 use crate::source::{Source, sources};
 use mx_base::NoMemory;

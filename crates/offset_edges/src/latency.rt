@@ -1,6 +1,6 @@
 // The latencies of a kernel's nodes.
 ghost use Rattle.std.specs.Prelude.{◌≡◌, ◌<◌, ◌≤◌, Some, length, IfOk, IfErr};
-ghost use Rattle.offset_edges.specs.Edges.{operands_at};
+ghost use Rattle.stream_graph.specs.LookUps.{operands_at};
 ghost use Rattle.offset_edges.specs.Latencies.{deciding, latency_at, width_for, AreLatencies, Lacks, IsMissing};
 
 use crate::EdgeError;

@@ -1,6 +1,7 @@
 // The problem of a kernel's schedules.
 ghost use Rattle.std.specs.Prelude.{◌≡◌, ℕ, ◌<◌, ◌≤◌, ◌^◌, length, slice_index, slice_index_or, option_to_list, IfOk};
-ghost use Rattle.offset_edges.specs.Edges.{edge_at, width_at, IsSmall};
+ghost use Rattle.offset_edges.specs.Edges.{edge_at, IsSmall};
+ghost use Rattle.stream_graph.specs.LookUps.{width_at};
 ghost use Rattle.offset_edges.specs.Problems.{arcs_over, term_of, base_of, terms_below, base_below, problem_over, AreReaders};
 
 use crate::Edge;

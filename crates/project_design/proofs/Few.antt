@@ -15,7 +15,7 @@ use Rattle.rtl_ir.specs.Ports.{first_scalar, first_input, first_output, done_por
 use Rattle.stream_graph.specs.declared.kernel.Kernel.{Kernel}
 use Rattle.stream_graph.specs.declared.node.Kind.{Kind}
 use Rattle.stream_graph.specs.declared.node.Node.{Node}
-use Rattle.stream_graph.specs.PortKinds.{is_input, is_output, is_scalar}
+use Rattle.stream_graph.specs.Kinds.{is_input, is_output, is_scalar}
 use Rattle.kernel_control.specs.Ports.{inputs_of, outputs_of, scalars_of}
 use Rattle.manager_links.specs.declared.hosts.HostPort.{HostPort}
 use Rattle.manager_links.specs.declared.links.LinkEnds.{LinkEnds}

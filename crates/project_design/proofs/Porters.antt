@@ -4,8 +4,8 @@ use Rattle.std.proofs.Common.{◌∷◌, ◌++◌, drop, get_or, length, refl, s
 use Rattle.std.proofs.Common.{append-nil, append_assoc, add-one, drop-cons}
 use Rattle.stream_graph.specs.declared.node.Node.{Node}
 use Rattle.stream_graph.specs.declared.node.Kind.{Kind}
-use Rattle.stream_graph.specs.PortKinds.{is_input, is_output, is_scalar}
-use Rattle.offset_edges.specs.Edges.{node_at, kind_at, no_node}
+use Rattle.stream_graph.specs.Kinds.{is_input, is_output, is_scalar}
+use Rattle.stream_graph.specs.LookUps.{node_at, kind_at, no_node}
 use Rattle.kernel_control.specs.Ports.{numbers_from, inputs_of, outputs_of, scalars_of}
 use Rattle.project_design.specs.declared.nodes.PortNodes.{PortNodes}
 use Rattle.project_design.specs.Nodes.{AreWithin, ArePortNodes}

@@ -1,7 +1,7 @@
 // The nodes of a kernel that are ports, and what the design has from them.
 ghost use Rattle.std.specs.Prelude.{◌≡◌, ◌≤◌, ◌<◌, ◌++◌, ◌∷◌, [], if◌then◌else◌, length, IfOk, OnOk};
-ghost use Rattle.offset_edges.specs.Edges.{node_at, width_at};
-ghost use Rattle.stream_graph.specs.PortKinds.{is_input, is_output, is_scalar};
+ghost use Rattle.stream_graph.specs.LookUps.{node_at, width_at};
+ghost use Rattle.stream_graph.specs.Kinds.{is_input, is_output, is_scalar};
 ghost use Rattle.project_design.specs.Nodes.{ArePortNodes};
 
 use mx_base::NoMemory;

@@ -11,7 +11,7 @@ ghost use Rattle.rtl_ir.specs.Ports.{
   shape_ports,
 };
 ghost use Rattle.rtl_build.specs.Wires.{empty};
-ghost use Rattle.offset_edges.specs.Edges.{node_at};
+ghost use Rattle.stream_graph.specs.LookUps.{node_at};
 ghost use Rattle.manager_links.specs.Hosts.{HasType};
 ghost use Rattle.manager_links.specs.Rules.{kernel_names};
 ghost use Rattle.project_rtl.specs.Shapes.{scalar_shape, scalar_shapes, host_shape, shape_of};

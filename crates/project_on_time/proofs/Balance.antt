@@ -8,7 +8,7 @@ use Rattle.std.proofs.lemmas.Option.{same_Some}
 use Rattle.rtl_ir.specs.declared.design.Module.{Module}
 use Rattle.rtl_ir.specs.Ports.{first_output}
 use Rattle.stream_equations.specs.Equations.{count_before}
-use Rattle.stream_graph.specs.PortKinds.{is_input, is_output}
+use Rattle.stream_graph.specs.Kinds.{is_input, is_output}
 use Rattle.kernel_control.specs.Ports.{inputs_of, outputs_of}
 use Rattle.kernel_control.specs.Refines.{greatest_time, last_time}
 use Rattle.manager_links.specs.declared.links.Link.{Link}

@@ -5,7 +5,7 @@ use Rattle.std.specs.Option.{option_map_or}
 use Rattle.std.proofs.lemmas.Option.{same_Some}
 use Rattle.rtl_ir.specs.declared.design.Module.{Module}
 use Rattle.stream_graph.specs.declared.kernel.Kernel.{Kernel}
-use Rattle.stream_graph.specs.PortKinds.{is_output}
+use Rattle.stream_graph.specs.Kinds.{is_output}
 use Rattle.kernel_control.specs.Ports.{PortChannel, inputs_of, outputs_of}
 use Rattle.kernel_control.specs.Ports as kernel_ports
 use Rattle.kernel_control.specs.Refines.{last_time}

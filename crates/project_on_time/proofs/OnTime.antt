@@ -11,7 +11,7 @@ use Rattle.rtl_ir.specs.Parts.{own_of}
 use Rattle.rtl_ir.specs.Run.{Channel, Outer, Event, moved, Driven}
 use Rattle.rtl_ir.specs.Ports.{first_output}
 use Rattle.stream_graph.specs.declared.kernel.Kernel.{Kernel}
-use Rattle.stream_graph.specs.PortKinds.{is_input, is_output}
+use Rattle.stream_graph.specs.Kinds.{is_input, is_output}
 use Rattle.stream_equations.specs.Equations.{count_before}
 use Rattle.manager_links.specs.declared.links.Links.{Links}
 use Rattle.manager_links.specs.declared.project.Project.{Project}

@@ -32,7 +32,7 @@ use Rattle.std.proofs.lemmas.Option.{slice_get-map}
 use Rattle.rtl_ir.specs.Ports.{is_plain_name}
 use Rattle.stream_graph.specs.declared.kernel.Kernel.{Kernel}
 use Rattle.stream_graph.specs.declared.node.Kind.{Kind}
-use Rattle.stream_graph.specs.PortKinds.{is_scalar}
+use Rattle.stream_graph.specs.Kinds.{is_scalar}
 use Rattle.stream_graph.specs.declared.node.Kind.TheVariants as K
 use Rattle.kernel_calls.specs.Laws.{is_port_name}
 use Rattle.kernel_control.specs.Ports.{port_shape, scalars_of}

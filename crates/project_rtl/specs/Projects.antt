@@ -5,7 +5,7 @@ use Rattle.fix_arith.specs.Types.{width_of}
 use Rattle.rtl_ir.specs.declared.design.Design.{Design}
 use Rattle.rtl_ir.specs.declared.design.Module.{Module}
 use Rattle.stream_graph.specs.declared.kernel.Kernel.{Kernel}
-use Rattle.offset_edges.specs.Edges.{width_at}
+use Rattle.stream_graph.specs.LookUps.{width_at}
 use Rattle.link_fifo.specs.Fifo.{IsFifoModule}
 use Rattle.manager_links.specs.declared.hosts.HostPort.{HostPort}
 use Rattle.manager_links.specs.declared.links.Link.{Link}

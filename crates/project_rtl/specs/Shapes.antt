@@ -4,7 +4,7 @@ use Rattle.std.specs.List.{flat_map}
 use Rattle.fix_arith.specs.Types.{width_of}
 use Rattle.rtl_ir.specs.Ports.{Shape, done_port}
 use Rattle.stream_graph.specs.declared.kernel.Kernel.{Kernel}
-use Rattle.offset_edges.specs.Edges.{node_at, width_at}
+use Rattle.stream_graph.specs.LookUps.{node_at, width_at}
 use Rattle.kernel_control.specs.Ports.{scalars_of}
 use Rattle.manager_links.specs.declared.hosts.HostPort.{HostPort}
 use Rattle.manager_links.specs.declared.project.Project.{Project}

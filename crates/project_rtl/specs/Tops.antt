@@ -27,7 +27,7 @@ use Rattle.rtl_ir.specs.declared.design.Expr.TheVariants as exprs
 use Rattle.rtl_ir.specs.Ports.{PortView, shape_ports, first_input, first_output, done_port}
 use Rattle.stream_graph.specs.declared.kernel.Kernel.{Kernel}
 use Rattle.stream_graph.specs.declared.node.Node.{Node}
-use Rattle.offset_edges.specs.Edges.{width_at}
+use Rattle.stream_graph.specs.LookUps.{width_at}
 use Rattle.link_fifo.specs.Netlist.{wire, port, gets, wires_from}
 use Rattle.manager_links.specs.declared.hosts.HostPort.{HostPort}
 use Rattle.manager_links.specs.declared.links.LinkEnds.{LinkEnds}

@@ -20,8 +20,8 @@ use Rattle.stream_graph.specs.declared.kernel.Kernel.{Kernel}
 use Rattle.stream_graph.specs.declared.node.Kind.{Kind}
 use Rattle.stream_graph.specs.declared.node.Kind.TheVariants as K
 use Rattle.stream_graph.specs.declared.node.Node.{Node}
-use Rattle.stream_graph.specs.PortKinds.{is_scalar}
-use Rattle.offset_edges.specs.Edges.{node_at, kind_at, no_node}
+use Rattle.stream_graph.specs.Kinds.{is_scalar}
+use Rattle.stream_graph.specs.LookUps.{node_at, kind_at, no_node}
 use Rattle.kernel_calls.specs.Laws.{is_port_name}
 use Rattle.kernel_control.specs.Ports.{scalars_of}
 use Rattle.kernel_ports.proofs.Kernels.{role_of, named}

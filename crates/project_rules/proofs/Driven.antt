@@ -10,7 +10,7 @@ use Rattle.rtl_ir.specs.Typed.{is_given}
 use Rattle.rtl_ir.specs.Rules.{Connection, Driver, ByAssign, ByPort, Drives, HasDrivers}
 use Rattle.rtl_ir.specs.Ports.{PortView, port_view, first_input, first_output, done_port}
 use Rattle.stream_graph.specs.declared.kernel.Kernel.{Kernel}
-use Rattle.offset_edges.specs.Edges.{width_at}
+use Rattle.stream_graph.specs.LookUps.{width_at}
 use Rattle.kernel_control.specs.Ports as own
 use Rattle.kernel_control.specs.Ports.{inputs_of, outputs_of, module_ports}
 use Rattle.manager_links.specs.declared.hosts.HostPort.{HostPort}

@@ -11,7 +11,7 @@ use Rattle.rtl_ir.specs.Typed.{is_input, is_given}
 use Rattle.rtl_ir.specs.Ports.{PortView, kernel_ports, scalar_ports, host_input_ports, host_output_ports, input_port, output_port, shape_ports}
 use Rattle.stream_graph.specs.declared.kernel.Kernel.{Kernel}
 use Rattle.stream_graph.specs.declared.node.Node.{Node}
-use Rattle.offset_edges.specs.Edges.{width_at}
+use Rattle.stream_graph.specs.LookUps.{width_at}
 use Rattle.kernel_control.specs.Ports.{inputs_of, outputs_of, scalars_of}
 use Rattle.link_fifo.specs.Netlist.{wires_from}
 use Rattle.manager_links.specs.declared.hosts.HostPort.{HostPort}

@@ -7,7 +7,7 @@ use Rattle.std.proofs.lemmas.Bool.Decides.{nat_tests}
 use Rattle.stream_graph.specs.declared.node.Kind.{Kind}
 use Rattle.stream_graph.specs.declared.node.Kind.TheVariants as K
 use Rattle.stream_graph.specs.declared.node.Node.{Node}
-use Rattle.stream_graph.specs.PortKinds.{is_input, is_output}
+use Rattle.stream_graph.specs.Kinds.{is_input, is_output}
 use Rattle.kernel_control.specs.Ports.{numbers_from, inputs_of, outputs_of}
 use Rattle.project_rtl.specs.Blocks.{streams_of, place_of}
 use Rattle.project_rules.proofs.Lists.{within, at_left, at_behind, same_item}

@@ -12,7 +12,7 @@ use Rattle.rtl_build.specs.Wires.{is_output as is_taken_port}
 use Rattle.stream_graph.specs.declared.kernel.Kernel.{Kernel}
 use Rattle.stream_graph.specs.declared.node.Kind.{Kind}
 use Rattle.stream_graph.specs.declared.node.Node.{Node}
-use Rattle.stream_graph.specs.PortKinds.{is_input, is_output}
+use Rattle.stream_graph.specs.Kinds.{is_input, is_output}
 use Rattle.kernel_control.specs.Ports.{inputs_of, outputs_of, module_ports}
 use Rattle.link_fifo.specs.Fifo.{fifo_ports}
 use Rattle.manager_links.specs.declared.hosts.HostPort.{HostPort}

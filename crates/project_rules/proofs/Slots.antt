@@ -6,7 +6,7 @@ use Rattle.fix_arith.specs.Types.{width_of}
 use Rattle.rtl_ir.specs.Rules.{Driver, ByAssign, ByPort}
 use Rattle.rtl_ir.specs.Ports.{first_scalar, first_input, first_output, done_port}
 use Rattle.stream_graph.specs.declared.kernel.Kernel.{Kernel}
-use Rattle.offset_edges.specs.Edges.{width_at}
+use Rattle.stream_graph.specs.LookUps.{width_at}
 use Rattle.kernel_control.specs.Ports.{inputs_of, outputs_of, scalars_of, ended_port}
 use Rattle.kernel_control.specs.Ports as own
 use Rattle.manager_links.specs.declared.hosts.HostPort.{HostPort}

@@ -7,8 +7,8 @@ use Rattle.fix_arith.specs.Types.{width_of}
 use Rattle.stream_graph.specs.declared.kernel.Kernel.{Kernel}
 use Rattle.stream_graph.specs.declared.node.Kind.{Kind}
 use Rattle.stream_graph.specs.declared.node.Node.{Node}
-use Rattle.stream_graph.specs.PortKinds.{is_input, is_output}
-use Rattle.offset_edges.specs.Edges.{width_at, no_node}
+use Rattle.stream_graph.specs.Kinds.{is_input, is_output}
+use Rattle.stream_graph.specs.LookUps.{width_at, no_node}
 use Rattle.kernel_control.specs.Ports.{inputs_of, outputs_of}
 use Rattle.manager_links.specs.declared.hosts.HostPort.{HostPort}
 use Rattle.manager_links.specs.declared.links.PortAt.{PortAt}

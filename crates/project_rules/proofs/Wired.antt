@@ -6,8 +6,8 @@ use Rattle.rtl_ir.specs.Rules.{ByPort}
 use Rattle.rtl_ir.specs.Ports.{PortView, host_input_ports, host_output_ports, input_port, output_port}
 use Rattle.stream_graph.specs.declared.kernel.Kernel.{Kernel}
 use Rattle.stream_graph.specs.declared.node.Node.{Node}
-use Rattle.stream_graph.specs.PortKinds.{is_input, is_output}
-use Rattle.offset_edges.specs.Edges.{width_at}
+use Rattle.stream_graph.specs.Kinds.{is_input, is_output}
+use Rattle.stream_graph.specs.LookUps.{width_at}
 use Rattle.kernel_control.specs.Ports as own
 use Rattle.kernel_control.specs.Ports.{inputs_of, outputs_of, scalars_of, port_shape, module_ports}
 use Rattle.link_fifo.specs.Fifo.{fifo_ports}

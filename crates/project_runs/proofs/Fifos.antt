@@ -4,7 +4,7 @@ use Rattle.std.specs.Prelude.{slice_get, slice_index_or, unwrap_or}
 use Rattle.std.specs.Option.{option_map_or}
 use Rattle.rtl_ir.specs.declared.design.Module.{Module}
 use Rattle.rtl_ir.specs.Ports.{first_input, first_output}
-use Rattle.stream_graph.specs.PortKinds.{is_input, is_output}
+use Rattle.stream_graph.specs.Kinds.{is_input, is_output}
 use Rattle.kernel_control.specs.Ports.{PortChannel, inputs_of, outputs_of, channels_of, nets_of}
 use Rattle.kernel_control.specs.Ports as kernel_ports
 use Rattle.kernel_control.specs.Refines.{timed_run}

@@ -10,7 +10,7 @@ use Rattle.rtl_ir.specs.Parts.{JoinedAll}
 use Rattle.rtl_ir.specs.Run.{Channel}
 use Rattle.rtl_ir.specs.Ports.{net_at}
 use Rattle.stream_graph.specs.declared.node.Node.{Node}
-use Rattle.stream_graph.specs.PortKinds.{is_input, is_output}
+use Rattle.stream_graph.specs.Kinds.{is_input, is_output}
 use Rattle.kernel_control.specs.Ports.{inputs_of, outputs_of, scalars_of}
 use Rattle.kernel_control.specs.Ports as kernel_ports
 use Rattle.link_fifo.specs.Netlist.{input, output}

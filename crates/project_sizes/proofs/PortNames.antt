@@ -15,8 +15,8 @@ use Rattle.rtl_ir.specs.Ports as top_ports
 use Rattle.rtl_build.specs.Wires.{wire_name}
 use Rattle.stream_graph.specs.declared.kernel.Kernel.{Kernel}
 use Rattle.stream_graph.specs.declared.node.Node.{Node}
-use Rattle.offset_edges.specs.Edges.{node_at}
-use Rattle.offset_edges.proofs.NodeLemmas.{short_names}
+use Rattle.stream_graph.specs.LookUps.{node_at}
+use Rattle.stream_graph.proofs.NodeLemmas.{short_names}
 use Rattle.kernel_control.specs.Ports.{inputs_of, outputs_of, scalars_of, port_shape, scalar_ports, module_ports}
 use Rattle.link_fifo.specs.Netlist.{wire, wires_from}
 use Rattle.manager_links.specs.declared.project.Project.{Project}

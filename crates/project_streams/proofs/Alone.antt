@@ -6,7 +6,7 @@ use Rattle.std.proofs.lemmas.List.{length-map}
 use Rattle.std.proofs.lemmas.Option.{slice_get_within}
 use Rattle.kernel_meaning.specs.declared.plan.Join.{Join}
 use Rattle.stream_graph.specs.declared.kernel.Kernel.{Kernel}
-use Rattle.stream_graph.specs.PortKinds.{is_input, is_output}
+use Rattle.stream_graph.specs.Kinds.{is_input, is_output}
 use Rattle.manager_links.specs.declared.links.LinkEnds.{LinkEnds}
 use Rattle.manager_links.specs.declared.links.Links.{Links}
 use Rattle.manager_links.specs.declared.project.Project.{Project}

@@ -11,7 +11,7 @@ use Rattle.manager_links.specs.declared.links.Links.{Links}
 use Rattle.manager_links.specs.declared.project.Project.{Project}
 use Rattle.manager_links.specs.Joined.{IsLinkOf, is_link, ends_of_link}
 use Rattle.manager_links.specs.Links.{AreLinksOf}
-use Rattle.stream_graph.specs.PortKinds.{is_input, is_output}
+use Rattle.stream_graph.specs.Kinds.{is_input, is_output}
 use Rattle.manager_links.specs.Ports.{is_controlled}
 use Rattle.manager_links.specs.Starts.{first_edge, depth_of, controlled_depth}
 use Rattle.project_streams.specs.Balanced.{IsEvenLink}

@@ -15,11 +15,11 @@ use Rattle.stream_graph.specs.declared.node.Node.{Node}
 use Rattle.stream_graph.specs.Kernels.{AreKernel}
 use Rattle.stream_graph.specs.Nodes as Nodes
 use Rattle.stream_graph.specs.Nodes.{later, IsKind, operands_by}
-use Rattle.stream_graph.specs.PortKinds.{is_input, is_output}
-use Rattle.offset_edges.specs.Edges.{node_at, no_node}
-use Rattle.offset_edges.proofs.CallLemmas.{were_later}
-use Rattle.offset_edges.proofs.NodeLemmas.{of_node}
-use Rattle.stream_equations.specs.Equations.{Values, control_in, control_of, enabled, enabled_by}
+use Rattle.stream_graph.specs.Kinds.{is_input, is_output, control_in}
+use Rattle.stream_graph.specs.LookUps.{node_at, no_node, control_of}
+use Rattle.stream_graph.proofs.CallLemmas.{were_later}
+use Rattle.stream_graph.proofs.NodeLemmas.{of_node}
+use Rattle.stream_equations.specs.Equations.{Values, enabled, enabled_by}
 use Rattle.manager_links.specs.declared.links.PortAt.{PortAt}
 use Rattle.manager_links.specs.Ports.{is_controlled, IsPortAt, IsNamed}
 use Rattle.project_streams.specs.Streams.{nodes_at}

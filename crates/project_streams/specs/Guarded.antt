@@ -1,6 +1,6 @@
 -- Which runs of a project are guarded, and where one first isn't.
 use Rattle.std.specs.Prelude.{◌≡◌, ◌⊎◌, ℕ, ◌<◌, pos, length, Option, Some, None}
-use Rattle.stream_equations.specs.Equations.{control_of}
+use Rattle.stream_graph.specs.LookUps.{control_of}
 use Rattle.manager_links.specs.declared.project.Project.{Project}
 use Rattle.project_streams.specs.Streams.{GivenProject, ProjectValues, nodes_at}
 

@@ -9,7 +9,7 @@ use Rattle.rtl_ir.specs.declared.design.Module.{Module}
 use Rattle.stream_graph.specs.declared.kernel.Kernel.{Kernel}
 use Rattle.stream_graph.specs.declared.node.Kind.{Kind}
 use Rattle.stream_graph.specs.declared.node.Node.{Node}
-use Rattle.stream_graph.specs.PortKinds.{is_input, is_output, is_scalar}
+use Rattle.stream_graph.specs.Kinds.{is_input, is_output, is_scalar}
 use Rattle.latency_table.specs.declared.table.Table.{Table}
 use Rattle.schedule_report.specs.declared.report.ReportKernel.{ReportKernel}
 use Rattle.kernel_control.specs.Ports.{numbers_from, inputs_of, outputs_of}

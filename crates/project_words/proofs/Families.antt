@@ -9,10 +9,12 @@ use Rattle.stream_graph.specs.declared.kernel.Kernel.{Kernel}
 use Rattle.stream_graph.specs.declared.node.Kind.{Kind}
 use Rattle.stream_graph.specs.declared.node.Kind.TheVariants as K
 use Rattle.stream_graph.specs.declared.node.Node.{Node}
-use Rattle.offset_edges.specs.Edges.{kind_at, operands_at, edges_of}
+use Rattle.stream_graph.specs.LookUps.{kind_at, operands_at, control_of}
+use Rattle.offset_edges.specs.Edges.{edges_of}
 use Rattle.offset_edges.specs.Walks.{IsCausal}
-use Rattle.offset_edges.proofs.NodeLemmas.{IsOrderly, orderly}
-use Rattle.stream_equations.specs.Equations.{Values, control_in, control_of, enabled, enabled_by, is_one}
+use Rattle.stream_graph.proofs.NodeLemmas.{IsOrderly, orderly}
+use Rattle.stream_equations.specs.Equations.{Values, enabled, enabled_by, is_one}
+use Rattle.stream_graph.specs.Kinds.{control_in}
 use Rattle.stream_equations.specs.Words.{words_before}
 use Rattle.kernel_family.specs.Laws as OneKernel
 use Rattle.manager_links.specs.declared.links.PortAt.{PortAt}

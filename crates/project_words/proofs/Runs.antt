@@ -3,7 +3,7 @@ use Rattle.std.proofs.Common.{◌≡◌, ℕ, ◌<◌, cond, List, length, Optio
 use Rattle.stream_graph.specs.declared.node.Kind.{Kind}
 use Rattle.stream_graph.specs.declared.node.Kind.TheVariants as K
 use Rattle.stream_graph.specs.declared.node.Node.{Node}
-use Rattle.offset_edges.specs.Edges.{kind_at}
+use Rattle.stream_graph.specs.LookUps.{kind_at}
 use Rattle.stream_equations.specs.Equations.{GivenRun, Values, StreamEquations, IsInRun, enabled, count_before, right_side}
 
 pub record GiveSame (nodes : List Node) (one other : GivenRun) : Type 0 where

@@ -3,7 +3,8 @@ use Rattle.std.specs.Prelude.{ℕ, ◌≡◌, ◌<◌, ◌+◌, ◌*◌, ◌^◌
 use Rattle.fix_arith.specs.Types.{width_of}
 use Rattle.manager_links.specs.declared.hosts.HostPort.{HostPort}
 use Rattle.manager_links.specs.declared.project.Project.{Project}
-use Rattle.offset_edges.specs.Edges.{kind_at, width_at, edges_of}
+use Rattle.stream_graph.specs.LookUps.{kind_at, width_at}
+use Rattle.offset_edges.specs.Edges.{edges_of}
 use Rattle.offset_edges.specs.Walks.{IsCausal}
 use Rattle.project_streams.specs.Streams.{GivenProject, nodes_at}
 use Rattle.project_words.specs.declared.given.ProjectRun.{ProjectRun}

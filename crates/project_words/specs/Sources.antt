@@ -3,7 +3,7 @@ use Rattle.std.specs.Prelude.{ℕ, ◌≡◌, ◌<◌, ◌^◌, List, [], map, d
 use Rattle.manager_links.specs.declared.hosts.HostPort.{HostPort}
 use Rattle.manager_links.specs.declared.links.PortAt.{PortAt}
 use Rattle.manager_links.specs.declared.project.Project.{Project}
-use Rattle.offset_edges.specs.Edges.{width_at}
+use Rattle.stream_graph.specs.LookUps.{width_at}
 use Rattle.project_streams.specs.Streams.{GivenProject, ProjectValues, link_to, host_to, words_of}
 use Rattle.stream_equations.specs.Equations.{chosen}
 use Rattle.stream_graph.specs.declared.kernel.Kernel.{Kernel}

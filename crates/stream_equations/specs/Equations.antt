@@ -31,14 +31,20 @@ use Rattle.std.specs.Prelude.{
 }
 use Rattle.mx_bits.specs.declared.op.Op.{Op}
 use Rattle.mx_bits.specs.declared.op.Op.TheVariants.{Mux}
-use Rattle.counter_chains.specs.declared.digits.CounterDigit.{CounterDigit}
 use Rattle.fix_arith.specs.declared.types.StreamType.{StreamType}
 use Rattle.fix_arith.specs.declared.types.RoundMode.{RoundMode}
 use Rattle.fix_arith.specs.Table.{applied}
 use Rattle.stream_graph.specs.declared.node.Kind.{Kind}
 use Rattle.stream_graph.specs.declared.node.Kind.TheVariants as K
 use Rattle.stream_graph.specs.declared.node.Node.{Node}
-use Rattle.offset_edges.specs.Edges.{node_at, kind_at, operands_at, operand_at}
+use Rattle.stream_graph.specs.LookUps.{
+  kind_at,
+  type_at,
+  operands_at,
+  operand_at,
+  digits_at,
+  control_of,
+}
 use Rattle.counter_chains.specs.Chains.{digit_at, part_at, chain_at}
 
 -- What is given to a run: its ticks, 0 up to below their number; the word of each scalar, by its
@@ -52,12 +58,6 @@ pub record GivenRun : Type 0 where
 -- by node and tick
 abbrev pub Values : Type 0
 Values = ℕ → ℤ → Option ℕ
-
-abbrev pub type_at : List Node → ℕ → StreamType
-type_at nodes n = (node_at nodes n).view.t
-
-abbrev pub digits_at : List Node → ℕ → List CounterDigit
-digits_at nodes n = (node_at nodes n).digits
 
 -- ---- operations
 
@@ -79,16 +79,6 @@ operated op mode types words amount out =
     option_and_then (λ xs. applied op mode types xs amount out) (all_defined words)
 
 -- ---- controls and stores
-
--- the node of a port's control or of a hold's store, by the operands of a node of this kind
-abbrev pub control_in : Kind → List ℕ → Option ℕ
-control_in K.Input operands = slice_get operands 0
-control_in K.Output operands = slice_get operands 1
-control_in K.Hold operands = slice_get operands 1
-control_in _ operands = None
-
-abbrev pub control_of : List Node → ℕ → Option ℕ
-control_of nodes n = control_in (kind_at nodes n) (operands_at nodes n)
 
 -- a word that is 1; an undefined one counts as 0
 abbrev pub is_one : Option ℕ → Bool

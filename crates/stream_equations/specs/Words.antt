@@ -18,7 +18,8 @@ use Rattle.std.specs.Prelude.{
   None,
 }
 use Rattle.stream_graph.specs.declared.node.Node.{Node}
-use Rattle.stream_equations.specs.Equations.{GivenRun, Values, control_of, enabled}
+use Rattle.stream_equations.specs.Equations.{GivenRun, Values, enabled}
+use Rattle.stream_graph.specs.LookUps.{control_of}
 
 -- the words at the ticks before this one that pass a test, in order
 abbrev pub words_before : (ℕ → Bool) → (ℕ → Option ℕ) → ℕ → List (Option ℕ)

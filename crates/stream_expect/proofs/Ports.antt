@@ -6,7 +6,7 @@ use Rattle.std.proofs.lemmas.List.{get_or-map, length-map, drop_at}
 use Rattle.std.proofs.lemmas.List.Elements.{All-drop}
 use Rattle.stream_graph.specs.declared.kernel.Kernel.{Kernel}
 use Rattle.stream_graph.specs.declared.node.Node.{Node}
-use Rattle.stream_graph.specs.PortKinds.{is_output}
+use Rattle.stream_graph.specs.Kinds.{is_output}
 use Rattle.manager_links.specs.declared.hosts.HostPort.{HostPort}
 use Rattle.manager_links.specs.declared.links.Link.{Link}
 use Rattle.manager_links.specs.declared.links.LinkEnds.{LinkEnds}

@@ -7,7 +7,7 @@ use Rattle.std.proofs.lemmas.Option.{same_Some}
 use Rattle.fix_arith.specs.Types.{width_of}
 use Rattle.manager_links.specs.declared.hosts.HostPort.{HostPort}
 use Rattle.manager_links.specs.declared.project.Project.{Project}
-use Rattle.offset_edges.specs.Edges.{width_at}
+use Rattle.stream_graph.specs.LookUps.{width_at}
 use Rattle.project_streams.specs.Streams.{GivenProject, nodes_at, words_of}
 use Rattle.project_words.specs.declared.words.ProjectWords.{ProjectWords}
 use Rattle.project_words.specs.Words.{values_of, HaveWidths}

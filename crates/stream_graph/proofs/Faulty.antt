@@ -12,7 +12,8 @@ use Rattle.stream_graph.specs.declared.fault.Fault.TheVariants.{EmptyChain, Conn
 use Rattle.stream_graph.specs.declared.node.Kind.{Kind}
 use Rattle.stream_graph.specs.declared.node.Node.{Node}
 use Rattle.stream_graph.specs.Nodes.{IsKind, IsNode, AreNodes}
-use Rattle.stream_graph.specs.Faults.{Breaks, NoneBreaks, IsFirst, is_feed, is_chain, has_fault, HasAt, NoneHas}
+use Rattle.stream_graph.specs.Faults.{Breaks, NoneBreaks, IsFirst, has_fault, HasAt, NoneHas}
+use Rattle.stream_graph.specs.Kinds.{is_feed, is_chain}
 use Rattle.stream_graph.proofs.Facts.{makes_newest, makes_older}
 use Rattle.stream_graph.proofs.Adding.{got_at}
 

@@ -4,14 +4,13 @@ use Rattle.kernel_calls.specs.declared.call.Call.{Call}
 use Rattle.kernel_calls.specs.declared.call.Call.TheVariants as C
 use Rattle.kernel_calls.specs.Calls.{Makes}
 use Rattle.fix_arith.specs.declared.types.StreamType.{StreamType}
-use Rattle.stream_graph.specs.declared.node.Kind.{Kind}
-use Rattle.stream_graph.specs.declared.node.Kind.TheVariants as K
 use Rattle.stream_graph.specs.declared.node.Node.{Node}
 use Rattle.stream_graph.specs.declared.error.GraphError.{GraphError}
 use Rattle.stream_graph.specs.declared.error.GraphError.TheVariants as E
 use Rattle.stream_graph.specs.declared.fault.Fault.{Fault}
 use Rattle.stream_graph.specs.declared.fault.Fault.TheVariants.{EmptyChain, ConnectedTwice, Unconnected}
 use Rattle.stream_graph.specs.Nodes.{connected_to, digits_to}
+use Rattle.stream_graph.specs.Kinds.{is_feed, is_chain}
 
 -- the node of this number breaks the rule: a chain has a digit, a feed is connected once and not more often
 abbrev pub Breaks : Fault → List Call → ℕ → Type 0
@@ -29,14 +28,6 @@ pub record IsFirst (P : ℕ → Type 0) (n : ℕ) : Type 0 where
   pub earlier : (k : ℕ) → k < n → P k → ⊥
 
 -- whether a node shows the fault
-abbrev pub is_feed : Kind → Bool
-is_feed K.Feed = true
-is_feed _ = false
-
-abbrev pub is_chain : Kind → Bool
-is_chain K.Chain = true
-is_chain _ = false
-
 abbrev pub has_fault : Fault → Node → Bool
 has_fault EmptyChain node = is_chain node.view.kind && (length node.digits == 0)
 has_fault ConnectedTwice node = is_feed node.view.kind && nat_le 2 (length node.operands)

@@ -1,12 +1,14 @@
 pub mod Counts
 pub mod Faults
 pub mod Graphs
+pub mod KernelPorts
 pub mod Kernels
+pub mod Kinds
 pub mod Lines
+pub mod LookUps
 pub mod Met
 pub mod Nodes
 pub mod Parts
-pub mod PortKinds
 pub mod Ports
 pub mod Received
 pub mod Steps

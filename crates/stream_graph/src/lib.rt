@@ -20,6 +20,7 @@ mod ports;
 mod refusal;
 mod reserve;
 mod reserved;
+mod role;
 mod row;
 mod tally;
 
@@ -29,4 +30,5 @@ pub use graph::Graph;
 pub use kernel::Kernel;
 pub use node::{Kind, NodeView};
 pub use node_id::NodeId;
+pub use role::{PortSide, Role};
 pub use tally::Tally;

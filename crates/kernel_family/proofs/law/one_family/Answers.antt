@@ -1,4 +1,4 @@
-use Rattle.offset_edges.proofs.NodeLemmas.{orderly}
+use Rattle.stream_graph.proofs.NodeLemmas.{orderly}
 use Rattle.kernel_types.proofs.Typing.{typed}
 use Rattle.kernel_family.proofs.Families.{one_family}
 use Rattle.kernel_family.proofs.law.one_family.Goals as goal

@@ -1,7 +1,7 @@
 use Rattle.std.proofs.Common.{◌≡◌, ◌∙◌, ◌<◌, length, refl, sym, subst}
 use Rattle.std.specs.Prelude.{slice_index, slice_index_or}
 use Rattle.cycle_find.specs.Constraints.{numbers_of}
-use Rattle.offset_edges.proofs.NodeLemmas.{orderly}
+use Rattle.stream_graph.proofs.NodeLemmas.{orderly}
 use Rattle.offset_edges.proofs.EdgeLemmas.{edges_small}
 use Rattle.kernel_layout.specs.Stages.{AreShared}
 use Rattle.kernel_layout.specs.Layouts.{AreReads, AreAllStages, IsOrder, HaveNoLoop}

@@ -4,9 +4,11 @@ use Rattle.std.specs.Prelude.{ℤ, pos, ◌-ℤ◌, ◌≤ℤ◌, unsigned_abs}
 use Rattle.std.proofs.lemmas.Int.{ints}
 use Rattle.stream_graph.specs.declared.node.Node.{Node}
 use Rattle.cycle_find.specs.Constraints.{numbers_of}
-use Rattle.offset_edges.specs.Edges.{kind_at, source_of, new_source, is_steady}
-use Rattle.offset_edges.proofs.NodeLemmas.{orderly}
-use Rattle.offset_edges.proofs.Reading.{view_read}
+use Rattle.stream_graph.specs.LookUps.{kind_at}
+use Rattle.offset_edges.specs.Edges.{source_of, new_source}
+use Rattle.stream_graph.specs.Kinds.{is_steady}
+use Rattle.stream_graph.proofs.NodeLemmas.{orderly}
+use Rattle.stream_graph.proofs.Reading.{view_read}
 use Rattle.offset_edges.proofs.SourceLemmas.{source_known}
 use Rattle.kernel_layout.proofs.Sourcing.{read_it}
 use Rattle.kernel_layout.proofs.reads.read_of.Goals as goal

@@ -1,8 +1,9 @@
 use Rattle.std.proofs.Common.{arith, ◌≡◌, ◌<◌, ◌+◌, cond, length, sym, subst, ap, ◌∙◌}
 use Rattle.cycle_find.specs.Constraints.{numbers_of}
-use Rattle.offset_edges.specs.Edges.{kind_at, operands_at, is_offset}
-use Rattle.offset_edges.proofs.NodeLemmas.{orderly}
-use Rattle.offset_edges.proofs.Reading.{view_read, operands_read}
+use Rattle.stream_graph.specs.LookUps.{kind_at, operands_at}
+use Rattle.stream_graph.specs.Kinds.{is_offset}
+use Rattle.stream_graph.proofs.NodeLemmas.{orderly}
+use Rattle.stream_graph.proofs.Reading.{view_read, operands_read}
 use Rattle.kernel_layout.specs.Reads.{IsLater, IsRead, AreReadsBelow, reads_count}
 use Rattle.kernel_layout.proofs.Sourcing.{is_later}
 use Rattle.kernel_layout.proofs.Reading.{one_read_more, item_is}

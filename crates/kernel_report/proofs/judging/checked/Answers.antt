@@ -1,7 +1,7 @@
 use Rattle.std.proofs.Common.{◌≡◌, List, ℕ, sym, subst, rules}
 use Rattle.schedule_problem.specs.declared.problem.Problem.{Problem}
 use Rattle.dual_check.specs.Verdicts.{IsCheckable, IsVerdict}
-use Rattle.offset_edges.proofs.NodeLemmas.{orderly}
+use Rattle.stream_graph.proofs.NodeLemmas.{orderly}
 use Rattle.offset_edges.proofs.EdgeLemmas.{edges_small}
 use Rattle.kernel_report.specs.Judging.{IsJudged}
 use Rattle.kernel_report.proofs.Verdicts.{judged, checkable}

@@ -4,7 +4,7 @@ use Rattle.schedule_problem.specs.declared.problem.Problem.{Problem}
 use Rattle.offset_edges.specs.Edges.{edges_of}
 use Rattle.offset_edges.specs.Latencies.{ticks_of}
 use Rattle.cycle_find.specs.Constraints.{numbers_of}
-use Rattle.offset_edges.proofs.NodeLemmas.{orderly}
+use Rattle.stream_graph.proofs.NodeLemmas.{orderly}
 use Rattle.offset_edges.proofs.EdgeLemmas.{edges_small}
 use Rattle.kernel_report.specs.Judging.{HasHead, IsMismatch}
 use Rattle.kernel_report.proofs.Kept.{each_or, whole_near}

@@ -1,4 +1,4 @@
-use Rattle.offset_edges.proofs.NodeLemmas.{orderly}
+use Rattle.stream_graph.proofs.NodeLemmas.{orderly}
 use Rattle.offset_edges.proofs.EdgeLemmas.{edges_small}
 use Rattle.kernel_report.proofs.Shown.{shown_least}
 use Rattle.kernel_report.proofs.laws.shown_are_least.Goals as goal

@@ -7,7 +7,7 @@ use Rattle.rtl_delays.specs.Partial.{IsPartial}
 use Rattle.rtl_delays.specs.Stored.{stored_bits}
 use Rattle.rtl_delays.proofs.Extends.{extends_on}
 use Rattle.rtl_reading.specs.Reads.{IsPortsFirst}
-use Rattle.offset_edges.proofs.NodeLemmas.{orderly}
+use Rattle.stream_graph.proofs.NodeLemmas.{orderly}
 use Rattle.offset_edges.proofs.EdgeLemmas.{edges_are}
 use Rattle.kernel_control.specs.Nets.{AreControlNets, told_nets}
 use Rattle.kernel_control.specs.Outputs.{AreUndriven}

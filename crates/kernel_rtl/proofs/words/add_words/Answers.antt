@@ -1,5 +1,5 @@
 use Rattle.std.proofs.Common.{◌≡◌, ◌∙◌, length, take, drop, ◌++◌, sym, ap, subst, arith}
-use Rattle.offset_edges.proofs.NodeLemmas.{orderly}
+use Rattle.stream_graph.proofs.NodeLemmas.{orderly}
 use Rattle.kernel_control.specs.Outputs.{AreUndriven}
 use Rattle.kernel_states.specs.States.{AreStates}
 use Rattle.kernel_wiring.specs.Words.{AreGiven, AreLate}

@@ -2,7 +2,7 @@ use Rattle.std.proofs.Common.{◌∙◌, sym, ap, subst, arith}
 use Rattle.std.specs.Prelude.{All}
 use Rattle.std.proofs.Math.ListN.{length-set}
 use Rattle.stream_graph.specs.declared.node.Kind.TheVariants as K
-use Rattle.stream_graph.specs.PortKinds.{is_input, is_scalar}
+use Rattle.stream_graph.specs.Kinds.{is_input, is_scalar}
 use Rattle.kernel_ports.specs.declared.signals.NodeSignal.{NodeSignal}
 use Rattle.kernel_ports.specs.declared.signals.StreamSignals.{StreamSignals}
 use Rattle.kernel_rtl.proofs.Numbers.{IsNodeOf}

@@ -2,7 +2,7 @@ use Rattle.std.proofs.Common.{◌≡◌, ℕ, ◌<◌, length, Some}
 use Rattle.std.specs.Prelude.{slice_get}
 use Rattle.rtl_build.specs.declared.signal.Signal.{Signal}
 use Rattle.stream_graph.specs.declared.node.Kind.TheVariants as K
-use Rattle.offset_edges.specs.Edges.{kind_at}
+use Rattle.stream_graph.specs.LookUps.{kind_at}
 use Rattle.kernel_ports.specs.declared.signals.NodeSignal.{NodeSignal}
 use Rattle.kernel_ports.specs.declared.signals.StreamSignals.{StreamSignals}
 use Rattle.kernel_states.specs.States.{state_at}

@@ -5,11 +5,10 @@ use Rattle.counter_chains.specs.Digits.{IsDigit}
 use Rattle.counter_chains.specs.Chains.{bits_of}
 use Rattle.stream_graph.specs.declared.node.NodeView.{NodeView}
 use Rattle.stream_graph.specs.declared.node.Node.{Node}
-use Rattle.offset_edges.specs.Edges.{kind_at, no_node}
-use Rattle.offset_edges.proofs.Reading.{read, view_read}
+use Rattle.stream_graph.specs.LookUps.{kind_at, no_node, digits_at}
+use Rattle.stream_graph.proofs.Reading.{read, view_read}
 use Rattle.kernel_control.specs.Nets.{HasWidth}
 use Rattle.kernel_refinement.specs.States.{IsStepping}
-use Rattle.stream_equations.specs.Equations.{digits_at}
 use Rattle.kernel_states.specs.States.{IsState, IsUnwritten}
 use Rattle.kernel_states.specs.Stepping.{state_after}
 use Rattle.kernel_states.specs.Closing.{word_at, IsClearable}

@@ -9,8 +9,7 @@ use Rattle.rtl_delays.proofs.Extends.{extends_same, extends_on, still_same, stil
 use Rattle.rtl_delays.proofs.Undriven.{same_undriven, undriven_on}
 use Rattle.rtl_delays.proofs.Kept.{no_register_on}
 use Rattle.stream_graph.specs.declared.node.Node.{Node}
-use Rattle.offset_edges.specs.Edges.{no_node}
-use Rattle.stream_equations.specs.Equations.{digits_at}
+use Rattle.stream_graph.specs.LookUps.{no_node, digits_at}
 use Rattle.counter_chains.specs.Chains.{chain_at}
 use Rattle.kernel_refinement.proofs.Storing.{store_keeps, stepping_counts}
 use Rattle.kernel_states.specs.Stepping.{state_after}

@@ -8,8 +8,8 @@ use Rattle.rtl_delays.proofs.Lists.{or_first}
 use Rattle.rtl_delays.proofs.Targets.{free_reg}
 use Rattle.rtl_delays.proofs.Undriven.{same_undriven, register_undriven}
 use Rattle.rtl_delays.proofs.Kept.{register_one}
-use Rattle.offset_edges.specs.Edges.{node_at, kind_at, width_at}
-use Rattle.offset_edges.proofs.Reading.{view_read}
+use Rattle.stream_graph.specs.LookUps.{node_at, kind_at, width_at}
+use Rattle.stream_graph.proofs.Reading.{view_read}
 use Rattle.kernel_states.proofs.Kernels.{has_width}
 use Rattle.kernel_states.proofs.Freeing.{none_of, one_of}
 use Rattle.kernel_states.specs.States.{has_state}

@@ -7,7 +7,7 @@ use Rattle.stream_graph.specs.declared.node.Node.{Node}
 use Rattle.rtl_delays.specs.Stored.{stored_bits}
 use Rattle.rtl_delays.proofs.Extends.{extends_same, extends_on}
 use Rattle.rtl_delays.proofs.Undriven.{same_undriven, undriven_on}
-use Rattle.offset_edges.specs.Edges.{no_node}
+use Rattle.stream_graph.specs.LookUps.{no_node}
 use Rattle.kernel_states.specs.States.{has_state, state_at, state_bits, state_count, IsState, AreFree}
 use Rattle.kernel_states.specs.Starting.{AddsState, AddsRegistersOf}
 use Rattle.kernel_states.proofs.Freeing.{frees_on, frees_both, registers_both, states_more}

@@ -4,8 +4,8 @@ use Rattle.rtl_build.specs.declared.signal.Signal.{Signal}
 use Rattle.stream_graph.specs.declared.node.Kind.{Kind}
 use Rattle.stream_graph.specs.declared.node.Kind.TheVariants as K
 use Rattle.stream_graph.specs.declared.node.NodeView.{NodeView}
-use Rattle.offset_edges.specs.Edges.{kind_at}
-use Rattle.offset_edges.proofs.Reading.{view_read}
+use Rattle.stream_graph.specs.LookUps.{kind_at}
+use Rattle.stream_graph.proofs.Reading.{view_read}
 use Rattle.kernel_layout.specs.declared.reads.Read.{Read}
 use Rattle.kernel_layout.specs.Reads.{no_read, read_at}
 use Rattle.kernel_wiring.specs.Words.{read_signal, reads_at, signals_at, control_among, IsReadIn}

@@ -14,10 +14,17 @@ use Rattle.stream_graph.specs.declared.node.Kind.{Kind}
 use Rattle.stream_graph.specs.declared.node.Kind.TheVariants as K
 use Rattle.stream_graph.specs.declared.node.Node.{Node}
 use Rattle.stream_graph.specs.declared.node.NodeView.{NodeView}
-use Rattle.offset_edges.specs.Edges.{no_node, node_at, kind_at, operands_at, operand_at}
-use Rattle.offset_edges.proofs.NodeLemmas.{orderly}
-use Rattle.offset_edges.proofs.Reading.{read, view_read, operands_read}
-use Rattle.stream_equations.specs.Equations.{type_at, digits_at}
+use Rattle.stream_graph.specs.LookUps.{
+  no_node,
+  node_at,
+  kind_at,
+  operands_at,
+  operand_at,
+  type_at,
+  digits_at,
+}
+use Rattle.stream_graph.proofs.NodeLemmas.{orderly}
+use Rattle.stream_graph.proofs.Reading.{read, view_read, operands_read}
 use Rattle.kernel_layout.specs.declared.layout.Layout.{Layout}
 use Rattle.kernel_control.specs.Nets.{HasWidth as IsWidth}
 use Rattle.kernel_wiring.specs.Words.{is_wired, signal_at, operand_signal, IsWordOf}

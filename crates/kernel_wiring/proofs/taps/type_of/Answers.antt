@@ -1,6 +1,6 @@
 use Rattle.std.proofs.Common.{refl, ap}
 use Rattle.stream_graph.specs.declared.node.NodeView.{NodeView}
-use Rattle.offset_edges.proofs.Reading.{view_read}
+use Rattle.stream_graph.proofs.Reading.{view_read}
 use Rattle.kernel_wiring.proofs.taps.type_of.Goals as goal
 
 pub returns : goal.returns

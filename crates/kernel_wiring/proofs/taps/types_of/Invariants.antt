@@ -1,5 +1,5 @@
 use Rattle.std.proofs.Common.{◌≡◌, ◌++◌, map, drop}
-use Rattle.stream_equations.specs.Equations.{type_at}
+use Rattle.stream_graph.specs.LookUps.{type_at}
 use Rattle.kernel_wiring.proofs.taps.types_of.Given as goal
 
 -- the types so far and those of the operands that are left are all

@@ -1,5 +1,5 @@
 use Rattle.std.proofs.Common.{◌≡◌, ◌∙◌, ◌+◌, ◌<◌, List, ℕ, length, get_or, slice_set, Option, Some, None, refl, ap, sym, subst, arith}
-use Rattle.offset_edges.proofs.NodeLemmas.{orderly}
+use Rattle.stream_graph.proofs.NodeLemmas.{orderly}
 use Rattle.kernel_types.proofs.Typing.{typed}
 use Rattle.kernel_wiring.proofs.Readable.{node_in}
 use Rattle.kernel_wiring.proofs.Stepping.{AreWired, none_yet, timing_kept, kept_there, readable, wires_more, given_more, all_wired}

@@ -1,6 +1,5 @@
 use Rattle.std.proofs.Common.{arith}
-use Rattle.offset_edges.specs.Edges.{operands_at}
-use Rattle.stream_equations.specs.Equations.{type_at}
+use Rattle.stream_graph.specs.LookUps.{operands_at, type_at}
 use Rattle.kernel_types.proofs.Typing.{typed}
 use Rattle.kernel_words.proofs.Operating.{is_one, is_two}
 use Rattle.kernel_words.proofs.evaluate.applied_word.Goals as goal

@@ -1,8 +1,7 @@
 use Rattle.std.proofs.Common.{◌≡◌, ◌∙◌, ℕ, ◌+◌, ◌<◌, ◌^◌, Option, Some, None, ap, sym, refl, arith}
 use Rattle.std.specs.Prelude.{pos, IfSome}
 use Rattle.mx_bits.specs.declared.op.Op.TheVariants.{Mux}
-use Rattle.offset_edges.specs.Edges.{operands_at, width_at}
-use Rattle.stream_equations.specs.Equations.{type_at}
+use Rattle.stream_graph.specs.LookUps.{operands_at, width_at, type_at}
 use Rattle.kernel_types.proofs.Typing.{typed}
 use Rattle.kernel_words.specs.Streams.{values_of}
 use Rattle.kernel_words.proofs.Operating.{mux_some, no_selector, no_option, an_option}

@@ -3,7 +3,7 @@ use Rattle.std.specs.Prelude.{All}
 use Rattle.counter_chains.specs.Digits.{IsDigit}
 use Rattle.counter_chains.specs.Chains.{bits_of, chain_at}
 use Rattle.counter_chains.specs.Steps.{IsState}
-use Rattle.stream_equations.specs.Equations.{digits_at}
+use Rattle.stream_graph.specs.LookUps.{digits_at}
 use Rattle.kernel_types.proofs.Counting.{counters}
 use Rattle.kernel_words.proofs.Holding.{one_back}
 use Rattle.kernel_words.proofs.evaluate.counted_word.Goals as goal

@@ -1,6 +1,6 @@
 use Rattle.std.proofs.Common.{◌≡◌, ◌∙◌, ℕ, ◌<◌, ◌^◌, [], cond, get_or, Option, Some, None, refl, ap, sym}
 use Rattle.std.specs.Prelude.{IfSome, slice_get}
-use Rattle.offset_edges.specs.Edges.{width_at}
+use Rattle.stream_graph.specs.LookUps.{width_at}
 use Rattle.stream_equations.specs.Equations.{chosen, enabled, count_before}
 use Rattle.kernel_words.specs.Streams.{values_of}
 use Rattle.kernel_words.proofs.Taking.{got, chosen_some, chosen_none}

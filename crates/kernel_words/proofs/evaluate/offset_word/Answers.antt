@@ -3,7 +3,7 @@ use Rattle.std.specs.Prelude.{ℤ, pos, ◌+ℤ◌, ◌<ℤ◌}
 use Rattle.std.proofs.lemmas.Int.{to_z-of_z}
 use mir.Val.{to_z, of_z}
 use mir.Syntax.{w32}
-use Rattle.offset_edges.specs.Edges.{operand_at}
+use Rattle.stream_graph.specs.LookUps.{operand_at}
 use Rattle.kernel_types.specs.Types.{is_like}
 use Rattle.kernel_types.proofs.Typing.{typed}
 use Rattle.kernel_words.specs.Streams.{values_of}

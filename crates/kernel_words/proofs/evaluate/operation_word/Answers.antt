@@ -1,7 +1,6 @@
 use Rattle.std.proofs.Common.{◌∙◌, sym, ap, map}
 use Rattle.stream_graph.specs.declared.node.Kind.TheVariants as K
-use Rattle.offset_edges.specs.Edges.{operands_at}
-use Rattle.stream_equations.specs.Equations.{type_at}
+use Rattle.stream_graph.specs.LookUps.{operands_at, type_at}
 use Rattle.kernel_words.specs.Streams.{values_of}
 use Rattle.kernel_words.specs.Sides.{words_at, operated_at}
 use Rattle.kernel_words.proofs.Operating.{other_op}

@@ -1,8 +1,7 @@
 use Rattle.std.proofs.Common.{◌≡◌, ◌∙◌, ℕ, ◌+◌, ◌-◌, ◌/◌, ◌%◌, ◌<◌, ◌≤◌, ◌^◌, length, Some, None, ap, sym, subst, arith}
 use Rattle.std.specs.Prelude.{pos}
 use Rattle.counter_chains.specs.Chains.{bits_of, bits_below, chain_at}
-use Rattle.offset_edges.specs.Edges.{operand_at, width_at}
-use Rattle.stream_equations.specs.Equations.{digits_at}
+use Rattle.stream_graph.specs.LookUps.{operand_at, width_at, digits_at}
 use Rattle.kernel_types.proofs.Typing.{typed}
 use Rattle.kernel_types.proofs.Counting.{counters}
 use Rattle.kernel_words.specs.Streams.{values_of}

@@ -3,8 +3,7 @@ use Rattle.std.specs.Prelude.{pos}
 use Rattle.fix_arith.specs.declared.types.StreamType.{StreamType}
 use Rattle.fix_arith.specs.Types.{width_of}
 use Rattle.fix_arith.specs.Table.{applied, GivesType}
-use Rattle.offset_edges.specs.Edges.{operands_at, width_at}
-use Rattle.stream_equations.specs.Equations.{type_at}
+use Rattle.stream_graph.specs.LookUps.{operands_at, width_at, type_at}
 use Rattle.kernel_types.proofs.Typing.{typed}
 use Rattle.kernel_words.specs.Streams.{values_of}
 use Rattle.kernel_words.proofs.Operating.{one_item, first_none, one_word}

@@ -6,9 +6,9 @@ use mir.Syntax.{w32}
 use Rattle.std.proofs.lemmas.Nat.{pow_pos}
 use Rattle.counter_chains.specs.Chains.{bits_below, part_at, chain_at}
 use Rattle.stream_graph.specs.declared.node.Kind.TheVariants as K
-use Rattle.offset_edges.specs.Edges.{operand_at, width_at}
-use Rattle.offset_edges.proofs.NodeLemmas.{orderly}
-use Rattle.stream_equations.specs.Equations.{digits_at, right_side}
+use Rattle.stream_graph.specs.LookUps.{operand_at, width_at, digits_at}
+use Rattle.stream_graph.proofs.NodeLemmas.{orderly}
+use Rattle.stream_equations.specs.Equations.{right_side}
 use Rattle.kernel_family.specs.Steps.{keeps}
 use Rattle.kernel_types.specs.Types.{is_like, counts}
 use Rattle.kernel_types.proofs.Typing.{typed}

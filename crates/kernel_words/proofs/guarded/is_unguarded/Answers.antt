@@ -1,7 +1,7 @@
 use Rattle.std.proofs.Common.{◌≡◌, ◌∙◌, ℕ, Some, None, sym, ap}
 use Rattle.std.specs.Prelude.{pos}
 use Rattle.std.proofs.lemmas.Bool.{false≢true}
-use Rattle.stream_equations.specs.Equations.{control_of}
+use Rattle.stream_graph.specs.LookUps.{control_of}
 use Rattle.kernel_words.specs.Streams.{values_of}
 use Rattle.kernel_words.proofs.guarded.is_unguarded.Goals as goal
 

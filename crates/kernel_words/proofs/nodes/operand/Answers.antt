@@ -1,8 +1,8 @@
 use Rattle.std.proofs.Common.{◌≡◌, ◌∙◌, ◌<◌, List, ℕ, length, get_or, refl, ap, sym, subst}
 use Rattle.std.proofs.lemmas.List.{get_or_read}
-use Rattle.offset_edges.specs.Edges.{operands_at, operand_at}
-use Rattle.offset_edges.proofs.NodeLemmas.{orderly}
-use Rattle.offset_edges.proofs.Reading.{operands_read}
+use Rattle.stream_graph.specs.LookUps.{operands_at, operand_at}
+use Rattle.stream_graph.proofs.NodeLemmas.{orderly}
+use Rattle.stream_graph.proofs.Reading.{operands_read}
 use Rattle.kernel_words.proofs.nodes.operand.Goals as goal
 
 pub bounds-operands-place : goal.bounds-operands-place

@@ -1,5 +1,5 @@
 use Rattle.std.proofs.Common.{refl, ap, length, List, ℕ}
-use Rattle.offset_edges.proofs.Reading.{operands_read}
+use Rattle.stream_graph.proofs.Reading.{operands_read}
 use Rattle.kernel_words.proofs.nodes.operand_count.Goals as goal
 
 pub returns : goal.returns

@@ -1,6 +1,6 @@
 use Rattle.std.proofs.Common.{◌≡◌, ◌<◌, ◌^◌, get_or, refl, subst}
-use Rattle.offset_edges.specs.Edges.{kind_at, width_at}
-use Rattle.offset_edges.proofs.NodeLemmas.{orderly}
+use Rattle.stream_graph.specs.LookUps.{kind_at, width_at}
+use Rattle.stream_graph.proofs.NodeLemmas.{orderly}
 use Rattle.stream_equations.specs.Equations.{right_side}
 use Rattle.kernel_types.proofs.Typing.{typed}
 use Rattle.kernel_types.proofs.Counting.{counters}

@@ -1,6 +1,6 @@
 use Rattle.std.proofs.Common.{◌≡◌, ◌∙◌, ◌-◌, false, refl, sym, ap, subst, arith}
 use Rattle.std.proofs.lemmas.Bool.{false≢true}
-use Rattle.offset_edges.specs.Edges.{kind_at}
+use Rattle.stream_graph.specs.LookUps.{kind_at}
 use Rattle.kernel_family.specs.Steps.{keeps}
 use Rattle.kernel_words.specs.Streams.{cell_at}
 use Rattle.kernel_words.specs.Filling.{is_open}

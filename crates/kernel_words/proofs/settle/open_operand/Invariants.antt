@@ -1,5 +1,5 @@
 use Rattle.std.proofs.Common.{◌≡◌, ℕ, ◌<◌, false, length}
-use Rattle.offset_edges.specs.Edges.{operands_at, operand_at}
+use Rattle.stream_graph.specs.LookUps.{operands_at, operand_at}
 use Rattle.kernel_words.specs.Streams.{cell_at}
 use Rattle.kernel_words.specs.Filling.{is_open}
 use Rattle.kernel_words.proofs.settle.open_operand.Given as goal

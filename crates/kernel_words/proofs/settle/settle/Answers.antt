@@ -1,6 +1,6 @@
 use Rattle.std.proofs.Common.{◌≡◌, ◌∙◌, ◌-◌, ◌<◌, [], ◌∷◌, ◌++◌, length, get_or, true, sym, ap, subst, arith}
 use Rattle.std.specs.Prelude.{option_to_list, vec_len}
-use Rattle.offset_edges.proofs.NodeLemmas.{orderly}
+use Rattle.stream_graph.proofs.NodeLemmas.{orderly}
 use Rattle.kernel_types.proofs.Typing.{typed}
 use Rattle.kernel_family.specs.declared.place.Place.{Place}
 use Rattle.kernel_family.specs.Steps.{IsStep}

@@ -1,8 +1,8 @@
 use Rattle.std.proofs.Common.{◌∙◌, ◌+◌, get_or, sym, ap, arith}
-use Rattle.offset_edges.specs.Edges.{kind_at}
+use Rattle.stream_graph.specs.LookUps.{kind_at}
 use Rattle.stream_equations.specs.Equations.{enabled}
 use Rattle.kernel_words.specs.Streams.{values_of}
-use Rattle.stream_graph.specs.PortKinds.{is_input}
+use Rattle.stream_graph.specs.Kinds.{is_input}
 use Rattle.kernel_words.proofs.Taking.{input_kind, not_input, not_enabled, one_more}
 use Rattle.kernel_words.proofs.settle.take.Goals as goal
 

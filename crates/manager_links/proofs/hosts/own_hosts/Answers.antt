@@ -3,7 +3,7 @@ use Rattle.std.specs.Prelude.{Some, slice_get}
 use Rattle.std.specs.Option.{option_map}
 use Rattle.stream_graph.specs.declared.node.Node.{Node}
 use Rattle.stream_graph.specs.declared.node.NodeView.{NodeView}
-use Rattle.stream_graph.specs.PortKinds.{is_input, is_output}
+use Rattle.stream_graph.specs.Kinds.{is_input, is_output}
 use Rattle.manager_links.proofs.PortLemmas.{mapped}
 use Rattle.manager_links.proofs.CpuStreams.{host_more, host_passed, hosts_all, no_input, no_output}
 use Rattle.manager_links.proofs.hosts.own_hosts.Goals as goal

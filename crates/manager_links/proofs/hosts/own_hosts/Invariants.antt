@@ -1,6 +1,6 @@
 use Rattle.std.proofs.Common.{◌≡◌, ◌++◌, drop}
 use Rattle.manager_links.specs.Hosts.{own_hosts}
-use Rattle.stream_graph.specs.PortKinds.{is_input, is_output}
+use Rattle.stream_graph.specs.Kinds.{is_input, is_output}
 use Rattle.manager_links.proofs.hosts.own_hosts.Given as goal
 
 abbrev pub invariant-loop-node : goal.invariant-loop-node

@@ -5,7 +5,7 @@ use Rattle.std.proofs.lemmas.List.Elements.{All-push}
 use Rattle.kernel_meaning.specs.declared.plan.Join.{Join}
 use Rattle.manager_links.specs.Joined.{is_link, IsLinkOf}
 use Rattle.manager_links.specs.Numbers.{AreEnds}
-use Rattle.stream_graph.specs.PortKinds.{is_input, is_output}
+use Rattle.stream_graph.specs.Kinds.{is_input, is_output}
 use Rattle.manager_links.specs.Rules.{HasTwoTypes}
 use Rattle.manager_links.specs.Steps.{HaveOneType}
 use Rattle.manager_links.specs.Terminals.{terminals}

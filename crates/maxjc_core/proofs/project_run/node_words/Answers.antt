@@ -1,9 +1,9 @@
 -- The words of the nodes of a kernel.
 use Rattle.std.proofs.Common.{◌≡◌, ◌∙◌, ◌<◌, true, false, ◌+◌, ◌-◌, ◌∷◌, [], length, map, take, drop, get_or, ap, sym, arith, length-append}
 use Rattle.std.specs.Prelude.{slice_index}
-use Rattle.stream_graph.specs.PortKinds.{is_scalar}
+use Rattle.stream_graph.specs.Kinds.{is_scalar}
 use Rattle.kernel_control.specs.Ports.{scalars_of}
-use Rattle.offset_edges.specs.Edges.{kind_at}
+use Rattle.stream_graph.specs.LookUps.{kind_at}
 use Rattle.maxjc_core.proofs.NodeWords.{kind_read, no-scalar, counted, passed, has-word, words-passed, word-taken}
 use Rattle.maxjc_core.proofs.project_run.node_words.Goals as goal
 use Rattle.maxjc_core.proofs.project_run.node_words.Goals.{in-Scalar+in_ok-push-in-Scalar, in_default+in_ok-push-in_default}

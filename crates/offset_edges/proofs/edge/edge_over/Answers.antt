@@ -19,9 +19,11 @@ use Rattle.std.proofs.lemmas.Int.{ints}
 use Rattle.stream_graph.specs.declared.node.Node.{Node}
 use Rattle.offset_edges.specs.declared.edge.Edge.{Edge}
 use Rattle.offset_edges.specs.declared.source.Source.{Source}
-use Rattle.offset_edges.specs.Edges.{kind_at, source_of, new_source, edge_of, is_steady, AreSources}
-use Rattle.offset_edges.proofs.NodeLemmas.{orderly}
-use Rattle.offset_edges.proofs.Reading.{view_read}
+use Rattle.stream_graph.specs.LookUps.{kind_at}
+use Rattle.offset_edges.specs.Edges.{source_of, new_source, edge_of, AreSources}
+use Rattle.stream_graph.specs.Kinds.{is_steady}
+use Rattle.stream_graph.proofs.NodeLemmas.{orderly}
+use Rattle.stream_graph.proofs.Reading.{view_read}
 use Rattle.offset_edges.proofs.SourceLemmas.{source_known}
 use Rattle.offset_edges.proofs.edge.edge_over.Goals as goal
 use Rattle.offset_edges.proofs.edge.edge_over.Goals.{After-is_steady}

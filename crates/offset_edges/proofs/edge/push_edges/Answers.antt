@@ -19,9 +19,11 @@ use Rattle.std.specs.List.{flat_map}
 use Rattle.std.proofs.lemmas.List.{append-nil, get_or_read, take_all}
 use Rattle.stream_graph.specs.declared.node.Node.{Node}
 use Rattle.offset_edges.specs.declared.edge.Edge.{Edge}
-use Rattle.offset_edges.specs.Edges.{kind_at, operands_at, edge_of, edges_into, is_offset}
-use Rattle.offset_edges.proofs.NodeLemmas.{orderly}
-use Rattle.offset_edges.proofs.Reading.{view_read, operands_read}
+use Rattle.stream_graph.specs.LookUps.{kind_at, operands_at}
+use Rattle.offset_edges.specs.Edges.{edge_of, edges_into}
+use Rattle.stream_graph.specs.Kinds.{is_offset}
+use Rattle.stream_graph.proofs.NodeLemmas.{orderly}
+use Rattle.stream_graph.proofs.Reading.{view_read, operands_read}
 use Rattle.offset_edges.proofs.edge.push_edges.Goals as goal
 
 into_none : (nodes : List Node) (n : ℕ) (first : List Edge) → is_offset (kind_at nodes n) ≡ true →

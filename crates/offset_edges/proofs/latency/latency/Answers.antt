@@ -1,10 +1,11 @@
 use Rattle.std.proofs.Common.{◌≡◌, ◌∙◌, ap, sym}
 use Rattle.stream_graph.specs.declared.node.Kind.TheVariants as K
 use Rattle.latency_table.specs.Tables.{latency_of}
-use Rattle.offset_edges.specs.Edges.{kind_at}
+use Rattle.stream_graph.specs.LookUps.{kind_at}
 use Rattle.offset_edges.specs.Latencies.{latency_as}
-use Rattle.offset_edges.proofs.NodeLemmas.{orderly}
-use Rattle.offset_edges.proofs.Reading.{view_read}
+use Rattle.stream_graph.proofs.NodeLemmas.{orderly}
+use Rattle.stream_graph.proofs.Reading.{view_read}
+use Rattle.offset_edges.proofs.LatencyLemmas.{decides}
 use Rattle.offset_edges.proofs.latency.latency.Goals as goal
 use Rattle.offset_edges.proofs.latency.latency.Goals.{In-Operation}
 
@@ -18,9 +19,10 @@ read_it c =
 
 pub width_for-width-requires-clause-place : goal.width_for-width-requires-clause-place
 width_for-width-requires-clause-place c =
-    (orderly c.args.kernel.now.nodes c.args.kernel.now.made).operations c.args.number
+    decides c.in-Operation.op _
+    ((orderly c.args.kernel.now.nodes c.args.kernel.now.made).operations c.args.number
     c.in-Operation.op
-    c.in-Operation.field-1 c.in-Operation.field-2 c.requires (read_it c)
+    c.in-Operation.field-1 c.in-Operation.field-2 c.requires (read_it c))
 
 pub returns-in-Some-clause-ok : goal.returns-in-Some-clause-ok
 returns-in-Some-clause-ok c =

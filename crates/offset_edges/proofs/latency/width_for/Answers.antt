@@ -2,10 +2,10 @@ use Rattle.std.proofs.Common.{arith, ◌≡◌, ℕ, ◌<◌, ◌∙◌, ap, sym
 use Rattle.std.proofs.lemmas.List.{get_or_read}
 use Rattle.fix_arith.specs.Types.{width_of, HasWidth}
 use Rattle.stream_graph.specs.declared.node.Node.{Node}
-use Rattle.offset_edges.specs.Edges.{operands_at, operand_at}
+use Rattle.stream_graph.specs.LookUps.{operands_at, operand_at}
 use Rattle.offset_edges.specs.Latencies.{deciding}
-use Rattle.offset_edges.proofs.NodeLemmas.{orderly}
-use Rattle.offset_edges.proofs.Reading.{view_read, operands_read}
+use Rattle.stream_graph.proofs.NodeLemmas.{orderly}
+use Rattle.stream_graph.proofs.Reading.{view_read, operands_read}
 use Rattle.offset_edges.proofs.latency.width_for.Goals as goal
 
 -- the operand that was read

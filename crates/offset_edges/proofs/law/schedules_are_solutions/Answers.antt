@@ -1,7 +1,7 @@
 use Rattle.std.proofs.Common.{length}
 use Rattle.offset_edges.specs.Edges.{edges_of}
 use Rattle.offset_edges.specs.Latencies.{ticks_of}
-use Rattle.offset_edges.proofs.NodeLemmas.{orderly}
+use Rattle.stream_graph.proofs.NodeLemmas.{orderly}
 use Rattle.offset_edges.proofs.EdgeLemmas.{edges_small}
 use Rattle.offset_edges.proofs.ScheduleLemmas.{with_kept, of_node, solution_of, bits_same_all}
 use Rattle.offset_edges.proofs.law.schedules_are_solutions.Goals as goal

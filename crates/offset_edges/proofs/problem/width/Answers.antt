@@ -1,7 +1,7 @@
 use Rattle.std.proofs.Common.{arith, ◌∙◌, ap, sym, subst}
 use Rattle.fix_arith.specs.Types.{width_of, HasWidth}
-use Rattle.offset_edges.proofs.NodeLemmas.{orderly}
-use Rattle.offset_edges.proofs.Reading.{view_read}
+use Rattle.stream_graph.proofs.NodeLemmas.{orderly}
+use Rattle.stream_graph.proofs.Reading.{view_read}
 use Rattle.offset_edges.proofs.problem.width.Goals as goal
 
 pub width-requires : goal.width-requires

@@ -6,9 +6,10 @@ use Rattle.stream_graph.specs.declared.node.Kind.TheVariants as K
 use Rattle.stream_graph.specs.declared.node.Node.{Node}
 use Rattle.stream_graph.specs.Kernels.{AreKernel}
 use Rattle.offset_edges.specs.declared.source.Source.{Source}
-use Rattle.offset_edges.specs.Edges.{kind_at, operand_at, source_of, new_source, AreSources}
-use Rattle.offset_edges.proofs.NodeLemmas.{orderly}
-use Rattle.offset_edges.proofs.Reading.{view_read, operands_read}
+use Rattle.stream_graph.specs.LookUps.{kind_at, operand_at}
+use Rattle.offset_edges.specs.Edges.{source_of, new_source, AreSources}
+use Rattle.stream_graph.proofs.NodeLemmas.{orderly}
+use Rattle.stream_graph.proofs.Reading.{view_read, operands_read}
 use Rattle.offset_edges.proofs.SourceLemmas.{source_past, source_known}
 use Rattle.offset_edges.proofs.source.source_at.Goals as goal
 

@@ -1,8 +1,8 @@
 use Rattle.std.proofs.Common.{◌≤◌, refl, ap, sym, subst, ◌∙◌}
 use Rattle.fix_arith.specs.Types.{width_of, HasWidth}
 use Rattle.stream_graph.specs.declared.node.NodeView.{NodeView}
-use Rattle.offset_edges.proofs.NodeLemmas.{orderly}
-use Rattle.offset_edges.proofs.Reading.{view_read}
+use Rattle.stream_graph.proofs.NodeLemmas.{orderly}
+use Rattle.stream_graph.proofs.Reading.{view_read}
 use Rattle.project_design.proofs.nodes.width.Goals as goal
 
 pub width-requires : goal.width-requires

@@ -7,7 +7,7 @@ use Rattle.std.proofs.lemmas.List.{take_all}
 use Rattle.stream_graph.specs.declared.kernel.Kernel.{Kernel}
 use Rattle.stream_graph.specs.declared.node.Kind.TheVariants as K
 use Rattle.stream_graph.specs.declared.node.NodeView.{NodeView}
-use Rattle.stream_graph.specs.PortKinds.{is_input, is_output}
+use Rattle.stream_graph.specs.Kinds.{is_input, is_output}
 use Rattle.manager_links.specs.Numbers.{Knows}
 use Rattle.manager_links.specs.Terminals.{Input, Output, terminal_of}
 use Rattle.manager_links.proofs.Pieces.{get_read, kept_step, passed_step}

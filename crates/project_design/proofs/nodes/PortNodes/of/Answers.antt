@@ -1,6 +1,6 @@
 use Rattle.std.proofs.Common.{◌++◌, [], ◌∷◌, cond, refl, ap, ◌∙◌, arith}
-use Rattle.offset_edges.proofs.Reading.{view_read}
-use Rattle.stream_graph.specs.PortKinds.{is_input, is_output, is_scalar}
+use Rattle.stream_graph.proofs.Reading.{view_read}
+use Rattle.stream_graph.specs.Kinds.{is_input, is_output, is_scalar}
 use Rattle.project_design.proofs.Porters.{so_far_more, all_ports}
 use Rattle.project_design.proofs.nodes.PortNodes.of.Goals as goal
 

@@ -4,7 +4,7 @@ use Rattle.std.specs.Prelude.{Some, slice_get}
 use Rattle.std.specs.Option.{option_map}
 use Rattle.stream_graph.specs.declared.node.Node.{Node}
 use Rattle.stream_graph.specs.declared.node.NodeView.{NodeView}
-use Rattle.offset_edges.specs.Edges.{node_at, operands_at, no_node}
+use Rattle.stream_graph.specs.LookUps.{node_at, operands_at, no_node}
 
 pub read : {X Y : Type 0} (f : X → Y) (xs : List X) (id n : ℕ) (y : Y) (d : X) → id ≡ n →
     option_map f (slice_get xs id) ≡ Some y → y ≡ f (get_or xs n d)

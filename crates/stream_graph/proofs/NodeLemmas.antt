@@ -22,35 +22,14 @@ use Rattle.std.proofs.Common.{
   inr,
   ⊎_elim,
 }
-use Rattle.std.proofs.Math.Bridge.{le_prop}
+use Rattle.std.proofs.Props.{props}
 use Rattle.std.proofs.Math.Logic.{∥∥₁_elim}
 use Rattle.std.specs.Prelude.{All, ℤ, unsigned_abs, Option, Some, None, slice_get}
 use Rattle.std.proofs.lemmas.List.Elements.{All-nil, All-cons}
 use Rattle.std.proofs.lemmas.List.{get_or_past}
 use Rattle.std.proofs.lemmas.Bool.{cases_lt}
 use Rattle.mx_bits.specs.declared.op.Op.{Op}
-use Rattle.mx_bits.specs.declared.op.Op.TheVariants.{
-  Add,
-  Sub,
-  Mul,
-  Div,
-  Neg,
-  And,
-  Or,
-  Xor,
-  Not,
-  Shl,
-  Shr,
-  Eq,
-  Ne,
-  Lt,
-  Le,
-  Gt,
-  Ge,
-  Mux,
-  Cast,
-  Round,
-}
+use Rattle.mx_bits.specs.declared.op.Op.TheVariants.{Mux}
 use Rattle.fix_arith.specs.declared.types.StreamType.{StreamType}
 use Rattle.fix_arith.specs.declared.types.RoundMode.{RoundMode}
 use Rattle.fix_arith.specs.Types.{HasWidth}
@@ -58,7 +37,7 @@ use Rattle.fix_arith.specs.Table.{GivesType}
 use Rattle.kernel_calls.specs.declared.call.Call.{Call}
 use Rattle.kernel_calls.specs.declared.call.Call.TheVariants as C
 use Rattle.kernel_calls.specs.Calls.{count_of, Makes}
-use Rattle.kernel_calls.specs.Laws.{AreStreams, MayControl, IsControl}
+use Rattle.kernel_calls.specs.Laws.{IsLawful, AreStreams, MayControl, IsControl}
 use Rattle.stream_graph.specs.declared.node.Kind.{Kind}
 use Rattle.stream_graph.specs.declared.node.Kind.TheVariants as K
 use Rattle.stream_graph.specs.declared.node.Node.{Node}
@@ -75,18 +54,12 @@ use Rattle.stream_graph.specs.Nodes.{
   AreNodes,
 }
 use Rattle.stream_graph.specs.Steps.{WereLawful}
-use Rattle.offset_edges.specs.Edges.{
-  node_at,
-  kind_at,
-  operands_at,
-  operand_at,
-  is_steady,
-  no_node,
-}
-use Rattle.offset_edges.specs.Latencies.{deciding}
-use Rattle.offset_edges.proofs.CallLemmas.{
+use Rattle.stream_graph.specs.LookUps.{node_at, kind_at, operands_at, operand_at, no_node}
+use Rattle.stream_graph.specs.Kinds.{is_steady, fixed_operands, IsCallOf}
+use Rattle.stream_graph.proofs.KindLemmas.{made_by, steady_fixed}
+use Rattle.stream_graph.proofs.Facts.{made_below}
+use Rattle.stream_graph.proofs.CallLemmas.{
   made,
-  made_below,
   stream_below,
   WasLawful,
   was_lawful,
@@ -100,36 +73,20 @@ use Rattle.offset_edges.proofs.CallLemmas.{
 
 -- ---- operations
 
+-- an operation has at least so many operands
+abbrev pub least_args : Op → ℕ
+least_args Mux = 2
+least_args _ = 1
+
 pub record HasArgs (op : Op) (count : ℕ) : Type 0 where
-  pub decides : deciding op < count
+  pub least : least_args op ≤ count
   pub few : count ≤ 65
 
 args_of : (op : Op) (types : List StreamType) (k : ℕ) (out : StreamType)
     → GivesType op types k out → HasArgs op (length types)
-args_of Cast types k out g = let e = g.0 in record { decides = omega arith; few = omega arith }
-args_of Round types k out g = let e = g.0 in record { decides = omega arith; few = omega arith }
-args_of Mux types k out g = let o = g.1.options refl in record {
-  decides = omega arith;
-  few = omega
-      arith;
-}
-args_of Neg types k out g = let e = g.0 in record { decides = omega arith; few = omega arith }
-args_of Not types k out g = let e = g.0 in record { decides = omega arith; few = omega arith }
-args_of Shl types k out g = let e = g.0 in record { decides = omega arith; few = omega arith }
-args_of Shr types k out g = let e = g.0 in record { decides = omega arith; few = omega arith }
-args_of Add types k out g = let e = g.0 in record { decides = omega arith; few = omega arith }
-args_of Sub types k out g = let e = g.0 in record { decides = omega arith; few = omega arith }
-args_of Mul types k out g = let e = g.0 in record { decides = omega arith; few = omega arith }
-args_of Div types k out g = let e = g.0 in record { decides = omega arith; few = omega arith }
-args_of And types k out g = let e = g.0 in record { decides = omega arith; few = omega arith }
-args_of Or types k out g = let e = g.0 in record { decides = omega arith; few = omega arith }
-args_of Xor types k out g = let e = g.0 in record { decides = omega arith; few = omega arith }
-args_of Eq types k out g = let e = g.0 in record { decides = omega arith; few = omega arith }
-args_of Ne types k out g = let e = g.0 in record { decides = omega arith; few = omega arith }
-args_of Lt types k out g = let e = g.0 in record { decides = omega arith; few = omega arith }
-args_of Le types k out g = let e = g.0 in record { decides = omega arith; few = omega arith }
-args_of Gt types k out g = let e = g.0 in record { decides = omega arith; few = omega arith }
-args_of Ge types k out g = let e = g.0 in record { decides = omega arith; few = omega arith }
+args_of Mux types k out g =
+    let o = g.1.options refl in record { least = omega arith; few = omega arith }
+args_of _ types k out g = let e = g.0 in record { least = omega arith; few = omega arith }
 
 streams_below : (so_far : List Call) (args : List ℕ) (types : List StreamType)
     → AreStreams so_far args types →
@@ -163,6 +120,16 @@ two_at_most : (n : ℕ) → (2 ≤ n → ⊥) → n ≤ 1
 two_at_most n never = ⊎_elim (λ (l : n < 2). omega arith) (λ (g : 2 ≤ n). absurd (never g))
     (cases_lt n 2)
 
+some_of : {A : Type 0} (xs : List A) → (xs ≡ [] → ⊥) → 1 ≤ length xs
+some_of [] never = absurd (never refl)
+some_of (x ∷ xs) never = omega arith
+
+some_eq : {A : Type 0} {x y : A} → Some x ≡ Some y → x ≡ y
+some_eq e = cc
+
+none_some : {A : Type 0} {x : A} → None ≡ Some x → ⊥
+none_some e = cc
+
 -- each feed is connected once at most
 abbrev OnceConnected : List Call → Type 0
 OnceConnected so_far = (n : ℕ) → ((t : StreamType) × Makes so_far n (C.Feed t) × (2 ≤ length
@@ -171,6 +138,11 @@ OnceConnected so_far = (n : ℕ) → ((t : StreamType) × Makes so_far n (C.Feed
 -- each chain has a digit
 abbrev SomeDigits : List Call → Type 0
 SomeDigits so_far = (n : ℕ) → (Makes so_far n C.Chain × (digits_to so_far n ≡ [])) → ⊥
+
+-- each feed is connected
+abbrev SomeConnected : List Call → Type 0
+SomeConnected so_far = (n : ℕ) → ((t : StreamType) × Makes so_far n (C.Feed t) ×
+    (connected_to so_far n ≡ [])) → ⊥
 
 pub record HasOperandsBelow (so_far : List Call) (operands : List ℕ) : Type 0 where
   pub below : All (λ o. o < count_of so_far) operands
@@ -199,16 +171,6 @@ operands_below so_far n (C.Output name value control t) w once m l =
           value t l.lawful.1) o.0);
       few = (let f = o.1 in omega arith);
     }
-operands_below so_far n (C.Scalar name t) w once m l = record {
-  below = All-nil (λ o. o < count_of
-      so_far);
-  few = omega arith;
-}
-operands_below so_far n (C.Constant bits t) w once m l = record {
-  below = All-nil (λ o. o < count_of
-      so_far);
-  few = omega arith;
-}
 operands_below so_far n (C.Operation op mode amount args t) w once m l =
     let b = made_below so_far n _ m in
     let s = streams_below l.older args l.lawful.0 l.lawful.1 in
@@ -233,11 +195,6 @@ operands_below so_far n (C.Offset value k t) w once m l =
 operands_below so_far n (C.Feed t) w once m l =
     let f = two_at_most (length (connected_to so_far n)) (λ h. once n (t, m, h)) in
     record { below = connected_below so_far n w; few = omega arith }
-operands_below so_far n (C.Connect feed value) w once m l = record {
-  below = All-nil (λ o. o <
-      count_of so_far);
-  few = omega arith;
-}
 operands_below so_far n (C.Hold value store t) w once m l =
     let b = made_below so_far n _ m in
     let e = l.count in
@@ -249,15 +206,6 @@ operands_below so_far n (C.Hold value store t) w once m l =
           so_far)));
       few = omega arith;
     }
-operands_below so_far n (C.Counter d) w once m l = record {
-  below = All-nil (λ o. o < count_of
-      so_far);
-  few = omega arith;
-}
-operands_below so_far n C.Chain w once m l = record {
-  below = All-nil (λ o. o < count_of so_far);
-  few = omega arith;
-}
 operands_below so_far n (C.ChainDigit chain d) w once m l =
     let b = made_below so_far n _ m in
     let e = l.count in
@@ -267,12 +215,10 @@ operands_below so_far n (C.ChainDigit chain d) w once m l =
           count_of so_far));
       few = omega arith;
     }
+operands_below so_far n _ w once m l =
+    record { below = All-nil (λ o. o < count_of so_far); few = omega arith }
 
 -- ---- the types of nodes
-
-some_digit : {A : Type 0} (xs : List A) → (xs ≡ [] → ⊥) → 1 ≤ length xs
-some_digit [] never = absurd (never refl)
-some_digit (x ∷ xs) never = omega arith
 
 node_width : (so_far : List Call) (n : ℕ) (call : Call) (kind : Kind) → WereLawful so_far →
     SomeDigits so_far → Makes so_far n call → WasLawful n call → IsKind so_far n call kind →
@@ -290,7 +236,7 @@ node_width so_far n (C.Counter d) kind w some m l i = digit_width d l.lawful
 node_width so_far n C.Chain kind w some m l i =
     let least = chain_bits_least so_far n w in
     let most = chain_bits_most so_far n w in
-    let one = some_digit (digits_to so_far n) (λ e. some n (m, e)) in
+    let one = some_of (digits_to so_far n) (λ e. some n (m, e)) in
     (omega arith, omega arith)
 node_width so_far n (C.ChainDigit chain d) kind w some m l i = digit_width d l.lawful.1
 
@@ -302,69 +248,48 @@ pub record IsOffset (n : ℕ) (ticks : ℤ) (operands : List ℕ) : Type 0 where
   pub earlier : value < n
   pub few : unsigned_abs ticks ≤ 1048576
 
-offset_call : (so_far : List Call) (n : ℕ) (call : Call) (kind : Kind) (ticks : ℤ)
-    → WasLawful n call →
-    IsKind so_far n call kind → kind ≡ K.Offset ticks → IsOffset n ticks (operands_by so_far n call)
-offset_call so_far n (C.Offset value k t) kind ticks l i e =
-    let same : k ≡ ticks = cc in
-    let v = stream_below l.older value t l.lawful.0 in
+offset_call : (so_far : List Call) (n : ℕ) (call : Call) (ticks : ℤ) → WasLawful n call →
+    IsCallOf (K.Offset ticks) call → IsOffset n ticks (operands_by so_far n call)
+offset_call so_far n call ticks l (value, t, e) =
+    let lawful = subst (λ c. IsLawful l.older c) e l.lawful in
+    let v = stream_below l.older value t lawful.0 in
     let q = l.count in
     record {
       value = value;
-      operand = refl;
+      operand = ap (λ c. operands_by so_far n c) e;
       earlier = omega arith;
-      few = subst (λ j. unsigned_abs j
-          ≤ 1048576) same l.lawful.1;
+      few = lawful.1;
     }
-offset_call so_far n (C.Input name t control) kind ticks l i e = absurd (cc)
-offset_call so_far n (C.Output name value control t) kind ticks l i e = absurd (cc)
-offset_call so_far n (C.Scalar name t) kind ticks l i e = absurd (cc)
-offset_call so_far n (C.Constant bits t) kind ticks l i e = let q = i.1 in absurd (cc)
-offset_call so_far n (C.Operation op mode amount args t) kind ticks l i e = absurd (cc)
-offset_call so_far n (C.Feed t) kind ticks l i e = absurd (cc)
-offset_call so_far n (C.Connect feed value) kind ticks l i e = absurd i
-offset_call so_far n (C.Hold value store t) kind ticks l i e = absurd (cc)
-offset_call so_far n (C.Counter d) kind ticks l i e = absurd (cc)
-offset_call so_far n C.Chain kind ticks l i e = absurd (cc)
-offset_call so_far n (C.ChainDigit chain d) kind ticks l i e = absurd (cc)
 
-operation_call : (so_far : List Call) (n : ℕ) (call : Call) (kind : Kind) (op : Op) (mode :
-    RoundMode) (amount : ℕ) →
-    WasLawful n call → IsKind so_far n call kind → kind ≡ K.Operation op mode amount →
-    deciding op < length (operands_by so_far n call)
-operation_call so_far n (C.Operation op' mode' amount' args t) kind op mode amount l i e =
-    let same : op' ≡ op = cc in
-    let s = (streams_below l.older args l.lawful.0 l.lawful.1).1 in
-    let a = (args_of op' l.lawful.0 amount' t l.lawful.2).decides in
-    let b : deciding op' < length args = omega arith in
-    subst (λ o. deciding o < length args) same b
-operation_call so_far n (C.Offset value k t) kind op mode amount l i e = absurd (cc)
-operation_call so_far n (C.Input name t control) kind op mode amount l i e = absurd (cc)
-operation_call so_far n (C.Output name value control t) kind op mode amount l i e = absurd (cc)
-operation_call so_far n (C.Scalar name t) kind op mode amount l i e = absurd (cc)
-operation_call so_far n (C.Constant bits t) kind op mode amount l i e = let q = i.1 in absurd (cc)
-operation_call so_far n (C.Feed t) kind op mode amount l i e = absurd (cc)
-operation_call so_far n (C.Connect feed value) kind op mode amount l i e = absurd i
-operation_call so_far n (C.Hold value store t) kind op mode amount l i e = absurd (cc)
-operation_call so_far n (C.Counter d) kind op mode amount l i e = absurd (cc)
-operation_call so_far n C.Chain kind op mode amount l i e = absurd (cc)
-operation_call so_far n (C.ChainDigit chain d) kind op mode amount l i e = absurd (cc)
+operation_call : (so_far : List Call) (n : ℕ) (call : Call) (op : Op) (mode : RoundMode) (amount : ℕ) →
+    WasLawful n call → IsCallOf (K.Operation op mode amount) call →
+    least_args op ≤ length (operands_by so_far n call)
+operation_call so_far n call op mode amount l (args, t, e) =
+    let lawful = subst (λ c. IsLawful l.older c) e l.lawful in
+    let s = (streams_below l.older args lawful.0 lawful.1).1 in
+    let a = (args_of op lawful.0 amount t lawful.2).least in
+    let same = ap (λ c. length (operands_by so_far n c)) e in
+    omega arith
 
--- one word in all ticks has no operands
-steady_call : (so_far : List Call) (n : ℕ) (call : Call) (kind : Kind) → IsKind so_far n call kind →
-    is_steady kind ≡ true → operands_by so_far n call ≡ []
-steady_call so_far n (C.Input name t control) kind i e = absurd (cc)
-steady_call so_far n (C.Output name value control t) kind i e = absurd (cc)
-steady_call so_far n (C.Scalar name t) kind i e = refl
-steady_call so_far n (C.Constant bits t) kind i e = refl
-steady_call so_far n (C.Operation op mode amount args t) kind i e = absurd (cc)
-steady_call so_far n (C.Offset value k t) kind i e = absurd (cc)
-steady_call so_far n (C.Feed t) kind i e = absurd (cc)
-steady_call so_far n (C.Connect feed value) kind i e = absurd i
-steady_call so_far n (C.Hold value store t) kind i e = absurd (cc)
-steady_call so_far n (C.Counter d) kind i e = refl
-steady_call so_far n C.Chain kind i e = refl
-steady_call so_far n (C.ChainDigit chain d) kind i e = absurd (cc)
+-- the operands of a node whose kind says how many it has
+fixed_call : (so_far : List Call) (n count : ℕ) (call : Call) (kind : Kind) → OnceConnected so_far →
+    SomeConnected so_far → Makes so_far n call → IsKind so_far n call kind →
+    fixed_operands kind ≡ Some count → length (operands_by so_far n call) ≡ count
+fixed_call so_far n count (C.Feed t) kind once some m i e =
+    let most = two_at_most (length (connected_to so_far n)) (λ h. once n (t, m, h)) in
+    let least = some_of (connected_to so_far n) (λ h. some n (t, m, h)) in
+    let one : 1 ≡ count = some_eq (sym (ap fixed_operands i) ∙ e) in
+    omega arith
+fixed_call so_far n count (C.Connect feed value) kind once some m i e = absurd i
+fixed_call so_far n count (C.Constant bits t) kind once some m i e =
+    some_eq (sym (ap fixed_operands i.1) ∙ e)
+fixed_call so_far n count (C.Input name t control) kind once some m i e =
+    absurd (none_some (sym (ap fixed_operands i) ∙ e))
+fixed_call so_far n count (C.Output name value control t) kind once some m i e =
+    absurd (none_some (sym (ap fixed_operands i) ∙ e))
+fixed_call so_far n count (C.Operation op mode amount args t) kind once some m i e =
+    absurd (none_some (sym (ap fixed_operands i) ∙ e))
+fixed_call so_far n count _ kind once some m i e = some_eq (sym (ap fixed_operands i) ∙ e)
 
 -- ---- nodes
 
@@ -404,13 +329,15 @@ pub record IsOrderly (nodes : List Node) : Type 0 where
       (0 < length (operands_at nodes n)) × (operand_at nodes n 0 < n) × (unsigned_abs ticks ≤
       1048576)
   pub operations : (n : ℕ) (op : Op) (mode : RoundMode) (amount : ℕ) → n < length nodes →
-      kind_at nodes n ≡ K.Operation op mode amount → deciding op < length (operands_at nodes n)
+      kind_at nodes n ≡ K.Operation op mode amount → least_args op ≤ length (operands_at nodes n)
   pub steady : (n : ℕ) → n < length nodes → is_steady (kind_at nodes n) ≡ true
       → length (operands_at nodes n) ≤ 0
+  pub fixed : (n count : ℕ) → n < length nodes → fixed_operands (kind_at nodes n) ≡ Some count
+      → length (operands_at nodes n) ≡ count
 
 orderly_so_far : (so_far : List Call) (nodes : List Node) → WereLawful so_far → SomeDigits so_far →
-    OnceConnected so_far → AreNodes so_far nodes → IsOrderly nodes
-orderly_so_far so_far nodes w some once a =
+    OnceConnected so_far → SomeConnected so_far → AreNodes so_far nodes → IsOrderly nodes
+orderly_so_far so_far nodes w some once connected a =
     record {
       operands = λ n i h l.
           let o = of_node so_far nodes n w a h in
@@ -431,7 +358,8 @@ orderly_so_far so_far nodes w some once a =
           o.makes o.was o.is.kind);
       offsets = λ n ticks h e.
           let o = of_node so_far nodes n w a h in
-          let f = offset_call so_far n o.call (kind_at nodes n) ticks o.was o.is.kind e in
+          let f = offset_call so_far n o.call ticks o.was (made_by so_far n o.call (K.Offset ticks)
+          (subst (λ k. IsKind so_far n o.call k) e o.is.kind)) in
           let q : operands_at nodes n ≡ f.value ∷ [] = o.is.operands ∙ f.operand in
           let one = ap length q in
           let first : operand_at nodes n 0 ≡ f.value = ap (λ xs. get_or xs 0 0) q in
@@ -439,21 +367,26 @@ orderly_so_far so_far nodes w some once a =
           (omega arith, omega arith, f.few);
       operations = λ n op mode amount h e.
           let o = of_node so_far nodes n w a h in
-          let f = operation_call so_far n o.call (kind_at nodes n) op mode amount o.was o.is.kind e
-          in
+          let f = operation_call so_far n o.call op mode amount o.was (made_by so_far n o.call
+          (K.Operation op mode amount) (subst (λ k. IsKind so_far n o.call k) e o.is.kind)) in
           let q = ap length o.is.operands in
           omega arith;
       steady = λ n h e.
           let o = of_node so_far nodes n w a h in
-          let none = ap length (o.is.operands ∙ steady_call so_far n o.call (kind_at nodes n)
-          o.is.kind e) in
+          let none = fixed_call so_far n 0 o.call (kind_at nodes n) once connected o.makes o.is.kind
+          (steady_fixed (kind_at nodes n) e) in
+          let q = ap length o.is.operands in
           omega arith;
+      fixed = λ n count h e.
+          let o = of_node so_far nodes n w a h in
+          ap length o.is.operands ∙ fixed_call so_far n count o.call (kind_at nodes n) once connected
+          o.makes o.is.kind e;
     }
 
 pub orderly : (nodes : List Node) → ∥ AreKernel nodes ∥₁ → IsOrderly nodes
 orderly nodes kernel =
-    ∥∥₁_elim {P = IsOrderly nodes} kernel (hlevel le_prop)
-    (λ k. orderly_so_far (later [] k.0) nodes (were_later [] k.0 tt k.1) k.2.chains k.2.once k.3)
+    ∥∥₁_elim {P = IsOrderly nodes} kernel (hlevel props)
+    (λ k. orderly_so_far (later [] k.0) nodes (were_later [] k.0 tt k.1) k.2.chains k.2.once k.2.connected k.3)
 
 -- ---- the names of nodes
 
@@ -475,5 +408,5 @@ short_so_far so_far nodes w a n = ⊎_elim
 pub short_names : (nodes : List Node) → ∥ AreKernel nodes ∥₁ → (n : ℕ)
     → length (node_at nodes n).name ≤ 64
 short_names nodes kernel =
-    ∥∥₁_elim {P = (n : ℕ) → length (node_at nodes n).name ≤ 64} kernel (hlevel le_prop)
+    ∥∥₁_elim {P = (n : ℕ) → length (node_at nodes n).name ≤ 64} kernel (hlevel props)
     (λ k. short_so_far (later [] k.0) nodes (were_later [] k.0 tt k.1) k.3)

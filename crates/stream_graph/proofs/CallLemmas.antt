@@ -44,54 +44,17 @@ use Rattle.kernel_calls.specs.declared.call.Call.{Call}
 use Rattle.kernel_calls.specs.declared.call.Call.TheVariants as C
 use Rattle.kernel_calls.specs.Calls.{count_of, nodes_of, bits_in, Makes}
 use Rattle.kernel_calls.specs.Laws.{IsLawful, AreLawful, IsStream}
-use Rattle.stream_graph.proofs.Facts.{makes_older}
+use Rattle.stream_graph.proofs.Facts.{makes_cases, makes_older, made_below}
 use Rattle.stream_graph.specs.Nodes.{later, connected_to, digits_to, name_by}
 use Rattle.stream_graph.specs.Steps.{WereLawful}
 
 -- ---- which calls make nodes
 
-pub makes_cases : (newest : Call) (older : List Call) (n : ℕ) (call : Call)
-    → Makes (newest ∷ older) n call →
-    ((nodes_of newest ≡ 1) × (n ≡ count_of older) × (call ≡ newest)) ⊎ Makes older n call
-makes_cases (C.Connect feed value) older n call h = inr h
-makes_cases (C.Input name t control) older n call (inl p) = inl (refl, p.0, p.1)
-makes_cases (C.Input name t control) older n call (inr h) = inr h
-makes_cases (C.Output name value control t) older n call (inl p) = inl (refl, p.0, p.1)
-makes_cases (C.Output name value control t) older n call (inr h) = inr h
-makes_cases (C.Scalar name t) older n call (inl p) = inl (refl, p.0, p.1)
-makes_cases (C.Scalar name t) older n call (inr h) = inr h
-makes_cases (C.Constant bits t) older n call (inl p) = inl (refl, p.0, p.1)
-makes_cases (C.Constant bits t) older n call (inr h) = inr h
-makes_cases (C.Operation op mode amount args t) older n call (inl p) = inl (refl, p.0, p.1)
-makes_cases (C.Operation op mode amount args t) older n call (inr h) = inr h
-makes_cases (C.Offset value k t) older n call (inl p) = inl (refl, p.0, p.1)
-makes_cases (C.Offset value k t) older n call (inr h) = inr h
-makes_cases (C.Feed t) older n call (inl p) = inl (refl, p.0, p.1)
-makes_cases (C.Feed t) older n call (inr h) = inr h
-makes_cases (C.Hold value store t) older n call (inl p) = inl (refl, p.0, p.1)
-makes_cases (C.Hold value store t) older n call (inr h) = inr h
-makes_cases (C.Counter d) older n call (inl p) = inl (refl, p.0, p.1)
-makes_cases (C.Counter d) older n call (inr h) = inr h
-makes_cases C.Chain older n call (inl p) = inl (refl, p.0, p.1)
-makes_cases C.Chain older n call (inr h) = inr h
-makes_cases (C.ChainDigit chain d) older n call (inl p) = inl (refl, p.0, p.1)
-makes_cases (C.ChainDigit chain d) older n call (inr h) = inr h
-
 -- a call makes the next node, or it connects a feed
 pub makes_next : (newest : Call) (older : List Call) →
     (Makes (newest ∷ older) (count_of older) newest × (nodes_of newest ≡ 1)) ⊎ (nodes_of newest ≡ 0)
 makes_next (C.Connect feed value) older = inr refl
-makes_next (C.Input name t control) older = inl (inl (refl, refl), refl)
-makes_next (C.Output name value control t) older = inl (inl (refl, refl), refl)
-makes_next (C.Scalar name t) older = inl (inl (refl, refl), refl)
-makes_next (C.Constant bits t) older = inl (inl (refl, refl), refl)
-makes_next (C.Operation op mode amount args t) older = inl (inl (refl, refl), refl)
-makes_next (C.Offset value k t) older = inl (inl (refl, refl), refl)
-makes_next (C.Feed t) older = inl (inl (refl, refl), refl)
-makes_next (C.Hold value store t) older = inl (inl (refl, refl), refl)
-makes_next (C.Counter d) older = inl (inl (refl, refl), refl)
-makes_next C.Chain older = inl (inl (refl, refl), refl)
-makes_next (C.ChainDigit chain d) older = inl (inl (refl, refl), refl)
+makes_next _ older = inl (inl (refl, refl), refl)
 
 -- each node is made
 pub made : (so_far : List Call) (n : ℕ) → n < count_of so_far → (call : Call) × Makes so_far n call
@@ -156,18 +119,6 @@ short_name so_far (C.Input name t control) l = l.0.1
 short_name so_far (C.Output name value control t) l = l.0.1
 short_name so_far (C.Scalar name t) l = l.0.1
 short_name so_far _ l = omega arith
-
-pub made_below : (so_far : List Call) (n : ℕ) (call : Call) → Makes so_far n call
-    → n < count_of so_far
-made_below [] n call h = absurd h
-made_below (newest ∷ older) n call h = by_newest (makes_cases newest older n call h)
-    (λ g. made_below older n call g)
-  where
-    by_newest : ((nodes_of newest ≡ 1) × (n ≡ count_of older) × (call ≡ newest)) ⊎ Makes older n
-        call →
-        (Makes older n call → n < count_of older) → n < count_of older + nodes_of newest
-    by_newest (inl p) below = let a = p.0 in let b = p.1 in omega arith
-    by_newest (inr g) below = let b = below g in omega arith
 
 pub stream_below : (so_far : List Call) (n : ℕ) (t : StreamType) → IsStream so_far n t
     → n < count_of so_far
@@ -241,23 +192,7 @@ chain_bits_most (C.ChainDigit chain d ∷ older) n w =
         bits_in older n + (elim b [ true ↦ d.bits | false ↦ 0 ]) ≤ 128
     by_test true same own others = subst (λ k. bits_in older k + d.bits ≤ 128) (same refl) own
     by_test false same own others = omega arith
-chain_bits_most (C.Input name t control ∷ older) n w = let r = chain_bits_most older n w.1 in omega
-    arith
-chain_bits_most (C.Output name value control t ∷ older) n w = let r = chain_bits_most older n w.1 in
-    omega arith
-chain_bits_most (C.Scalar name t ∷ older) n w = let r = chain_bits_most older n w.1 in omega arith
-chain_bits_most (C.Constant bits t ∷ older) n w = let r = chain_bits_most older n w.1 in omega arith
-chain_bits_most (C.Operation op mode amount args t ∷ older) n w = let r = chain_bits_most older n
-    w.1 in omega arith
-chain_bits_most (C.Offset value k t ∷ older) n w = let r = chain_bits_most older n w.1 in omega
-    arith
-chain_bits_most (C.Feed t ∷ older) n w = let r = chain_bits_most older n w.1 in omega arith
-chain_bits_most (C.Connect feed value ∷ older) n w = let r = chain_bits_most older n w.1 in omega
-    arith
-chain_bits_most (C.Hold value store t ∷ older) n w = let r = chain_bits_most older n w.1 in omega
-    arith
-chain_bits_most (C.Counter d ∷ older) n w = let r = chain_bits_most older n w.1 in omega arith
-chain_bits_most (C.Chain ∷ older) n w = let r = chain_bits_most older n w.1 in omega arith
+chain_bits_most (_ ∷ older) n w = let r = chain_bits_most older n w.1 in omega arith
 
 -- a chain has at least as many bits as digits
 pub chain_bits_least : (so_far : List Call) (n : ℕ) → WereLawful so_far
@@ -271,24 +206,7 @@ chain_bits_least (C.ChainDigit chain d ∷ older) n w =
         [ true ↦ d.bits | false ↦ 0 ])
     by_test true some r = omega (arith, length-append (digits_to older n) (d ∷ []))
     by_test false some r = omega (arith, length-append {A = CounterDigit} (digits_to older n) [])
-chain_bits_least (C.Input name t control ∷ older) n w = let r = chain_bits_least older n w.1 in
-    omega arith
-chain_bits_least (C.Output name value control t ∷ older) n w = let r = chain_bits_least older n w.1
-    in omega arith
-chain_bits_least (C.Scalar name t ∷ older) n w = let r = chain_bits_least older n w.1 in omega arith
-chain_bits_least (C.Constant bits t ∷ older) n w = let r = chain_bits_least older n w.1 in omega
-    arith
-chain_bits_least (C.Operation op mode amount args t ∷ older) n w = let r = chain_bits_least older n
-    w.1 in omega arith
-chain_bits_least (C.Offset value k t ∷ older) n w = let r = chain_bits_least older n w.1 in omega
-    arith
-chain_bits_least (C.Feed t ∷ older) n w = let r = chain_bits_least older n w.1 in omega arith
-chain_bits_least (C.Connect feed value ∷ older) n w = let r = chain_bits_least older n w.1 in omega
-    arith
-chain_bits_least (C.Hold value store t ∷ older) n w = let r = chain_bits_least older n w.1 in omega
-    arith
-chain_bits_least (C.Counter d ∷ older) n w = let r = chain_bits_least older n w.1 in omega arith
-chain_bits_least (C.Chain ∷ older) n w = let r = chain_bits_least older n w.1 in omega arith
+chain_bits_least (_ ∷ older) n w = let r = chain_bits_least older n w.1 in omega arith
 
 -- ---- what is connected to feeds
 
@@ -311,17 +229,4 @@ connected_below (C.Connect feed value ∷ older) n w =
         older + 0)))
     by_test false lt r = All-append (λ v. v < count_of older + 0) (connected_to older n) []
         (λ k d h. let b = r k d h in omega arith) (All-nil (λ v. v < count_of older + 0))
-connected_below (C.Input name t control ∷ older) n w = one_more older n (connected_below older n
-    w.1)
-connected_below (C.Output name value control t ∷ older) n w = one_more older n (connected_below
-    older n w.1)
-connected_below (C.Scalar name t ∷ older) n w = one_more older n (connected_below older n w.1)
-connected_below (C.Constant bits t ∷ older) n w = one_more older n (connected_below older n w.1)
-connected_below (C.Operation op mode amount args t ∷ older) n w = one_more older n (connected_below
-    older n w.1)
-connected_below (C.Offset value k t ∷ older) n w = one_more older n (connected_below older n w.1)
-connected_below (C.Feed t ∷ older) n w = one_more older n (connected_below older n w.1)
-connected_below (C.Hold value store t ∷ older) n w = one_more older n (connected_below older n w.1)
-connected_below (C.Counter d ∷ older) n w = one_more older n (connected_below older n w.1)
-connected_below (C.Chain ∷ older) n w = one_more older n (connected_below older n w.1)
-connected_below (C.ChainDigit chain d ∷ older) n w = one_more older n (connected_below older n w.1)
+connected_below (_ ∷ older) n w = one_more older n (connected_below older n w.1)
