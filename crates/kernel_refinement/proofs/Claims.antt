@@ -63,7 +63,7 @@ use Rattle.stream_equations.specs.Equations.{
 }
 use Rattle.stream_equations.specs.Words.{IsGuarded}
 use Rattle.rtl_ir.specs.Run.{Same}
-use Rattle.rtl_delays.specs.Delays.{IsWord, IsDelay, IsTap}
+use Rattle.rtl_delays.specs.Delays.{IsWord, IsDelay, IsTap, Shows as NetShows}
 use Rattle.kernel_control.specs.Ports.{ModuleNets, scalars_of}
 use Rattle.kernel_control.specs.Refines.{is_active, last_time}
 use Rattle.kernel_refinement.specs.States.{IsCounter, kept}
@@ -166,17 +166,17 @@ module _ (m : Module) (nodes : List Node) (ticks times : ℕ → ℕ) (q : Modul
       pub position : f q.position ≡ p
       pub most : p ≤ r.ticks + last_time nodes times
       pub scalars : Same q.scalars (map r.scalar (scalars_of nodes)) f
-      pub late : (u a d : ℕ) → u < length nodes → is_offset (kind_at nodes u) ≡ false → IsDelay m run q.reset (l.net u) a (suc d) → suc d ≤ p
+      pub late : (u a d : ℕ) → u < length nodes → is_offset (kind_at nodes u) ≡ false → IsDelay m run q.reset (l.word u) a (suc d) → suc d ≤ p
           → IsWord (word val times u (p - suc d)) (f a)
       pub counted : (to time : ℕ) (digit : ℕ → ℕ) → IsCounter m run q.reset to time digit → time ≤ p → f to ≡ digit (p - time)
       pub stored : (n : ℕ) (h : IsHoldWord m nodes times q run l n) → n < length nodes → kind_at nodes n ≡ K.Hold
           → IsWord (kept (due_at nodes times r val n) (first_at nodes times val n) p) (f h.kept)
       pub given : (n : ℕ) → n < length nodes → kind_at nodes n ≡ K.Input → due_at nodes times r val n p ≡ true → is_shown nodes times l r.ticks n p f ≡ true
-          → IsWord (r.source n (count_before (enabled nodes val n) (p - times n))) (f (l.net n))
+          → IsWord (r.source n (count_before (enabled nodes val n) (p - times n))) (l.word n f)
 
-    -- a node's net has its word
+    -- a node's word is that of the equations
     abbrev pub Shows : ℕ → Type 0
-    Shows u = u < length nodes → is_offset (kind_at nodes u) ≡ false → IsWord (word val times u p) (f (l.net u))
+    Shows u = u < length nodes → is_offset (kind_at nodes u) ≡ false → IsWord (word val times u p) (l.word u f)
 
     -- the nets of a node's operands have their words
     abbrev pub Reads : ℕ → Type 0
@@ -184,29 +184,21 @@ module _ (m : Module) (nodes : List Node) (ticks times : ℕ → ℕ) (q : Modul
 
     -- a node that has one word in all ticks
     steady : Scene → (u : ℕ) (k : Kind) (t : ℤ) → u < length nodes → kind_at nodes u ≡ k → is_steady k ≡ true → HasWord m nodes times q run l u k
-        → IsWord (val u t) (f (l.net u))
+        → IsWord (val u t) (l.word u f)
     steady s u K.Scalar t lt e h built = by_place (in_or_out r.ticks t)
       where
-        by_place : ((n : ℕ) × ((t ≡ pos n) × (n < r.ticks))) ⊎ (IsInRun r.ticks t → ⊥) → IsWord (val u t) (f (l.net u))
+        by_place : ((n : ℕ) × ((t ≡ pos n) × (n < r.ticks))) ⊎ (IsInRun r.ticks t → ⊥) → IsWord (val u t) (l.word u f)
         by_place (inl (n, (at, below))) =
-            as_word (f (l.net u)) (ap (val u) at ∙ s.eqs.inside u n lt below ∙ ap (right_side nodes r val u n) e)
-            (same_at r.scalar f (scalars_of nodes) q.scalars built.place u (l.net u) s.scalars built.node built.net)
-        by_place (inr out) = none_word (f (l.net u)) (s.eqs.outside u t out)
+            as_word (l.word u f) (ap (val u) at ∙ s.eqs.inside u n lt below ∙ ap (right_side nodes r val u n) e)
+            (sym (built.word c f s.holds) ∙ same_at r.scalar f (scalars_of nodes) q.scalars built.place u built.net s.scalars built.node built.at)
+        by_place (inr out) = none_word (l.word u f) (s.eqs.outside u t out)
     steady s u (K.Constant w) t lt e h built = by_place (in_or_out r.ticks t)
       where
-        by_place : ((n : ℕ) × ((t ≡ pos n) × (n < r.ticks))) ⊎ (IsInRun r.ticks t → ⊥) → IsWord (val u t) (f (l.net u))
+        by_place : ((n : ℕ) × ((t ≡ pos n) × (n < r.ticks))) ⊎ (IsInRun r.ticks t → ⊥) → IsWord (val u t) (l.word u f)
         by_place (inl (n, (at, below))) =
-            as_word (f (l.net u)) (ap (val u) at ∙ s.eqs.inside u n lt below ∙ ap (right_side nodes r val u n) e) (built c f s.holds)
-        by_place (inr out) = none_word (f (l.net u)) (s.eqs.outside u t out)
-    steady s u K.Input t lt e h built = absurd (false≢true h)
-    steady s u K.Output t lt e h built = absurd (false≢true h)
-    steady s u (K.Operation op mode amount) t lt e h built = absurd (false≢true h)
-    steady s u (K.Offset j) t lt e h built = absurd (false≢true h)
-    steady s u K.Feed t lt e h built = absurd (false≢true h)
-    steady s u K.Hold t lt e h built = absurd (false≢true h)
-    steady s u K.Counter t lt e h built = absurd (false≢true h)
-    steady s u K.Chain t lt e h built = absurd (false≢true h)
-    steady s u (K.Part place) t lt e h built = absurd (false≢true h)
+            as_word (l.word u f) (ap (val u) at ∙ s.eqs.inside u n lt below ∙ ap (right_side nodes r val u n) e) (built c f s.holds)
+        by_place (inr out) = none_word (l.word u f) (s.eqs.outside u t out)
+    steady s u _ t lt e h built = absurd (false≢true h)
 
     -- a net behind a producer's
     behind_word : Scene → (v o a : ℕ) → (source_of nodes o).node < length nodes → is_offset (kind_at nodes (source_of nodes o).node) ≡ false
@@ -214,12 +206,12 @@ module _ (m : Module) (nodes : List Node) (ticks times : ℕ → ℕ) (q : Modul
         → IsWord (val (source_of nodes o).node (pos (p - times v) +ℤ (source_of nodes o).offset)) (f a)
     behind_word s v o a lt stream b le earlier = by_size (ticks (source_of nodes o).node + b.delay) refl b.late
       where
-        by_size : (n : ℕ) → ticks (source_of nodes o).node + b.delay ≡ n → IsTap m run q.reset (l.net (source_of nodes o).node) a n
+        by_size : (n : ℕ) → ticks (source_of nodes o).node + b.delay ≡ n → IsTap m run q.reset (l.word (source_of nodes o).node) a n
             → IsWord (val (source_of nodes o).node (pos (p - times v) +ℤ (source_of nodes o).offset)) (f a)
         by_size zero size same =
             let u = (source_of nodes o).node in
             let at = read_now (times v) p (times u) (ticks u) b.delay (source_of nodes o).offset b.waits le size in
-            as_word (f a) (ap (val u) at) (subst (λ n. IsWord (word val times u p) (f n)) (sym same) (earlier u (b.ranked size) lt stream))
+            as_word (f a) (ap (val u) at) (subst (IsWord (word val times u p)) (sym (same c f s.holds)) (earlier u (b.ranked size) lt stream))
         by_size (suc n) size late = by_position (leb (suc n) p) refl
           where
             by_position : (on : Bool) → leb (suc n) p ≡ on → IsWord (val (source_of nodes o).node (pos (p - times v) +ℤ (source_of nodes o).offset)) (f a)
@@ -239,13 +231,13 @@ module _ (m : Module) (nodes : List Node) (ticks times : ℕ → ℕ) (q : Modul
         → IsWord (val o (pos (p - times v))) (f a)
     tap_word s v o a tap le earlier = by_follow (followed nodes r val s.eqs o o (pos (p - times v)))
       where
-        by_shows : ((is_steady (kind_at nodes (source_of nodes o).node) ≡ true) × (a ≡ l.net (source_of nodes o).node))
+        by_shows : ((is_steady (kind_at nodes (source_of nodes o).node) ≡ true) × NetShows m (l.word (source_of nodes o).node) a)
             ⊎ IsBehind m ticks times run q.reset l (edge_from nodes v o) a
             → IsWord (val (source_of nodes o).node (pos (p - times v) +ℤ (source_of nodes o).offset)) (f a)
         by_shows (inl h) =
             let u = (source_of nodes o).node in
             let here = steady s u (kind_at nodes u) (pos (p - times v) +ℤ (source_of nodes o).offset) tap.inside refl h.0 (s.each u tap.inside).word in
-            subst (λ n. IsWord (val u (pos (p - times v) +ℤ (source_of nodes o).offset)) (f n)) (sym h.1) here
+            subst (IsWord (val u (pos (p - times v) +ℤ (source_of nodes o).offset))) (sym (h.1 c f s.holds)) here
         by_shows (inr b) = behind_word s v o a tap.inside tap.stream b le earlier
 
         by_follow : (val o (pos (p - times v)) ≡ None)
@@ -275,14 +267,7 @@ module _ (m : Module) (nodes : List Node) (ticks times : ℕ → ℕ) (q : Modul
         by_kind K.Input guard reads = let_at val f (p - times v) (operands_at nodes v) (l.taps v) 0 (reads refl) guard
         by_kind K.Output guard reads = let_at val f (p - times v) (operands_at nodes v) (l.taps v) 1 (reads refl) guard
         by_kind K.Hold guard reads = let_at val f (p - times v) (operands_at nodes v) (l.taps v) 1 (reads refl) guard
-        by_kind K.Scalar guard reads = refl
-        by_kind (K.Constant w) guard reads = refl
-        by_kind (K.Operation op mode amount) guard reads = refl
-        by_kind (K.Offset j) guard reads = refl
-        by_kind K.Feed guard reads = refl
-        by_kind K.Counter guard reads = refl
-        by_kind K.Chain guard reads = refl
-        by_kind (K.Part place) guard reads = refl
+        by_kind _ guard reads = refl
 
     -- so it is shown as due where it is
     shown_is : Scene → (v : ℕ) → v < length nodes → (has_taps (kind_at nodes v) ≡ true → times v ≤ p → Reads v)
@@ -297,7 +282,7 @@ module _ (m : Module) (nodes : List Node) (ticks times : ℕ → ℕ) (q : Modul
 
     -- a hold has what its store says
     hold_word : Scene → (v : ℕ) → kind_at nodes v ≡ K.Hold → v < length nodes → IsHoldWord m nodes times q run l v → is_active (times v) r.ticks p ≡ true
-        → Reads v → IsWord (held (enabled nodes val v) (λ t. val (operand_at nodes v 0) (pos t)) (p - times v)) (f (l.net v))
+        → Reads v → IsWord (held (enabled nodes val v) (λ t. val (operand_at nodes v 0) (pos t)) (p - times v)) (l.word v f)
     hold_word s v e lt h on reads =
         by_store (enabled nodes val v (p - times v)) refl
         (h.store c f r.ticks s.holds s.count s.small (subst (λ n. n ≤ r.ticks + last_time nodes times) (sym s.position) s.most)
@@ -311,22 +296,22 @@ module _ (m : Module) (nodes : List Node) (ticks times : ℕ → ℕ) (q : Modul
         below = let in' = active_from (times v) r.ticks p on in omega (arith, in'.0, in'.1)
 
         by_store : (b : Bool) → enabled nodes val v (p - times v) ≡ b → f h.on ≡ bit b
-            → IsWord (held (enabled nodes val v) (λ t. val (operand_at nodes v 0) (pos t)) (p - times v)) (f (l.net v))
+            → IsWord (held (enabled nodes val v) (λ t. val (operand_at nodes v 0) (pos t)) (p - times v)) (l.word v f)
         by_store true test shown =
-            let net : f (l.net v) ≡ f h.tap = h.word c f s.holds ∙ ap (λ x. cond (eqb x 1) (f h.tap) (f h.kept)) shown in
-            as_word (f (l.net v)) (held_now (enabled nodes val v) (λ t. val (operand_at nodes v 0) (pos t)) (p - times v) test)
+            let net : l.word v f ≡ f h.tap = h.word c f s.holds ∙ ap (λ x. cond (eqb x 1) (f h.tap) (f h.kept)) shown in
+            as_word (l.word v f) (held_now (enabled nodes val v) (λ t. val (operand_at nodes v 0) (pos t)) (p - times v) test)
             (subst (IsWord (val (operand_at nodes v 0) (pos (p - times v)))) (sym net)
             (first val f (pos (p - times v)) (operands_at nodes v) (l.taps v) h.tap reads h.first))
         by_store false test shown =
-            let net : f (l.net v) ≡ f h.kept = h.word c f s.holds ∙ ap (λ x. cond (eqb x 1) (f h.tap) (f h.kept)) shown in
+            let net : l.word v f ≡ f h.kept = h.word c f s.holds ∙ ap (λ x. cond (eqb x 1) (f h.tap) (f h.kept)) shown in
             let same : held (enabled nodes val v) (λ t. val (operand_at nodes v 0) (pos t)) (p - times v)
             ≡ kept (due_at nodes times r val v) (first_at nodes times val v) p =
             sym (kept_held (due_at nodes times r val v) (enabled nodes val v) (first_at nodes times val v) (λ t. val (operand_at nodes v 0) (pos t)) (times v)
             r.ticks (p - times v) (λ n. refl) (λ n. refl) below test)
             ∙ ap (kept (due_at nodes times r val v) (first_at nodes times val v)) time in
-            as_word (f (l.net v)) same (subst (IsWord (kept (due_at nodes times r val v) (first_at nodes times val v) p)) (sym net) (s.stored v h lt e))
+            as_word (l.word v f) same (subst (IsWord (kept (due_at nodes times r val v) (first_at nodes times val v) p)) (sym net) (s.stored v h lt e))
 
-    first_word : Scene → (v : ℕ) → IsFirstTap m l v → Reads v → IsWord (val (slice_index (operands_at nodes v) 0) (pos (p - times v))) (f (l.net v))
+    first_word : Scene → (v : ℕ) → IsFirstTap m l v → Reads v → IsWord (val (slice_index (operands_at nodes v) 0) (pos (p - times v))) (l.word v f)
     first_word s v built reads =
         subst (IsWord (val (slice_index (operands_at nodes v) 0) (pos (p - times v)))) (sym (built.same c f s.holds))
         (first val f (pos (p - times v)) (operands_at nodes v) (l.taps v) built.tap reads built.first)
@@ -334,18 +319,18 @@ module _ (m : Module) (nodes : List Node) (ticks times : ℕ → ℕ) (q : Modul
     -- a node whose operands are read has its word
     node_word : Scene → (v : ℕ) (k : Kind) → kind_at nodes v ≡ k → v < length nodes → is_offset k ≡ false → HasWord m nodes times q run l v k
         → is_active (times v) r.ticks p ≡ true → (has_taps k ≡ true → Reads v)
-        → IsWord (right_side nodes r val v (p - times v) k) (f (l.net v))
+        → IsWord (right_side nodes r val v (p - times v) k) (l.word v f)
     node_word s v K.Input e lt stream built on reads = by_test (enabled nodes val v (p - times v)) refl
       where
         by_test : (b : Bool) → enabled nodes val v (p - times v) ≡ b
-            → IsWord (cond b (r.source v (count_before (enabled nodes val v) (p - times v))) None) (f (l.net v))
+            → IsWord (cond b (r.source v (count_before (enabled nodes val v) (p - times v))) None) (l.word v f)
         by_test false test = tt
         by_test true test =
             let due : due_at nodes times r val v p ≡ true = ap (λ b. b && enabled nodes val v (p - times v)) on ∙ test in
             s.given v lt e due (shown_is s v lt (λ h le. reads (sym (ap has_taps e) ∙ h)) ∙ due)
     node_word s v K.Output e lt stream built on reads = first_word s v built (reads refl)
     node_word s v K.Scalar e lt stream built on reads =
-        same_at r.scalar f (scalars_of nodes) q.scalars built.place v (l.net v) s.scalars built.node built.net
+        sym (built.word c f s.holds) ∙ same_at r.scalar f (scalars_of nodes) q.scalars built.place v built.net s.scalars built.node built.at
     node_word s v (K.Constant w) e lt stream built on reads = built c f s.holds
     node_word s v (K.Operation op mode amount) e lt stream built on reads =
         by_result (operated op mode types (map (λ o. val o (pos (p - times v))) (operands_at nodes v)) amount (type_at nodes v)) refl
@@ -354,37 +339,38 @@ module _ (m : Module) (nodes : List Node) (ticks times : ℕ → ℕ) (q : Modul
         types = map (type_at nodes) (operands_at nodes v)
 
         by_result : (o : Option ℕ) → operated op mode types (map (λ o. val o (pos (p - times v))) (operands_at nodes v)) amount (type_at nodes v) ≡ o
-            → IsWord o (f (l.net v))
+            → IsWord o (l.word v f)
         by_result None h = tt
         by_result (Some y) h =
-            subst (λ o. IfSome o (λ x. f (l.net v) ≡ x))
+            subst (λ o. IfSome o (λ x. l.word v f ≡ x))
             (operated_word op mode types _ (map f (l.taps v)) amount (type_at nodes v) y (reads refl) h) (built c f s.holds)
     node_word s v (K.Offset j) e lt stream built on reads = absurd (false≢true (sym stream))
     node_word s v K.Feed e lt stream built on reads = first_word s v built (reads refl)
     node_word s v K.Hold e lt stream built on reads = hold_word s v e lt built on (reads refl)
     node_word s v K.Counter e lt stream built on reads =
-        s.counted (l.net v) (times v) (part_at (digits_at nodes v) 0) built (active_from (times v) r.ticks p on).0
+        sym (built.shows c f s.holds) ∙ s.counted built.net (times v) (part_at (digits_at nodes v) 0) built.counts (active_from (times v) r.ticks p on).0
     node_word s v K.Chain e lt stream built on reads =
-        s.counted (l.net v) (times v) (chain_at (digits_at nodes v)) built (active_from (times v) r.ticks p on).0
+        sym (built.shows c f s.holds) ∙ s.counted built.net (times v) (chain_at (digits_at nodes v)) built.counts (active_from (times v) r.ticks p on).0
     node_word s v (K.Part place) e lt stream built on reads =
-        s.counted (l.net v) (times v) (part_at (digits_at nodes (operand_at nodes v 0)) place) built (active_from (times v) r.ticks p on).0
+        sym (built.shows c f s.holds)
+        ∙ s.counted built.net (times v) (part_at (digits_at nodes (operand_at nodes v 0)) place) built.counts (active_from (times v) r.ticks p on).0
 
     -- all nodes, in an order in which none reads a later one
     pub claims : Scene → (n v : ℕ) → l.rank v < n → Shows v
     claims s zero v small lt stream = absurd (omega arith)
     claims s (suc n) v small lt stream = by_test (is_active (times v) r.ticks p) refl (λ u before. claims s n u (omega arith))
       where
-        by_test : (b : Bool) → is_active (times v) r.ticks p ≡ b → ((u : ℕ) → l.rank u < l.rank v → Shows u) → IsWord (word val times v p) (f (l.net v))
+        by_test : (b : Bool) → is_active (times v) r.ticks p ≡ b → ((u : ℕ) → l.rank u < l.rank v → Shows u) → IsWord (word val times v p) (l.word v f)
         by_test true on earlier =
             let in' = active_from (times v) r.ticks p on in
             let from : times v ≤ p = in'.0 in
             let to : p - times v < r.ticks = omega (arith, in'.1) in
             let at : pos p -ℤ pos (times v) ≡ pos (p - times v) = omega (arith, ints) in
-            as_word (f (l.net v)) (ap (val v) at ∙ s.eqs.inside v (p - times v) lt to)
+            as_word (l.word v f) (ap (val v) at ∙ s.eqs.inside v (p - times v) lt to)
             (node_word s v (kind_at nodes v) refl lt stream (s.each v lt).word on
             (λ h. taps_words s v (operands_at nodes v) (l.taps v) ((s.each v lt).taps h) from earlier))
         by_test false off earlier =
-            none_word (f (l.net v)) (s.eqs.outside v (pos p -ℤ pos (times v)) (λ h.
+            none_word (l.word v f) (s.eqs.outside v (pos p -ℤ pos (times v)) (λ h.
             let from : times v ≤ p = omega (arith, ints, h.0) in
             let to : p < times v + r.ticks = omega (arith, ints, h.1) in
             false≢true (sym off ∙ active_to (times v) r.ticks p from to)))

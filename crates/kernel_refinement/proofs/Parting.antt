@@ -31,7 +31,7 @@ use Rattle.rtl_ir.specs.declared.design.Module.{Module}
 use Rattle.rtl_ir.specs.Value.{Family, Contents}
 use Rattle.rtl_ir.specs.Grow.{Holds}
 use Rattle.rtl_delays.specs.Steps.{Steps}
-use Rattle.rtl_delays.specs.Delays.{IsWord, Delays, IsTap}
+use Rattle.rtl_delays.specs.Delays.{IsWord, Delays, IsTap, Shows, of_net}
 use Rattle.kernel_refinement.specs.States.{Counts, IsCounter}
 
 both_true : (a b : Bool) → a ≡ true → b ≡ true → a && b ≡ true
@@ -63,7 +63,7 @@ module _ (m : Module) (run reset from tap to time : ℕ) (word other part : ℕ 
       by_tests true e false f = tt
       by_tests false e b f = tt
 
-  late_runs : (d p : ℕ) (c : Contents) (vs : List Family) → Steps m c vs → Counts run from time word p vs → Delays run from tap spoken d p vs
+  late_runs : (d p : ℕ) (c : Contents) (vs : List Family) → Steps m c vs → Counts run from time word p vs → Delays run (of_net from) tap spoken d p vs
       → Counts run to (time + d) other p vs
   late_runs d p c [] s counts delays = tt
   late_runs d p c (v ∷ vs) s counts delays = (
@@ -77,18 +77,18 @@ module _ (m : Module) (run reset from tap to time : ℕ) (word other part : ℕ 
     late_runs d (cond (eqb (v run) 1) (suc p) p) s.0 vs s.1.1 counts.1 (delays.1 (λ on. is_spoken p (v from) counts.0)),
   )
 
-  now_runs : tap ≡ from → (p : ℕ) (c : Contents) (vs : List Family) → Steps m c vs → Counts run from time word p vs → Counts run to (time + 0) other p vs
+  now_runs : Shows m (of_net from) tap → (p : ℕ) (c : Contents) (vs : List Family) → Steps m c vs → Counts run from time word p vs → Counts run to (time + 0) other p vs
   now_runs e p c [] s counts = tt
   now_runs e p c (v ∷ vs) s counts = (
     λ later most.
         let begun : time ≤ p = omega (arith, later) in
         let tick : p - time ≡ p - (time + 0) = omega arith in
-        shows c v s.1.0.holds ∙ ap (λ n. part (v n)) e ∙ ap part (counts.0 begun most) ∙ same (p - time) ∙ ap other tick,
+        shows c v s.1.0.holds ∙ ap part (e c v s.1.0.holds) ∙ ap part (counts.0 begun most) ∙ same (p - time) ∙ ap other tick,
     now_runs e (cond (eqb (v run) 1) (suc p) p) s.0 vs s.1.1 counts.1,
   )
 
 pub parts_count : (m : Module) (run reset from tap to time late : ℕ) (word other part : ℕ → ℕ) → IsCounter m run reset from time word
-    → IsTap m run reset from tap late → ((c : Contents) (f : Family) → Holds m c f → f to ≡ part (f tap)) → ((t : ℕ) → part (word t) ≡ other t)
+    → IsTap m run reset (of_net from) tap late → ((c : Contents) (f : Family) → Holds m c f → f to ≡ part (f tap)) → ((t : ℕ) → part (word t) ≡ other t)
     → IsCounter m run reset to (time + late) other
 parts_count m run reset from tap to time zero word other part counter behind shows same c v vs s e none =
     now_runs m run reset from tap to time word other part shows same behind 0 s.0 vs s.1.1 (counter c v vs s e none)

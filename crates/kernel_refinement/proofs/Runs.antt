@@ -259,10 +259,10 @@ module _ (nodes : List Node) (times : ℕ → ℕ) (r : GivenRun) (val : Values)
       subst (λ o. IsGiven o x) (sym at) (as_word x (ap (val n) tick) h)
 
   -- a due input that is valid has its word
-  input_given : (q : ModuleNets) (l : Layout) (p : ℕ) (f : Family) → StandsAgree (timed_run nodes times r val) p q.inputs f → (n : ℕ) (w : IsPortWord q l n)
+  input_given : (m : Module) (q : ModuleNets) (l : Layout) (p : ℕ) (c : Contents) (f : Family) → Holds m c f → StandsAgree (timed_run nodes times r val) p q.inputs f → (n : ℕ) (w : IsPortWord m q l n)
       → due_at nodes times r val n p ≡ true → f w.port.channel.valid ≡ 1
-      → IsWord (r.source n (count_before (enabled nodes val n) (p - times n))) (f (l.net n))
-  input_given q l p f stands n w due valid =
+      → IsWord (r.source n (count_before (enabled nodes val n) (p - times n))) (l.word n f)
+  input_given m q l p c f holds stands n w due valid =
       let k = timed_run nodes times r val in
       let on = both (is_active (times n) r.ticks p) (enabled nodes val n (p - times n)) due in
       let in' = active_from (times n) r.ticks p on.0 in
@@ -270,7 +270,7 @@ module _ (nodes : List Node) (times : ℕ → ℕ) (r : GivenRun) (val : Values)
       stands_at k p q.inputs f w.place w.port stands w.at (ap (λ n. k.due n p) w.node ∙ due) valid in
       let P : ℕ → Type 0 = λ n. IsWord (r.source n (count_before (k.due n) p)) (f w.port.channel.word) in
       let Q : ℕ → Type 0 = λ j. IsWord (r.source n j) (f w.port.channel.word) in
-      subst (λ j. IsWord (r.source n (count_before (enabled nodes val n) (p - times n))) (f j)) w.word
+      subst (IsWord (r.source n (count_before (enabled nodes val n) (p - times n)))) (w.word c f holds)
       (subst Q (count_is n p in'.0 in'.1) (subst P w.node here))
 
 -- ---- edge after edge
@@ -280,8 +280,8 @@ module _ (m : Module) (nodes : List Node) (ticks times : ℕ → ℕ) (q : Modul
   where
     -- what each delay, each counter and each store shows from here on
     pub record Lines (p : ℕ) (vs : List Family) : Type 0 where
-      pub delays : (u a d : ℕ) → u < length nodes → is_offset (kind_at nodes u) ≡ false → IsDelay m run q.reset (l.net u) a (suc d)
-          → Delays run (l.net u) a (word val times u) (suc d) p vs
+      pub delays : (u a d : ℕ) → u < length nodes → is_offset (kind_at nodes u) ≡ false → IsDelay m run q.reset (l.word u) a (suc d)
+          → Delays run (l.word u) a (word val times u) (suc d) p vs
       pub counters : (to time : ℕ) (digit : ℕ → ℕ) → IsCounter m run q.reset to time digit → Counts run to time digit p vs
       pub stores : (n : ℕ) (h : IsHoldWord m nodes times q run l n) → n < length nodes → kind_at nodes n ≡ K.Hold
           → Keeps run h.on h.tap h.kept (due_at nodes times r val n) (first_at nodes times val n) p vs
@@ -308,7 +308,7 @@ module _ (m : Module) (nodes : List Node) (ticks times : ℕ → ℕ) (q : Modul
             subst (λ n. ControlAt q run shown n f) here
             (b.control.shows shown c f r.ticks holds count small (subst (λ n. n ≤ r.ticks + last_time nodes times) (sym here) most) (λ n. refl) refl)
 
-        scene : ((n : ℕ) (w : IsPortWord q l n) → due_at nodes times r val n p ≡ true → is_shown nodes times l r.ticks n p f ≡ true
+        scene : ((n : ℕ) (w : IsPortWord m q l n) → due_at nodes times r val n p ≡ true → is_shown nodes times l r.ticks n p f ≡ true
             → f w.port.channel.valid ≡ 1) → Scene m nodes ticks times q run l r val p c f
         scene valid = record {
           eqs = eqs;
@@ -325,7 +325,7 @@ module _ (m : Module) (nodes : List Node) (ticks times : ℕ → ℕ) (q : Modul
           stored = λ n h lt kind. (lines.stores n h lt kind).0;
           given = λ n lt kind due on.
               let w = subst (HasWord m nodes times q run l n) kind (b.each n lt).word in
-              input_given nodes times r val q l p f stands n w due (valid n w due on);
+              input_given nodes times r val m q l p c f holds stands n w due (valid n w due on);
         }
 
         dues_all : Scene m nodes ticks times q run l r val p c f → (n : ℕ) → (timed_run nodes times r val).due n p ≡ shown.due n p
@@ -405,7 +405,7 @@ module _ (m : Module) (nodes : List Node) (ticks times : ℕ → ℕ) (q : Modul
         next_lines : Lines (next_position (advances (timed_run nodes times r val) q p f) p) vs
         next_lines = record {
           delays = λ u a d lt ok delay.
-              subst (λ t. Delays run (l.net u) a (word val times u) (suc d) (cond t (suc p) p) vs) on_is
+              subst (λ t. Delays run (l.word u) a (word val times u) (suc d) (cond t (suc p) p) vs) on_is
               ((lines.delays u a d lt ok delay).1 (λ on. known m nodes ticks times q run l r val p c f (by_kernel (going on)) u lt ok));
           counters = λ to time digit counter. subst (λ t. Counts run to time digit (cond t (suc p) p) vs) on_is (lines.counters to time digit counter).1;
           stores = λ n h lt kind.

@@ -1,5 +1,6 @@
 -- How the netlist of the sum of all words so far stands to its kernel.
 use Rattle.std.specs.Prelude.{ℕ, if◌then◌else◌, nat_eq, List, [], ◌∷◌}
+use Rattle.rtl_delays.specs.Delays.{of_net}
 use Rattle.kernel_refinement.specs.Built.{Layout}
 use Rattle.kernel_refinement.specs.Sum.{net}
 
@@ -18,7 +19,7 @@ sum_taps n =
 -- the sum comes after the input and the feed
 abbrev pub sum_layout : Layout
 sum_layout = record {
-  net = λ n. if nat_eq n 0 then 4 else if nat_eq n 3 then 13 else 12;
+  word = λ n. of_net (if nat_eq n 0 then 4 else if nat_eq n 3 then 13 else 12);
   taps = sum_taps;
   rank = λ n. if nat_eq n 3 then 1 else 0;
 }

@@ -44,7 +44,7 @@ use Rattle.rtl_ir.specs.declared.design.Update.{Update}
 use Rattle.rtl_ir.specs.declared.design.Target.TheVariants.{Reg}
 use Rattle.rtl_ir.specs.Value.{is_reg}
 use Rattle.rtl_delays.specs.Steps.{MovedTo, MovesAll, Step, Steps, HasUpdate, IsSound}
-use Rattle.rtl_delays.specs.Delays.{IsWord, Delays, IsDelay}
+use Rattle.rtl_delays.specs.Delays.{IsWord, Delays, IsDelay, of_net}
 use Rattle.kernel_control.specs.Refines.{TimedRun, is_active, advances}
 use Rattle.rtl_delays.specs.Extends.{AllOff}
 use Rattle.kernel_control.specs.IsControl.{ControlAt}
@@ -66,7 +66,7 @@ update_moves m c v d u h s = among m.updates h.0 h.1 s.moves
 
 -- a register that takes the net's word where it advances
 register_delays : (m : Module) (run reset from r : ℕ) → is_reg m r ≡ true → HasUpdate m (record { enable = run; target = Reg r; value = from })
-    → IsDelay m run reset from r 1
+    → IsDelay m run reset (of_net from) r 1
 register_delays m run reset from r reg has f c v vs s e none = runs 0 s.0 vs s.1.1 (λ le. absurd (omega arith))
   where
     next : (on : Bool) (p x y : ℕ) → (1 ≤ p → IsWord (f (p - 1)) y) → (on ≡ true → IsWord (f p) x) → 1 ≤ cond on (suc p) p
@@ -74,7 +74,7 @@ register_delays m run reset from r reg has f c v vs s e none = runs 0 s.0 vs s.1
     next true p x y h k le = let P : ℕ → Type 0 = λ n. IsWord (f n) x in let q : p ≡ suc p - 1 = omega arith in subst P q (k refl)
     next false p x y h k le = h le
 
-    runs : (p : ℕ) (c : Contents) (vs : List Family) → Steps m c vs → (1 ≤ p → IsWord (f (p - 1)) (c.regs r)) → Delays run from r f 1 p vs
+    runs : (p : ℕ) (c : Contents) (vs : List Family) → Steps m c vs → (1 ≤ p → IsWord (f (p - 1)) (c.regs r)) → Delays run (of_net from) r f 1 p vs
     runs p c [] s h = tt
     runs p c (v ∷ vs) s h =
         let moved : s.0.regs r ≡ cond (eqb (v run) 1) (v from) (c.regs r) =
@@ -376,12 +376,12 @@ sound w one nothing = record {
 }
 
 -- the sum one advance ago
-behind : (w : ℕ) (one nothing : Word) → IsDelay (sum_module w one nothing) 29 1 13 12 1
+behind : (w : ℕ) (one nothing : Word) → IsDelay (sum_module w one nothing) 29 1 (of_net 13) 12 1
 behind w one nothing = register_delays (sum_module w one nothing) 29 1 13 12 refl (1, refl)
 
 node_built : (w : ℕ) (one nothing : Word) → one.bits ≡ 1 → nothing.bits ≡ 0 → (v : ℕ) → v < 5
     → NodeBuilt (sum_module w one nothing) (sum_nodes w) sum_ticks sum_times sum_nets_of 29 sum_layout v
-node_built w one nothing o z zero h = record { word = record { place = 0; port = _; at = refl; node = refl; word = refl }; taps = λ e. tt }
+node_built w one nothing o z zero h = record { word = record { place = 0; port = _; at = refl; node = refl; word = λ c f q. refl }; taps = λ e. tt }
 node_built w one nothing o z (suc zero) h = record {
   word = record { tap = 12; first = refl; same = λ c f q. refl };
   taps = λ e. (
@@ -397,8 +397,8 @@ node_built w one nothing o z (suc (suc zero)) h = record { word = tt; taps = λ 
 node_built w one nothing o z (suc (suc (suc zero))) h = record {
   word = λ c f q. let n = nets w one nothing c f o z q in n.n13 ∙ sym (reduced-sum (UInt w) (f 4) (f 12));
   taps = λ e. (
-    record { inside = omega arith; stream = refl; shows = inr (record { delay = 0; waits = refl; late = refl; ranked = λ q. omega arith }) },
-    (record { inside = omega arith; stream = refl; shows = inr (record { delay = 0; waits = refl; late = refl; ranked = λ q. omega arith }) }, tt),
+    record { inside = omega arith; stream = refl; shows = inr (record { delay = 0; waits = refl; late = λ c f q. refl; ranked = λ q. omega arith }) },
+    (record { inside = omega arith; stream = refl; shows = inr (record { delay = 0; waits = refl; late = λ c f q. refl; ranked = λ q. omega arith }) }, tt),
   );
 }
 node_built w one nothing o z (suc (suc (suc (suc zero)))) h = record {

@@ -43,7 +43,7 @@ use Rattle.stream_graph.specs.Kinds.{is_steady, is_offset, control_in}
 use Rattle.offset_edges.specs.Schedules.{delay_of}
 use Rattle.counter_chains.specs.Chains.{part_at, chain_at}
 use Rattle.rtl_delays.specs.Steps.{IsSound}
-use Rattle.rtl_delays.specs.Delays.{IsTap}
+use Rattle.rtl_delays.specs.Delays.{Shows, IsTap}
 use Rattle.rtl_delays.specs.Extends.{AllOff}
 use Rattle.kernel_control.specs.Ports.{PortChannel, ModuleNets, scalars_of}
 use Rattle.kernel_control.specs.Due.{is_let}
@@ -53,11 +53,11 @@ use Rattle.kernel_refinement.specs.States.{IsCounter, IsKeeper, IsPosition}
 
 -- ---- where words stand
 
--- Where the words of nodes stand: the net that has a node's word before its latency; the nets from
--- which it reads its operands, in their order; and its rank in an order in which no node reads a
--- later one in the same edge of the clock.
+-- The words of nodes, and where they are read: a node's word before its latency, a value that a net
+-- may show or not; the nets from which it reads its operands, in their order; and its rank in an
+-- order in which no node reads a later one in the same edge of the clock.
 pub record Layout : Type 0 where
-  pub net : ℕ → ℕ
+  pub word : ℕ → Family → ℕ
   pub taps : ℕ → List ℕ
   pub rank : ℕ → ℕ
 
@@ -80,11 +80,11 @@ pub record IsBehind (m : Module) (ticks times : ℕ → ℕ) (run reset : ℕ) (
   where
     pub delay : ℕ
     pub waits : delay_of ticks (as_numbers times) edge ≡ pos delay
-    pub late : IsTap m run reset (l.net edge.from) tap (ticks edge.from + delay)
+    pub late : IsTap m run reset (l.word edge.from) tap (ticks edge.from + delay)
     pub ranked : ticks edge.from + delay ≡ 0 → l.rank edge.from < l.rank edge.to
 
--- Node n reads an operand from this net. Past offsets, that is the net of one word in all ticks, or
--- one behind the producer's.
+-- Node n reads an operand from this net. Past offsets, it shows one word in all ticks, or is one
+-- behind the producer's word.
 pub record TapOf (m : Module) (nodes : List Node) (ticks times : ℕ → ℕ) (run reset : ℕ) (l : Layout)
     (n operand tap : ℕ) : Type 0
   where
@@ -92,7 +92,7 @@ pub record TapOf (m : Module) (nodes : List Node) (ticks times : ℕ → ℕ) (r
     pub stream : is_offset (kind_at nodes (source_of nodes operand).node) ≡ false
     pub shows :
         ((is_steady (kind_at nodes (source_of nodes operand).node) ≡ true)
-        × (tap ≡ l.net (source_of nodes operand).node))
+        × Shows m (l.word (source_of nodes operand).node) tap)
         ⊎ IsBehind m ticks times run reset l (edge_from nodes n operand) tap
 
 -- A node of this kind reads its operands from nets. The readers of an offset look past it.
@@ -124,24 +124,27 @@ is_shown nodes times l count n p f =
 -- ---- nodes
 
 -- an input's word is that of its port
-pub record IsPortWord (q : ModuleNets) (l : Layout) (n : ℕ) : Type 0 where
+pub record IsPortWord (m : Module) (q : ModuleNets) (l : Layout) (n : ℕ) : Type 0 where
   pub place : ℕ
   pub port : PortChannel
   pub at : slice_get q.inputs place ≡ Some port
   pub node : port.node ≡ n
-  pub word : port.channel.word ≡ l.net n
+  pub word : Shows m (l.word n) port.channel.word
 
 -- a scalar's word is that of its port
-pub record IsScalarWord (nodes : List Node) (q : ModuleNets) (l : Layout) (n : ℕ) : Type 0 where
-  pub place : ℕ
-  pub node : slice_get (scalars_of nodes) place ≡ Some n
-  pub net : slice_get q.scalars place ≡ Some (l.net n)
+pub record IsScalarWord (m : Module) (nodes : List Node) (q : ModuleNets) (l : Layout) (n : ℕ) : Type 0
+  where
+    pub place : ℕ
+    pub net : ℕ
+    pub node : slice_get (scalars_of nodes) place ≡ Some n
+    pub at : slice_get q.scalars place ≡ Some net
+    pub word : Shows m (l.word n) net
 
 -- a node's word is its first operand's
 pub record IsFirstTap (m : Module) (l : Layout) (n : ℕ) : Type 0 where
   pub tap : ℕ
   pub first : slice_get (l.taps n) 0 ≡ Some tap
-  pub same : (c : Contents) (f : Family) → Holds m c f → f (l.net n) ≡ f tap
+  pub same : (c : Contents) (f : Family) → Holds m c f → l.word n f ≡ f tap
 
 -- a hold's word is its first operand's where its store is 1, and else the one that was kept
 pub record IsHoldWord (m : Module) (nodes : List Node) (times : ℕ → ℕ) (q : ModuleNets) (run : ℕ)
@@ -162,7 +165,7 @@ pub record IsHoldWord (m : Module) (nodes : List Node) (times : ℕ → ℕ) (q 
     pub word :
         (c : Contents) (f : Family)
         → Holds m c f
-        → f (l.net n) ≡ if nat_eq (f on) 1 then f tap else f kept
+        → l.word n f ≡ if nat_eq (f on) 1 then f tap else f kept
 
 -- an operation's word is what it gives on the words of its taps, where that is defined
 abbrev pub IsApplied : Module → List Node → Layout → ℕ → Op → RoundMode → ℕ → Type 0
@@ -170,26 +173,33 @@ IsApplied m nodes l n op mode amount =
     (c : Contents) (f : Family)
     → Holds m c f
     → IfSome (applied op mode (map (type_at nodes) (operands_at nodes n)) (map f (l.taps n)) amount
-    (type_at nodes n)) (λ x. f (l.net n) ≡ x)
+    (type_at nodes n)) (λ x. l.word n f ≡ x)
 
--- The net of a node of this kind has its word, if its taps have its operands'.
+-- a node's word is that of a net that counts
+pub record IsCounted (m : Module) (run reset : ℕ) (l : Layout) (n time : ℕ) (word : ℕ → ℕ) : Type 0
+  where
+    pub net : ℕ
+    pub shows : Shows m (l.word n) net
+    pub counts : IsCounter m run reset net time word
+
+-- The word of a node of this kind is its own, if its taps have its operands'.
 abbrev pub HasWord : Module → List Node → (ℕ → ℕ) → ModuleNets → ℕ → Layout → ℕ → Kind → Type 0
-HasWord m nodes times q run l n K.Input = IsPortWord q l n
+HasWord m nodes times q run l n K.Input = IsPortWord m q l n
 HasWord m nodes times q run l n K.Output = IsFirstTap m l n
-HasWord m nodes times q run l n K.Scalar = IsScalarWord nodes q l n
+HasWord m nodes times q run l n K.Scalar = IsScalarWord m nodes q l n
 HasWord m nodes times q run l n (K.Constant word) =
-    (c : Contents) (f : Family) → Holds m c f → f (l.net n) ≡ word.bits
+    (c : Contents) (f : Family) → Holds m c f → l.word n f ≡ word.bits
 HasWord m nodes times q run l n (K.Operation op mode amount) =
     IsApplied m nodes l n op mode amount
 HasWord m nodes times q run l n (K.Offset ticks) = Unit {0}
 HasWord m nodes times q run l n K.Feed = IsFirstTap m l n
 HasWord m nodes times q run l n K.Hold = IsHoldWord m nodes times q run l n
 HasWord m nodes times q run l n K.Counter =
-    IsCounter m run q.reset (l.net n) (times n) (part_at (digits_at nodes n) 0)
+    IsCounted m run q.reset l n (times n) (part_at (digits_at nodes n) 0)
 HasWord m nodes times q run l n K.Chain =
-    IsCounter m run q.reset (l.net n) (times n) (chain_at (digits_at nodes n))
+    IsCounted m run q.reset l n (times n) (chain_at (digits_at nodes n))
 HasWord m nodes times q run l n (K.Part place) =
-    IsCounter m run q.reset (l.net n) (times n)
+    IsCounted m run q.reset l n (times n)
     (part_at (digits_at nodes (operand_at nodes n 0)) place)
 
 -- a node with its operands
@@ -205,8 +215,7 @@ pub record NodeBuilt (m : Module) (nodes : List Node) (ticks times : ℕ → ℕ
 pub record OutputBuilt (m : Module) (nodes : List Node) (l : Layout) (port : PortChannel) : Type 0
   where
     pub output : kind_at nodes port.node ≡ K.Output
-    pub word :
-        (c : Contents) (f : Family) → Holds m c f → f port.channel.word ≡ f (l.net port.node)
+    pub word : Shows m (l.word port.node) port.channel.word
 
 -- ---- control
 

@@ -5,7 +5,7 @@ ghost use Rattle.cycle_find.specs.Constraints.{Numbers};
 ghost use Rattle.rtl_ir.specs.declared.design.Module.{Module};
 ghost use Rattle.rtl_ir.specs.Value.{Family, Contents};
 ghost use Rattle.rtl_ir.specs.Grow.{Holds};
-ghost use Rattle.rtl_delays.specs.Delays.{IsTap};
+ghost use Rattle.rtl_delays.specs.Delays.{IsTap, of_net};
 ghost use Rattle.stream_graph.specs.declared.node.Node.{Node};
 ghost use Rattle.offset_edges.specs.declared.edge.Edge.{Edge};
 ghost use Rattle.offset_edges.specs.Walks.{IsCausal};
@@ -54,7 +54,7 @@ pub fn registers_count()
 /// ago, counts too, so many advances later. The function does nothing: its contract is the law.
 pub fn parts_count()
     ensures { (m : Module) (run reset from tap to time late : ℕ) (word other part : ℕ → ℕ)
-        → IsCounter m run reset from time word → IsTap m run reset from tap late
+        → IsCounter m run reset from time word → IsTap m run reset (of_net from) tap late
         → ((c : Contents) (f : Family) → Holds m c f → f to ≡ part (f tap))
         → ((t : ℕ) → part (word t) ≡ other t)
         → IsCounter m run reset to (time + late) other }

@@ -46,6 +46,7 @@ use Rattle.rtl_ir.specs.declared.design.Module.{Module}
 use Rattle.rtl_ir.specs.Value.{Family, Contents, bit}
 use Rattle.rtl_ir.specs.Grow.{Holds}
 use Rattle.rtl_build.specs.declared.signal.Signal.{Signal}
+use Rattle.rtl_delays.specs.Delays.{Shows, of_net}
 use Rattle.rtl_delays.specs.Extends.{Extends, AllOff, KeepsStill}
 use Rattle.stream_graph.specs.declared.node.Kind.{Kind}
 use Rattle.stream_graph.specs.declared.node.Kind.TheVariants as K
@@ -77,6 +78,7 @@ use Rattle.kernel_refinement.specs.Built.{
   IsPortWord,
   IsScalarWord,
   IsHoldWord,
+  IsCounted,
   HasWord,
   NodeBuilt,
   OutputBuilt,
@@ -196,25 +198,25 @@ module _ (l m n : Module) (nodes : List Node) (ticks : ℕ → ℕ) (times : Num
 
   -- ---- the words of ports
 
-  port_word : (v : ℕ) → IsGivenWord ports.inputs words v → IsPortWord nets (standing layout storage.delays words rank) v
+  port_word : (v : ℕ) → IsGivenWord ports.inputs words v → IsPortWord n nets (standing layout storage.delays words rank) v
   port_word v g = record {
     place = g.place;
     port = channel_of g.port;
     at = map_get channel_of ports.inputs g.place g.port g.at;
     node = g.own;
-    word = sym (ap (λ (s : Signal). s.net) g.is);
+    word = λ c f h. sym (ap (λ (s : Signal). f s.net) g.is);
   }
 
-  scalar_word : (v : ℕ) → IsGivenScalar ports.scalars words v → IsScalarWord nodes nets (standing layout storage.delays words rank) v
+  scalar_word : (v : ℕ) → IsGivenScalar ports.scalars words v → IsScalarWord n nodes nets (standing layout storage.delays words rank) v
   scalar_word v g = record {
     place = g.place;
     node =
         ap (λ ns. slice_get ns g.place) (sym scalar_nodes)
         ∙ map_get (λ (port : NodeSignal). port.node) ports.scalars g.place g.port g.at
         ∙ ap Some g.own;
-    net =
-        map_get (λ (port : NodeSignal). port.signal.net) ports.scalars g.place g.port g.at
-        ∙ ap (λ (s : Signal). Some s.net) (sym g.is);
+    net = g.port.signal.net;
+    at = map_get (λ (port : NodeSignal). port.signal.net) ports.scalars g.place g.port g.at;
+    word = λ c f h. sym (ap (λ (s : Signal). f s.net) g.is);
   }
 
   -- ---- the words of states
@@ -255,7 +257,7 @@ module _ (l m n : Module) (nodes : List Node) (ticks : ℕ → ℕ) (times : Num
   tapped_chain v chain tap word other part inside kind own shows same t =
       let source = source_here nodes w.kept.orderly chain inside (ap is_offset kind) in
       ⊎_elim
-      (λ (q : (is_steady (kind_at nodes (source_of nodes chain).node) ≡ true) × (tap ≡ (signal_at words (source_of nodes chain).node).net)).
+      (λ (q : (is_steady (kind_at nodes (source_of nodes chain).node) ≡ true) × Shows n (of_net (signal_at words (source_of nodes chain).node).net) tap).
       absurd (false≢true (sym (ap (λ (s : Source). is_steady (kind_at nodes s.node)) source ∙ ap is_steady kind) ∙ q.0)))
       (λ (b : IsBehind n ticks now run.net ports.reset.net (standing layout storage.delays words rank) (edge_from nodes v chain) tap).
       behind_chain v chain tap word other part inside kind own shows same (source_of nodes chain) source b)
@@ -317,6 +319,11 @@ module _ (l m n : Module) (nodes : List Node) (ticks : ℕ → ℕ) (times : Num
 
   -- ---- one node
 
+  -- a word that counts, as its own net shows it
+  counted : (v : ℕ) (digit : ℕ → ℕ) → IsCounter n run.net ports.reset.net (signal_at words v).net (now v) digit
+      → IsCounted n run.net ports.reset.net (standing layout storage.delays words rank) v (now v) digit
+  counted v digit counts = record { net = (signal_at words v).net; shows = λ c f h. refl; counts = counts }
+
   word_of : (v : ℕ) (k : Kind) → v < length nodes → kind_at nodes v ≡ k → IsPosition n run.net ports.reset.net storage.position.net
       → IsWired m nodes timing (taps_at layout (late_signals storage.delays) words v) (net_or_zero (state_at storage.states v)) (signal_at words v).net v k
       → (has_taps k ≡ true
@@ -331,11 +338,12 @@ module _ (l m n : Module) (nodes : List Node) (ticks : ℕ → ℕ) (times : Num
   word_of v (K.Operation op mode amount) lt kind position x taps = λ c f h. x c f (before c f h)
   word_of v (K.Offset ahead) lt kind position x taps = tt
   word_of v K.Hold lt kind position x taps = hold_word v lt kind x
-  word_of v K.Counter lt kind position x taps =
-      counter_same n run.net ports.reset.net (signal_at words v).net (now v) (chain_at (digits_at nodes v)) (part_at (digits_at nodes v) 0)
-      (λ t. alone_at (digits_at nodes v) t (w.digits.alone v lt kind)) (chain_word v lt (ap counts kind) (ap has_state kind) position)
-  word_of v K.Chain lt kind position x taps = chain_word v lt (ap counts kind) (ap has_state kind) position
-  word_of v (K.Part place) lt kind position x taps = part_word v place lt kind position x (taps refl)
+  word_of v K.Counter lt kind position x taps = counted v (part_at (digits_at nodes v) 0)
+      (counter_same n run.net ports.reset.net (signal_at words v).net (now v) (chain_at (digits_at nodes v)) (part_at (digits_at nodes v) 0)
+      (λ t. alone_at (digits_at nodes v) t (w.digits.alone v lt kind)) (chain_word v lt (ap counts kind) (ap has_state kind) position))
+  word_of v K.Chain lt kind position x taps = counted v (chain_at (digits_at nodes v)) (chain_word v lt (ap counts kind) (ap has_state kind) position)
+  word_of v (K.Part place) lt kind position x taps =
+      counted v (part_at (digits_at nodes (operand_at nodes v 0)) place) (part_word v place lt kind position x (taps refl))
 
   taps_offset : (k : Kind) → has_taps k ≡ true → is_offset k ≡ false
   taps_offset (K.Offset ahead) h = absurd (false≢true h)

@@ -37,7 +37,7 @@ use Rattle.digraph.specs.Graph.{IsRanked}
 use Rattle.rtl_ir.specs.declared.design.Module.{Module}
 use Rattle.rtl_build.specs.declared.signal.Signal.{Signal}
 use Rattle.rtl_delays.specs.declared.elements.Element.{Element}
-use Rattle.rtl_delays.specs.Delays.{IsDelay, IsTap}
+use Rattle.rtl_delays.specs.Delays.{IsDelay, IsTap, of_net}
 use Rattle.rtl_delays.specs.Elements.{shown}
 use Rattle.stream_graph.specs.declared.node.Node.{Node}
 use Rattle.offset_edges.specs.declared.edge.Edge.{Edge}
@@ -118,9 +118,9 @@ stage_length stages chains u a lt = chain_length 0 (stages_at stages u) (chain_a
 -- the delay that shows a node's word so late
 late_delay : (m : Module) (run reset : ℕ) (words : List Signal) (chains : List (List Element)) (stages : List (List ℕ))
     → AreDelays m run reset words chains → AreChains stages chains → (u behind : ℕ) → u < length chains → Contains (stages_at stages u) behind
-    → IsDelay m run reset (signal_at words u).net (late_of (stages_at stages u) (late_at (late_signals chains) u) behind).net behind
+    → IsDelay m run reset (of_net (signal_at words u).net) (late_of (stages_at stages u) (late_at (late_signals chains) u) behind).net behind
 late_delay m run reset words chains stages delays are u behind lt has =
-    let from = (signal_at words u).net in
+    let from = of_net (signal_at words u).net in
     let same = stage_length stages chains u are lt in
     let f = find_stage (stages_at stages u) (chain_at chains u) behind has.0 same has.1 has.2 in
     let P : ℕ → Type 0 = λ d. IsDelay m run reset from (shown (element_at (chain_at chains u) f.place)).net d in
@@ -224,7 +224,7 @@ kept_stage nodes ticks times stages orderly all n i read ln f li r waits =
 -- of an order of the layout.
 abbrev pub standing : Layout → List (List Element) → List Signal → List ℕ → Standing
 standing layout delays words rank = record {
-  net = λ n. (signal_at words n).net;
+  word = λ n. of_net (signal_at words n).net;
   taps = λ n. taps_at layout (late_signals delays) words n;
   rank = λ n. get_or rank n 0;
 }
@@ -259,15 +259,17 @@ module _ (m : Module) (nodes : List Node) (ticks : ℕ → ℕ) (times : Numbers
   -- the tap of a read that waits
   is_tap : (u behind : ℕ) (read : Read) → read.source ≡ u → read.behind ≡ behind → u < length nodes
       → ((behind ≡ 0 → ⊥) → Contains (stages_at layout.stages u) behind)
-      → IsTap m run reset (signal_at words u).net (read_net layout.stages (late_signals delays) words read) behind
+      → IsTap m run reset (of_net (signal_at words u).net) (read_net layout.stages (late_signals delays) words read) behind
   is_tap u zero read e b lt has =
+      let same : read_net layout.stages (late_signals delays) words read ≡ (signal_at words u).net =
       ap (λ c. (cond c (signal_at words read.source) (late_of (stages_at layout.stages read.source)
       (late_at (late_signals delays) read.source) read.behind)).net) (ap (λ x. eqb x 0) b)
-      ∙ ap (λ x. (signal_at words x).net) e
+      ∙ ap (λ x. (signal_at words x).net) e in
+      λ c f h. ap f same
   is_tap u (suc k) read e b lt has =
       let stages = layout.stages in
       let late = late_signals delays in
-      let from = (signal_at words u).net in
+      let from = of_net (signal_at words u).net in
       let counted = kept.stages.counted in
       let long = chains_length stages delays kept.chains in
       let d : IsDelay m run reset from (late_of (stages_at stages u) (late_at late u) (suc k)).net (suc k) =
@@ -307,7 +309,7 @@ module _ (m : Module) (nodes : List Node) (ticks : ℕ → ℕ) (times : Numbers
       record {
         delay = wt.wait;
         waits = same ∙ wt.is;
-        late = subst (IsTap m run reset (signal_at words src).net (read_net layout.stages (late_signals delays) words read)) (sym wt.sum) tap;
+        late = subst (IsTap m run reset (of_net (signal_at words src).net) (read_net layout.stages (late_signals delays) words read)) (sym wt.sum) tap;
         ranked = λ z. subst (λ u. get_or rank u 0 < get_or rank n 0) r.source (direct (sym wt.sum ∙ z));
       }
 

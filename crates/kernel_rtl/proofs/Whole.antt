@@ -42,6 +42,7 @@ use Rattle.rtl_build.specs.declared.signal.Signal.{Signal}
 use Rattle.rtl_delays.specs.declared.elements.Element.{Element}
 use Rattle.rtl_delays.specs.Extends.{Extends, AddsNoRegister, KeepsStill}
 use Rattle.rtl_delays.specs.Driven.{is_driven}
+use Rattle.rtl_delays.specs.Delays.{of_net}
 use Rattle.rtl_delays.specs.Elements.{shown}
 use Rattle.rtl_delays.specs.Partial.{IsPartial, HasPortsAlone, HasPortNames, IsFinished}
 use Rattle.rtl_delays.specs.Stored.{net_bits, mem_bits, stored_bits}
@@ -190,7 +191,7 @@ closed_named d e run reset words given delays started f g z = subst (λ ws. Clos
 delays_on : (m n : Module) (run reset : ℕ) (words : List Signal) (delays : List (List Element)) → Extends m n → IsSound m
     → AreDelays m run reset words delays → AreDelays n run reset words delays
 delays_on m n run reset words delays e sound h stages are u i lu li =
-    delay_kept m n run reset (word_at words u).net (shown (element_at (chain_at delays u) i)).net (get_or (stages_at stages u) i 0) e.grows sound
+    delay_kept m n run reset (of_net (word_at words u).net) (shown (element_at (chain_at delays u) i)).net (get_or (stages_at stages u) i 0) e.grows sound
     (h stages are u i lu li)
 
 module _ (kernel : Kernel) (layout : Layout) (times : List ℤ) (a b c d e f : Module) (ports : KernelSignals) (storage : Storage) (timing : Timing)

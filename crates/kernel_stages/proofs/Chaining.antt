@@ -2,12 +2,13 @@
 use Rattle.std.proofs.Common.{◌≡◌, ℕ, zero, suc, ◌+◌, ◌<◌, List, [], ◌∷◌, ◌++◌, length, get_or, refl, sym, ap, subst, arith, length-append}
 use Rattle.std.specs.Prelude.{All}
 use Rattle.rtl_ir.specs.declared.design.Module.{Module}
+use Rattle.rtl_ir.specs.Value.{Family}
 use Rattle.rtl_ir.specs.Grow.{Grows}
 use Rattle.rtl_delays.specs.declared.elements.Element.{Element}
 use Rattle.rtl_delays.specs.Steps.{IsSound}
-use Rattle.rtl_delays.specs.Delays.{IsDelay, IsTap}
+use Rattle.rtl_delays.specs.Delays.{IsDelay, IsTap, of_net}
 use Rattle.rtl_delays.specs.Elements.{shown, advances_of, HasElement}
-use Rattle.rtl_delays.proofs.Chain.{delay_on, delay_kept}
+use Rattle.rtl_delays.proofs.Chain.{delay_kept, tap_on}
 use Rattle.kernel_stages.specs.Numbers.{stages_at, stage_count, rings_from, ring_count}
 use Rattle.kernel_stages.specs.Chains.{no_element, joined, ring_delays, IsChain, AreChains, AreWide, chain_at}
 use Rattle.kernel_stages.specs.Closing.{Follows}
@@ -130,22 +131,12 @@ wide_end all rest made e h = subst (AreWide all) (append_none made) (h [] (subst
 
 -- ---- one delay after another
 
-tap_delay :
-    (m : Module) (run reset word from to prior d : ℕ) → IsTap m run reset word from prior → IsDelay m run reset from to d
-    → IsDelay m run reset word to (prior + d)
-tap_delay m run reset word from to zero d t h =
-    let P : ℕ → Type 0 = λ a. IsDelay m run reset a to d in
-    let Q : ℕ → Type 0 = λ n. IsDelay m run reset word to n in
-    let e : d ≡ 0 + d = omega arith in
-    subst Q e (subst P t h)
-tap_delay m run reset word from to (suc n) d t h = delay_on m run reset word from to (suc n) d t h
-
-delay_tap : (m : Module) (run reset word to d : ℕ) → 0 < d → IsDelay m run reset word to d → IsTap m run reset word to d
+delay_tap : (m : Module) (run reset : ℕ) (word : Family → ℕ) (to d : ℕ) → 0 < d → IsDelay m run reset word to d → IsTap m run reset word to d
 delay_tap m run reset word to zero lt h = absurd (omega arith)
 delay_tap m run reset word to (suc d) lt h = h
 
 pub delays_behind :
-    (m : Module) (run reset word from prior : ℕ) (stages : List ℕ) (chain : List Element) → IsTap m run reset word from prior
+    (m : Module) (run reset : ℕ) (word : Family → ℕ) (from prior : ℕ) (stages : List ℕ) (chain : List Element) → IsTap m run reset word from prior
     → Follows m run reset from chain → IsChain prior stages chain
     → All (λ e. 0 < advances_of e) chain
     → (i : ℕ) → i < length chain → IsDelay m run reset word (shown (get_or chain i no_element)).net (get_or stages i 0)
@@ -154,10 +145,10 @@ delays_behind m run reset word from prior [] (e ∷ es) t f c some i lt = absurd
 delays_behind m run reset word from prior (s ∷ ss) [] t f c some i lt = absurd c
 delays_behind m run reset word from prior (s ∷ ss) (e ∷ es) t f c some zero lt =
     let P : ℕ → Type 0 = λ d. IsDelay m run reset word (shown e).net d in
-    subst P c.0 (tap_delay m run reset word from (shown e).net prior (advances_of e) t f.0)
+    subst P c.0 (tap_on m run reset word from (shown e).net prior (advances_of e) t f.0)
 delays_behind m run reset word from prior (s ∷ ss) (e ∷ es) t f c some (suc i) lt =
     let P : ℕ → Type 0 = λ d. IsDelay m run reset word (shown e).net d in
-    let here : IsDelay m run reset word (shown e).net s = subst P c.0 (tap_delay m run reset word from (shown e).net prior (advances_of e) t f.0) in
+    let here : IsDelay m run reset word (shown e).net s = subst P c.0 (tap_on m run reset word from (shown e).net prior (advances_of e) t f.0) in
     let q = c.0 in
     let p = some 0 e (omega arith) in
     let tap = delay_tap m run reset word (shown e).net s (omega (arith, q, p)) here in
@@ -168,7 +159,7 @@ pub follows_kept :
     → Follows n run reset from chain
 follows_kept m n run reset from [] g s h = tt
 follows_kept m n run reset from (e ∷ es) g s h = (
-  delay_kept m n run reset from (shown e).net (advances_of e) g s h.0,
+  delay_kept m n run reset (of_net from) (shown e).net (advances_of e) g s h.0,
   follows_kept m n run reset (shown e).net es g s h.1,
 )
 

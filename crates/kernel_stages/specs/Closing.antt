@@ -5,7 +5,7 @@ use Rattle.rtl_build.specs.declared.signal.Signal.{Signal}
 use Rattle.rtl_build.specs.Signals.{HasSignal}
 use Rattle.rtl_delays.specs.declared.elements.Element.{Element}
 use Rattle.rtl_delays.specs.Steps.{writes_reg, writes_mem}
-use Rattle.rtl_delays.specs.Delays.{IsDelay}
+use Rattle.rtl_delays.specs.Delays.{IsDelay, of_net}
 use Rattle.rtl_delays.specs.Elements.{shown, advances_of}
 use Rattle.kernel_stages.specs.Numbers.{stages_at}
 use Rattle.kernel_stages.specs.Chains.{
@@ -55,7 +55,7 @@ AreWritten m es = (n : ℕ) → is_register_of es n ≡ true → writes_reg n m.
 abbrev pub Follows : Module → ℕ → ℕ → ℕ → List Element → Type 0
 Follows m run reset from [] = Unit {0}
 Follows m run reset from (e ∷ chain) =
-    IsDelay m run reset from (shown e).net (advances_of e)
+    IsDelay m run reset (of_net from) (shown e).net (advances_of e)
     × Follows m run reset (shown e).net chain
 
 -- whatever the stages are that the chains are for, each delay of each node shows the word that the
@@ -67,5 +67,6 @@ AreDelays m run reset words chains =
     → (u i : ℕ)
     → u < length chains
     → i < length (chain_at chains u)
-    → IsDelay m run reset (word_at words u).net (shown (element_at (chain_at chains u) i)).net
+    → IsDelay m run reset (of_net (word_at words u).net)
+    (shown (element_at (chain_at chains u) i)).net
     (slice_index (stages_at stages u) i)

@@ -3,7 +3,7 @@ ghost use Rattle.std.specs.Prelude.{◌≡◌, ◌≤◌, ◌^◌, ℕ, List, le
 ghost use Rattle.rtl_ir.specs.declared.design.Module.{Module};
 ghost use Rattle.rtl_build.specs.declared.signal.Signal.{Signal};
 ghost use Rattle.rtl_delays.specs.declared.elements.Element.{Element};
-ghost use Rattle.rtl_delays.specs.Delays.{IsDelay};
+ghost use Rattle.rtl_delays.specs.Delays.{IsDelay, of_net};
 ghost use Rattle.rtl_delays.specs.Rings.{IsPointerWidth};
 ghost use Rattle.rtl_delays.specs.Elements.{HasElement};
 ghost use Rattle.kernel_stages.specs.Numbers.{place_bits, stage_count, ring_count};
@@ -40,5 +40,5 @@ pub fn kept_words()
         → AreDelays m run reset words chains
         → (stages : List (List ℕ)) → AreChains stages chains
         → (u behind : ℕ) (s : Signal) → IsStage stages chains u behind s
-        → IsDelay m run reset (word_at words u).net s.net behind }
+        → IsDelay m run reset (of_net (word_at words u).net) s.net behind }
 {}

@@ -1,7 +1,7 @@
 -- A register is a delay of one advance, and a ring in a memory one of as many as it has words.
 use Rattle.std.proofs.Common.{◌≡◌, ℕ, zero, suc, ◌+◌, ◌-◌, ◌<◌, ◌≤◌, Bool, true, false, cond, ◌&&◌, leb, eqb, List, [], ◌∷◌, Option, Some, refl, sym, ap, ◌∙◌, subst, arith}
 use Rattle.std.specs.Prelude.{slice_get}
-use Rattle.std.proofs.lemmas.Bool.{eqb-true}
+use Rattle.std.proofs.lemmas.Bool.{eqb-true, lt-ltb}
 use Rattle.rtl_ir.specs.declared.design.Module.{Module}
 use Rattle.rtl_ir.specs.declared.design.Update.{Update}
 use Rattle.rtl_ir.specs.declared.design.Target.TheVariants.{Reg, Cell}
@@ -9,7 +9,7 @@ use Rattle.rtl_ir.specs.Value.{Family, Contents, is_reg, depth_of}
 use Rattle.rtl_ir.specs.Grow.{Holds}
 use Rattle.rtl_delays.specs.Delays.{IsWord}
 use Rattle.rtl_delays.specs.Steps.{MovedTo, MovesAll, Step, Steps, HasUpdate}
-use Rattle.rtl_delays.specs.Delays.{NoReset, Delays, IsDelay}
+use Rattle.rtl_delays.specs.Delays.{NoReset, Delays, IsDelay, of_net}
 
 -- what an update of the module does in a step
 pub update_moves : (m : Module) (c : Contents) (v : Family) (d : Contents) (u : Update) → HasUpdate m u → Step m c v d → MovedTo m c v d (eqb (v u.enable) 1) (v u.value) u.target
@@ -21,14 +21,14 @@ update_moves m c v d u h s = among m.updates h.0 h.1 s.moves
     among (w ∷ us) (suc i) e q = among us i e q.1
 
 -- a register that takes the net's word where it advances
-pub register_delays : (m : Module) (run reset from r : ℕ) → is_reg m r ≡ true → HasUpdate m (record { enable = run; target = Reg r; value = from }) → IsDelay m run reset from r 1
+pub register_delays : (m : Module) (run reset from r : ℕ) → is_reg m r ≡ true → HasUpdate m (record { enable = run; target = Reg r; value = from }) → IsDelay m run reset (of_net from) r 1
 register_delays m run reset from r reg has f c v vs s e none = runs 0 s.0 vs s.1.1 (λ le. absurd (omega arith))
   where
     next : (on : Bool) (p x y : ℕ) → (1 ≤ p → IsWord (f (p - 1)) y) → (on ≡ true → IsWord (f p) x) → 1 ≤ cond on (suc p) p → IsWord (f (cond on (suc p) p - 1)) (cond on x y)
     next true p x y h k le = let P : ℕ → Type 0 = λ n. IsWord (f n) x in let q : p ≡ suc p - 1 = omega arith in subst P q (k refl)
     next false p x y h k le = h le
 
-    runs : (p : ℕ) (c : Contents) (vs : List Family) → Steps m c vs → (1 ≤ p → IsWord (f (p - 1)) (c.regs r)) → Delays run from r f 1 p vs
+    runs : (p : ℕ) (c : Contents) (vs : List Family) → Steps m c vs → (1 ≤ p → IsWord (f (p - 1)) (c.regs r)) → Delays run (of_net from) r f 1 p vs
     runs p c [] s h = tt
     runs p c (v ∷ vs) s h =
         let moved : s.0.regs r ≡ cond (eqb (v run) 1) (v from) (c.regs r) = update_moves m c v s.0 (record { enable = run; target = Reg r; value = from }) has s.1.0 in
@@ -78,7 +78,7 @@ round_below words at lt = grind (arith, lt)
 abbrev Holding : (ℕ → Option ℕ) → ℕ → ℕ → ℕ → (ℕ → ℕ) → Type 0
 Holding f words p at cells = (j : ℕ) → 1 ≤ j → j ≤ words → j ≤ p → IsWord (f (p - j)) (cells (back words at j))
 
-pub ring_delays : (m : Module) (run reset from to at k words : ℕ) → IsRing m run reset from to at k words → IsDelay m run reset from to words
+pub ring_delays : (m : Module) (run reset from to at k words : ℕ) → IsRing m run reset from to at k words → IsDelay m run reset (of_net from) to words
 ring_delays m run reset from to at k words r f c v vs s e none =
     let start : s.0.regs at ≡ 0 = r.cleared c v s.0 s.1.0 e in
     runs 0 s.0 vs s.1.1 none (subst (λ n. n < words) (sym start) r.some) (λ j one le most. absurd (omega arith))
@@ -106,7 +106,7 @@ ring_delays m run reset from to at k words r f c v vs s e none =
     below true a lt = round_below words a lt
     below false a lt = lt
 
-    runs : (p : ℕ) (c : Contents) (vs : List Family) → Steps m c vs → NoReset reset vs → c.regs at < words → Holding f words p (c.regs at) (c.cells k) → Delays run from to f words p vs
+    runs : (p : ℕ) (c : Contents) (vs : List Family) → Steps m c vs → NoReset reset vs → c.regs at < words → Holding f words p (c.regs at) (c.cells k) → Delays run (of_net from) to f words p vs
     runs p c [] s none lt h = tt
     runs p c (v ∷ vs) s none lt h =
         let on = eqb (v run) 1 in
@@ -116,7 +116,9 @@ ring_delays m run reset from to at k words r f c v vs s e none =
         let pointer : s.0.regs at ≡ cond on (round words (c.regs at)) (c.regs at) = r.steps c v s.0 s.1.0 none.0 in' ∙ ap (λ a. cond on (round words a) (c.regs at)) here in
         let within : v at < depth_of m k = subst (λ w. v at < w) (sym r.depth) in' in
         let cells : (i : ℕ) → s.0.cells k i ≡ cond (on && eqb i (c.regs at)) (v from) (c.cells k i) =
-        λ i. update_moves m c v s.0 (record { enable = run; target = Cell k at; value = from }) r.writes s.1.0 within i ∙ ap (λ a. cond (on && eqb i a) (v from) (c.cells k i)) here in
+        λ i. update_moves m c v s.0 (record { enable = run; target = Cell k at; value = from }) r.writes s.1.0 i
+        ∙ ap (λ b. cond (on && (b && eqb i (v at))) (v from) (c.cells k i)) (lt-ltb (v at) (depth_of m k) within)
+        ∙ ap (λ a. cond (on && eqb i a) (v from) (c.cells k i)) here in
         let P : ℕ → Type 0 = λ i. IsWord (f (p - words)) (c.cells k i) in (
           (λ le. subst (IsWord (f (p - words))) (sym shown) (subst P (back_all words (c.regs at) lt) (h words r.some (omega arith) le))),
           λ known.

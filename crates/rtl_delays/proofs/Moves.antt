@@ -1,6 +1,6 @@
 -- Updates of different targets don't disturb each other, and more of them leave what was.
 use Rattle.std.proofs.Common.{◌≡◌, ℕ, zero, suc, ◌<◌, Bool, true, false, cond, ◌&&◌, ◌||◌, eqb, ltb, List, [], ◌∷◌, ◌++◌, length, refl, sym, ap, ◌∙◌, subst, arith}
-use Rattle.std.proofs.lemmas.Bool.{false≢true, lt-ltb}
+use Rattle.std.proofs.lemmas.Bool.{false≢true}
 use Rattle.std.specs.Prelude.{slice_get}
 use Rattle.rtl_ir.specs.declared.design.Module.{Module}
 use Rattle.rtl_ir.specs.declared.design.Update.{Update}
@@ -79,26 +79,27 @@ here m v u us c (Reg n) e free =
     by_on : (b : Bool) → (cond b (with_reg n (v u.value) c) c).regs n ≡ cond b (v u.value) (c.regs n)
     by_on true = ap (λ b. cond b (v u.value) (c.regs n)) same
     by_on false = refl
-here m v u us c (Cell k a) e free = λ below i.
+here m v u us c (Cell k a) e free = λ i.
     let x = v u.value in
     all_cells_left m v us (updated m v u c) k i free
     ∙ ap (λ t. (cond (eqb (v u.enable) 1) (written m v t x c) c).cells k i) e
-    ∙ ap (λ b. (cond (eqb (v u.enable) 1) (cond b (with_cell k (v a) x c) c) c).cells k i) (lt-ltb (v a) (depth_of m k) below)
-    ∙ by_on (eqb (v u.enable) 1) i
+    ∙ by_on (eqb (v u.enable) 1) (ltb (v a) (depth_of m k)) i
   where
     same : eqb k k ≡ true
     same = grind arith
 
-    by_on : (b : Bool) (i : ℕ) → (cond b (with_cell k (v a) (v u.value) c) c).cells k i ≡ cond (b && eqb i (v a)) (v u.value) (c.cells k i)
-    by_on true i = ap (λ b. cond (b && eqb i (v a)) (v u.value) (c.cells k i)) same
-    by_on false i = refl
+    by_on : (b within : Bool) (i : ℕ) → (cond b (cond within (with_cell k (v a) (v u.value) c) c) c).cells k i
+        ≡ cond (b && (within && eqb i (v a))) (v u.value) (c.cells k i)
+    by_on true true i = ap (λ b. cond (b && eqb i (v a)) (v u.value) (c.cells k i)) same
+    by_on true false i = refl
+    by_on false within i = refl
 
 -- the same contents before, where they are written
 from_other : (m : Module) (v : Family) (c e d : Contents) (on : Bool) (x : ℕ) (t : Target)
     → ((n : ℕ) → is_target n t ≡ true → e.regs n ≡ c.regs n) → ((k i : ℕ) → is_mem_target k t ≡ true → e.cells k i ≡ c.cells k i)
     → MovedTo m e v d on x t → MovedTo m c v d on x t
 from_other m v c e d on x (Reg n) r s h = let q : eqb n n ≡ true = grind arith in h ∙ ap (cond on x) (r n q)
-from_other m v c e d on x (Cell k a) r s h = let q : eqb k k ≡ true = grind arith in λ below i. h below i ∙ ap (cond (on && eqb i (v a)) x) (s k i q)
+from_other m v c e d on x (Cell k a) r s h = let q : eqb k k ≡ true = grind arith in λ i. h i ∙ ap (cond (on && (ltb (v a) (depth_of m k) && eqb i (v a))) x) (s k i q)
 
 moves : (m : Module) (v : Family) (us : List Update) (c : Contents) → Apart us → MovesAll m c v (updated_all m v us c) us
 moves m v [] c h = tt
@@ -151,7 +152,7 @@ moved_before : (m n : Module) → Grows m n
     → (c : Contents) (v : Family) (d : Contents) (on : Bool) (x : ℕ) (t : Target)
     → IsTargetIn (length m.nets) (length m.mems) t → MovedTo n c v d on x t → MovedTo m c v d on x t
 moved_before m n g c v d on x (Reg k) i h = h
-moved_before m n g c v d on x (Cell k a) i h = λ below. h (subst (λ w. v a < w) (sym (depth_kept m n g k i.0)) below)
+moved_before m n g c v d on x (Cell k a) i h = λ j. h j ∙ ap (λ w. cond (on && (ltb (v a) w && eqb j (v a))) x (c.cells k j)) (depth_kept m n g k i.0)
 
 moves_before : (m n : Module) → Grows m n
     → (c : Contents) (v : Family) (d : Contents) (us more : List Update)

@@ -10,6 +10,7 @@ use Rattle.std.specs.Prelude.{
   ◌||◌,
   if◌then◌else◌,
   nat_eq,
+  nat_lt,
   List,
   [],
   ◌∷◌,
@@ -24,14 +25,14 @@ use Rattle.rtl_ir.specs.declared.design.Target.TheVariants.{Reg, Cell}
 use Rattle.rtl_ir.specs.Value.{Family, Contents, is_reg, depth_of}
 use Rattle.rtl_ir.specs.Grow.{InRange, Holds}
 
--- What an update whose enable is on or off makes of the contents c. An address past the depth is
--- not spoken of.
+-- What an update whose enable is on or off makes of the contents c. A write past the depth of a
+-- memory leaves all of its cells.
 abbrev pub MovedTo : Module → Contents → Family → Contents → Bool → ℕ → Target → Type 0
 MovedTo m c v d on x (Reg n) = d.regs n ≡ if on then x else c.regs n
 MovedTo m c v d on x (Cell k a) =
-    v a < depth_of m k
-    → (i : ℕ)
-    → d.cells k i ≡ if on && nat_eq i (v a) then x else c.cells k i
+    (i : ℕ)
+    → d.cells k i
+    ≡ if on && (nat_lt (v a) (depth_of m k) && nat_eq i (v a)) then x else c.cells k i
 
 -- what each of these updates makes of the contents c
 abbrev pub MovesAll : Module → Contents → Family → Contents → List Update → Type 0

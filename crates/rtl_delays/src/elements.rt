@@ -3,7 +3,7 @@ ghost use Rattle.std.specs.Prelude.{◌≡◌, ◌+◌, ◌≤◌, ◌^◌, true
 ghost use Rattle.rtl_build.specs.Signals.{HasSignal};
 ghost use Rattle.rtl_delays.specs.Steps.{IsSound, writes_reg};
 ghost use Rattle.rtl_delays.specs.Extends.{Extends, AddsNoRegister, KeepsStill, LeavesFree};
-ghost use Rattle.rtl_delays.specs.Delays.{IsDelay};
+ghost use Rattle.rtl_delays.specs.Delays.{IsDelay, of_net};
 ghost use Rattle.rtl_delays.specs.Driven.{KeepsUndriven};
 ghost use Rattle.rtl_delays.specs.Stored.{stored_bits};
 ghost use Rattle.rtl_delays.specs.Elements.{shown, reg_of, mem_of, advances_of, HasElement, IsFreeElement, closing_nets, AddsElement};
@@ -82,7 +82,7 @@ pub fn close_element(
     ensures nets { OnOk result
         (length netlist.new.nets ≤ length netlist.old.nets + closing_nets element) }
     ensures stored { OnOk result (stored_bits netlist.new ≡ stored_bits netlist.old) }
-    ensures delay { OnOk result (IsDelay netlist.new run.net reset.net from.net
+    ensures delay { OnOk result (IsDelay netlist.new run.net reset.net (of_net from.net)
         (shown element).net (advances_of element)) }
 {
     match element {

@@ -6,7 +6,7 @@ ghost use Rattle.rtl_ir.specs.declared.design.Target.TheVariants as targets;
 ghost use Rattle.rtl_delays.specs.Names.{register_name};
 ghost use Rattle.rtl_delays.specs.Steps.{IsSound, writes_reg};
 ghost use Rattle.rtl_delays.specs.Extends.{Extends, KeepsStill, LeavesFree};
-ghost use Rattle.rtl_delays.specs.Delays.{IsDelay};
+ghost use Rattle.rtl_delays.specs.Delays.{IsDelay, of_net};
 ghost use Rattle.rtl_delays.specs.Stored.{stored_bits};
 
 use crate::naming::register_name;
@@ -53,7 +53,7 @@ pub fn follow(
     ensures stored { OnOk result (stored_bits netlist.new ≡ stored_bits netlist.old) }
     ensures written { OnOk result (writes_reg register.net netlist.new.updates ≡ true) }
     ensures delay { OnOk result
-        ((reset : ℕ) → IsDelay netlist.new run.net reset from.net register.net 1) }
+        ((reset : ℕ) → IsDelay netlist.new run.net reset (of_net from.net) register.net 1) }
 {
     netlist.update(run, register, from)
 }

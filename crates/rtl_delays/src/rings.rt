@@ -1,7 +1,7 @@
 // Rings in memories, which are so many advances behind a signal as they have words.
 ghost use Rattle.std.specs.Prelude.{◌≡◌, ◌+◌, ◌-◌, ◌%◌, ◌≤◌, ◌<◌, ◌^◌, Some, true, nat_eq, if◌then◌else◌, length, IfOk, OnOk};
 ghost use Rattle.rtl_build.specs.Signals.{HasSignal, Makes};
-ghost use Rattle.rtl_delays.specs.Delays.{IsDelay};
+ghost use Rattle.rtl_delays.specs.Delays.{IsDelay, of_net};
 ghost use Rattle.rtl_delays.specs.Steps.{IsSound, writes_reg};
 ghost use Rattle.rtl_delays.specs.Extends.{Extends, AddsNoRegister, KeepsStill, LeavesFree};
 ghost use Rattle.rtl_delays.specs.Driven.{KeepsUndriven};
@@ -117,7 +117,7 @@ pub fn close_ring(
     ensures nets { OnOk result (length netlist.new.nets ≤ length netlist.old.nets + 8) }
     ensures stored { OnOk result (stored_bits netlist.new ≡ stored_bits netlist.old) }
     ensures delay { OnOk result
-        (IsDelay netlist.new run.net reset.net from.net ring.word.net ring.words) }
+        (IsDelay netlist.new run.net reset.net (of_net from.net) ring.word.net ring.words) }
 {
     let next = next_place(netlist, ring.pointer, ring.words, reset)?;
     let step = netlist.binary(Sign::Or, run, reset)?;

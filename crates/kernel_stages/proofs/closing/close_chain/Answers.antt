@@ -1,6 +1,7 @@
 use Rattle.std.proofs.Common.{◌≡◌, ◌+◌, ◌∷◌, drop, get_or, refl, sym, ap, ◌∙◌, subst, arith}
 use Rattle.rtl_build.specs.declared.signal.Signal.{Signal}
 use Rattle.rtl_build.specs.Signals.{HasSignal}
+use Rattle.rtl_delays.specs.Delays.{of_net}
 use Rattle.rtl_delays.specs.Elements.{shown, advances_of, reg_of, mem_of, past, AreFree}
 use Rattle.rtl_delays.proofs.Extends.{extends_same, extends_on, still_same, still_on}
 use Rattle.rtl_delays.proofs.Undriven.{same_undriven, undriven_on}
@@ -86,7 +87,7 @@ loop-element-preserved c =
       follows = λ p ext h.
           i.follows p (extends_on x.extends ext)
           (subst (Follows p run reset from.net) (sym front) (
-            delay_kept n p run reset from.net (shown e).net (advances_of e) ext.grows x.extends.sound x.delay,
+            delay_kept n p run reset (of_net from.net) (shown e).net (advances_of e) ext.grows x.extends.sound x.delay,
             subst (λ (s : Signal). Follows p run reset s.net rest) shows h,
           ));
     }

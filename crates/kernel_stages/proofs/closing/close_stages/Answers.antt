@@ -1,5 +1,6 @@
 use Rattle.std.proofs.Common.{◌≡◌, ◌+◌, ◌++◌, ◌∷◌, [], drop, get_or, refl, sym, ap, ◌∙◌, subst, arith}
 use Rattle.std.specs.Prelude.{All}
+use Rattle.rtl_delays.specs.Delays.{of_net}
 use Rattle.rtl_delays.specs.Elements.{AreFree}
 use Rattle.rtl_delays.proofs.Extends.{extends_same, extends_on, still_same, still_on}
 use Rattle.rtl_delays.proofs.Undriven.{same_undriven, undriven_on}
@@ -139,7 +140,7 @@ returns-clause-delays c = λ stages h u j lu lj.
     let le = c.loop-node-test.false in
     let word = (word_at c.args.words.now u).net in
     let linked = c.loop-node.invariant.linked u (omega (arith, le, lu)) in
-    delays_behind m c.args.run.net c.args.reset.net word word 0 (get_or stages u []) (chain_at chains u) refl linked.follows
+    delays_behind m c.args.run.net c.args.reset.net (of_net word) word 0 (get_or stages u []) (chain_at chains u) (λ w v h. refl) linked.follows
     (chain_of stages chains u h lu) linked.some j lj
 
 pub returns-clause-nets : goal.returns-clause-nets
