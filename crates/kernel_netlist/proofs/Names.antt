@@ -1,5 +1,5 @@
 -- The names in a kernel's module.
-use Rattle.std.proofs.Common.{◌≡◌, ◌∙◌, ℕ, ◌+◌, ◌<◌, ◌≤◌, ◌^◌, true, List, ◌++◌, Some, length, get_or, refl, sym, ap, subst, arith, inl, inr, length-append}
+use Rattle.std.proofs.Common.{◌≡◌, ◌∙◌, ℕ, ◌+◌, ◌<◌, ◌≤◌, ◌^◌, true, List, ◌++◌, Option, Some, None, length, get_or, refl, sym, ap, subst, arith, inl, inr, length-append}
 use Rattle.std.specs.Prelude.{◌⊎◌, slice_get, codes}
 use Rattle.std.specs.List.{All}
 use Rattle.std.specs.Option.{option_map}
@@ -7,12 +7,12 @@ use Rattle.std.specs.Fmt.{decimal}
 use Rattle.std.proofs.lemmas.Bool.{cases_lt}
 use Rattle.std.proofs.lemmas.Fmt.{length-decimal-le}
 use Rattle.std.proofs.lemmas.List.Elements.{All-nil}
-use Rattle.std.proofs.lemmas.Option.{slice_get-get_or, slice_get-map}
+use Rattle.std.proofs.lemmas.Option.{slice_get-get_or, slice_get-map, slice_get_within}
 use Rattle.rtl_ir.specs.declared.design.Instance.{Instance}
 use Rattle.rtl_ir.specs.declared.design.Mem.{Mem}
 use Rattle.rtl_ir.specs.declared.design.Module.{Module}
 use Rattle.rtl_ir.specs.declared.design.Net.{Net}
-use Rattle.rtl_ir.specs.Formed.{net_name}
+use Rattle.rtl_ir.specs.Formed.{net_name, name_of}
 use Rattle.rtl_ir.specs.Ports.{PortView, port_view, ports_of}
 use Rattle.rtl_delays.specs.Names.{memory_name}
 use Rattle.rtl_delays.specs.Partial.{IsPartial, IsOwnName, OfWire, OfRegister, OfPosition}
@@ -23,6 +23,7 @@ use Rattle.kernel_control.specs.Ports.{module_ports}
 use Rattle.kernel_control.specs.Refines.{Refines}
 use Rattle.link_fifo.specs.TextNames.{HasTextNames, is_text_name}
 use Rattle.link_fifo.proofs.TextNames.{numbered_text}
+use Rattle.kernel_wiring.specs.Costs.{port_name, own_name}
 use Rattle.kernel_netlist.proofs.Lists.{found, one_of}
 use Rattle.kernel_netlist.proofs.Ports.{OfPorts, all_ports}
 
@@ -67,7 +68,7 @@ module _ (nodes : List Node) (m : Module) (partial : IsPartial m)
 -- ---- they are short
 
 abbrev pub IsShort : List ℕ → Type 0
-IsShort name = length name ≤ 80
+IsShort name = length name ≤ port_name
 
 -- those of ports have few bytes beside the names of nodes
 ports_short : (nodes : List Node) → ((n : ℕ) → length (node_at nodes n).name ≤ 64)
@@ -97,7 +98,7 @@ ports_short nodes short = record {
 digits_few : (k : ℕ) → k < 2 ^ 64 → length (decimal k) ≤ 20
 digits_few k h = length-decimal-le 20 k (omega arith) (omega (arith, h)) h
 
-own_short : (k : ℕ) (name : List ℕ) → k < 2 ^ 64 → IsOwnName k name → IsShort name
+own_short : (k : ℕ) (name : List ℕ) → k < 2 ^ 64 → IsOwnName k name → length name ≤ own_name
 own_short k name h (OfWire e) =
     let digits = digits_few k h in
     let same = ap (λ (n : List ℕ). length n) e in
@@ -113,16 +114,28 @@ own_short k name h (OfPosition e) =
 pub nets_short : (nodes : List Node) (m : Module) → IsPartial m
     → ports_of m ≡ module_ports nodes → ((n : ℕ) → length (node_at nodes n).name ≤ 64)
     → length m.nets < 2 ^ 64 → length m.mems < 2 ^ 64
-    → All (λ (n : Net). length n.name ≤ 80) m.nets
+    → All (λ (n : Net). length n.name ≤ port_name) m.nets
 nets_short nodes m partial ports short few_nets few_mems =
     of_nets nodes m partial ports few_nets few_mems IsShort
-    (all_ports (λ (p : PortView). IsShort p.name) nodes (ports_short nodes short)) own_short
+    (all_ports (λ (p : PortView). IsShort p.name) nodes (ports_short nodes short))
+    (λ k name h own. let few = own_short k name h own in omega (arith, few))
+
+-- those of nets that are no ports are shorter
+pub own_names_short : (m : Module) → IsPartial m → length m.nets < 2 ^ 64
+    → (n : ℕ) → length m.ports ≤ n → length (name_of m n) ≤ own_name
+own_names_short m partial few n behind = go (slice_get m.nets n) refl
+  where
+    go : (o : Option Net) → slice_get m.nets n ≡ o → length (net_name o) ≤ own_name
+    go None e = omega arith
+    go (Some x) e =
+        let lt = slice_get_within m.nets n x e in
+        own_short n x.name (omega (arith, lt, few)) (partial.names n x behind e)
 
 pub mems_short : (nodes : List Node) (m : Module) → IsPartial m
     → ports_of m ≡ module_ports nodes → length m.nets < 2 ^ 64 → length m.mems < 2 ^ 64
-    → All (λ (k : Mem). length k.name ≤ 80) m.mems
+    → All (λ (k : Mem). length k.name ≤ own_name) m.mems
 mems_short nodes m partial ports few_nets few_mems =
-    of_mems nodes m partial ports few_nets few_mems IsShort
+    of_mems nodes m partial ports few_nets few_mems (λ (name : List ℕ). length name ≤ own_name)
     (λ k h. let digits = digits_few k h in omega (arith, digits))
 
 -- ---- they are such as a text has

@@ -1,15 +1,16 @@
 -- The ports of a kernel's module: what holds of each kind of them holds of all, and how many they
 -- are.
-use Rattle.std.proofs.Common.{◌≡◌, ℕ, suc, ◌+◌, ◌*◌, ◌≤◌, Bool, true, false, cond, List, [], ◌∷◌, ◌++◌, map, length, refl, ap, arith, length-append}
+use Rattle.std.proofs.Common.{◌≡◌, ℕ, suc, ◌*◌, Bool, true, false, List, [], ◌∷◌, ◌++◌, map, length, refl, ap, arith, length-append}
 use Rattle.std.specs.Prelude.{codes}
 use Rattle.std.specs.List.{All}
 use Rattle.std.proofs.lemmas.List.Elements.{All-nil, All-cons, All-append}
 use Rattle.rtl_ir.specs.Ports.{PortView, input_port, output_port, host_input_ports, host_output_ports}
-use Rattle.stream_graph.specs.declared.node.Kind.{Kind}
 use Rattle.stream_graph.specs.declared.node.Node.{Node}
 use Rattle.stream_graph.specs.Kinds.{is_input, is_output, is_scalar}
 use Rattle.stream_graph.specs.LookUps.{node_at, width_at}
-use Rattle.kernel_control.specs.Ports.{numbers_from, inputs_of, outputs_of, scalars_of, port_shape, scalar_ports, module_ports}
+use Rattle.kernel_control.specs.Ports.{inputs_of, outputs_of, scalars_of, port_shape, scalar_ports, module_ports}
+use Rattle.kernel_wiring.specs.Costs.{all_ports as most_ports}
+use Rattle.kernel_wiring.proofs.Costs.{numbers_counted, ports_parted}
 use Rattle.kernel_netlist.proofs.Lists.{length_map}
 
 -- ---- each port
@@ -96,20 +97,6 @@ module _ (P : PortView → Type 0) (nodes : List Node) (of : OfPorts P nodes) wh
 
 -- ---- how many they are
 
--- there are no more nodes of a kind than nodes
-pub few_numbers : (is_kind : Kind → Bool) (k : ℕ) (nodes : List Node)
-    → length (numbers_from is_kind k nodes) ≤ length nodes
-few_numbers is_kind k [] = omega arith
-few_numbers is_kind k (n ∷ nodes) =
-    by_test (is_kind n.view.kind) (few_numbers is_kind (k + 1) nodes)
-  where
-    by_test : (b : Bool) → length (numbers_from is_kind (k + 1) nodes) ≤ length nodes
-        → length (cond b (k ∷ numbers_from is_kind (k + 1) nodes)
-        (numbers_from is_kind (k + 1) nodes))
-        ≤ suc (length nodes)
-    by_test true h = omega arith
-    by_test false h = omega arith
-
 count_scalars : (xs : List (List ℕ × ℕ)) → length (scalar_ports xs) ≡ length xs
 count_scalars [] = refl
 count_scalars (x ∷ xs) = ap suc (count_scalars xs)
@@ -122,8 +109,8 @@ count_outputs : (xs : List (List ℕ × ℕ)) → length (host_output_ports xs) 
 count_outputs [] = refl
 count_outputs (x ∷ xs) = let e = count_outputs xs in omega (arith, e)
 
-pub few_ports : (nodes : List Node) → length (module_ports nodes) ≤ 5 + 7 * length nodes
-few_ports nodes =
+pub ports_counted : (nodes : List Node) → length (module_ports nodes) ≡ most_ports nodes
+ports_counted nodes =
     let scalars = scalar_ports (map (port_shape nodes) (scalars_of nodes)) in
     let inputs = host_input_ports (map (port_shape nodes) (inputs_of nodes)) in
     let outputs = host_output_ports (map (port_shape nodes) (outputs_of nodes)) in
@@ -133,10 +120,11 @@ few_ports nodes =
     let s = count_scalars (map (port_shape nodes) (scalars_of nodes)) in
     let i = count_inputs (map (port_shape nodes) (inputs_of nodes)) in
     let o = count_outputs (map (port_shape nodes) (outputs_of nodes)) in
-    let few_s = few_numbers is_scalar 0 nodes in
-    let few_i = few_numbers is_input 0 nodes in
-    let few_o = few_numbers is_output 0 nodes in
+    let all_s = numbers_counted is_scalar 0 nodes in
+    let all_i = numbers_counted is_input 0 nodes in
+    let all_o = numbers_counted is_output 0 nodes in
     let map_s = length_map (port_shape nodes) (scalars_of nodes) in
     let map_i = length_map (port_shape nodes) (inputs_of nodes) in
     let map_o = length_map (port_shape nodes) (outputs_of nodes) in
-    omega (arith, a, b, c, s, i, o, few_s, few_i, few_o, map_s, map_i, map_o)
+    let parted = ports_parted nodes nodes in
+    omega (arith, a, b, c, s, i, o, all_s, all_i, all_o, map_s, map_i, map_o, parted)

@@ -8,14 +8,13 @@ use Rattle.stream_graph.specs.Kinds.{is_input, is_output, is_scalar}
 use Rattle.stream_graph.proofs.NodeLemmas.{short_names}
 use Rattle.kernel_layout.specs.declared.layout.Layout.{Layout}
 use Rattle.kernel_stages.specs.Numbers.{stage_count, ring_count}
-use Rattle.kernel_states.proofs.Costs.{few_states}
-use Rattle.kernel_states.proofs.Kernels.{nets_few}
 use Rattle.kernel_wiring.specs.OneNode.{operand_count}
+use Rattle.kernel_wiring.proofs.Costs.{numbers_counted, nets_parted}
 use Rattle.kernel_netlist.specs.Modules.{IsModuleOf}
 use Rattle.kernel_netlist.specs.Netlists.{IsSmall}
 use Rattle.kernel_netlist.proofs.Lists.{length_map}
-use Rattle.kernel_netlist.proofs.Names.{nets_short, mems_short}
-use Rattle.kernel_netlist.proofs.Ports.{few_numbers, few_ports}
+use Rattle.kernel_netlist.proofs.Names.{nets_short, own_names_short, mems_short}
+use Rattle.kernel_netlist.proofs.Ports.{ports_counted}
 
 pub module_small : (kernel : Kernel) (times : List ℤ) (layout : Layout) (m : Module)
     → IsModuleOf kernel times layout m
@@ -24,22 +23,22 @@ pub module_small : (kernel : Kernel) (times : List ℤ) (layout : Layout) (m : M
     → IsSmall kernel.nodes m
 module_small kernel times layout m is stages rings =
     let nodes = kernel.nodes in
-    let scalars = few_numbers is_scalar 0 nodes in
-    let inputs = few_numbers is_input 0 nodes in
-    let outputs = few_numbers is_output 0 nodes in
-    let states = few_states nodes in
-    let steps = nets_few nodes kernel.made in
+    let scalars = numbers_counted is_scalar 0 nodes in
+    let inputs = numbers_counted is_input 0 nodes in
+    let outputs = numbers_counted is_output 0 nodes in
+    let parted = nets_parted nodes nodes in
     let nets = is.nets in
     let mems = is.mems in
     let views = sym (length_map (port_view m) m.ports)
     ∙ ap (λ (l : List PortView). length l) is.refines.ports in
-    let ports = few_ports nodes in
+    let ports = ports_counted nodes in
     record {
       ports = omega (arith, views, ports);
-      nets = omega (arith, nets, scalars, inputs, outputs, states, steps, stages, rings);
+      nets = omega (arith, nets, scalars, inputs, outputs, parted, stages, rings);
       mems = omega (arith, mems, rings);
       net_names =
           nets_short nodes m is.partial is.refines.ports (short_names nodes kernel.made)
           is.few_nets is.few_mems;
+      own_names = own_names_short m is.partial is.few_nets;
       mem_names = mems_short nodes m is.partial is.refines.ports is.few_nets is.few_mems;
     }

@@ -5,6 +5,7 @@ use Rattle.cycle_find.specs.Constraints.{numbers_of}
 use Rattle.rtl_ir.specs.declared.design.Mem.{Mem}
 use Rattle.rtl_ir.specs.declared.design.Module.{Module}
 use Rattle.rtl_ir.specs.declared.design.Net.{Net}
+use Rattle.rtl_ir.specs.Formed.{name_of}
 use Rattle.rtl_reading.specs.Reads.{IsPortsFirst}
 use Rattle.rtl_delays.specs.Stored.{stored_bits}
 use Rattle.stream_graph.specs.declared.kernel.Kernel.{Kernel}
@@ -22,20 +23,22 @@ use Rattle.kernel_layout.specs.Layouts.{IsLayout}
 use Rattle.kernel_stages.specs.Numbers.{all_pointer_bits}
 use Rattle.kernel_states.specs.States.{state_bits}
 use Rattle.kernel_control.specs.Refines.{Refines}
-use Rattle.kernel_wiring.specs.OneNode.{operand_count}
+use Rattle.kernel_wiring.specs.Costs.{port_name, own_name, all_ports, all_nets, all_memories}
 use Rattle.kernel_rtl.specs.Planned.{times_of}
 use Rattle.kernel_plan.specs.Stored.{latency_bits}
 use Rattle.link_fifo.specs.TextNames.{HasTextNames}
 use Rattle.kernel_netlist.specs.declared.making.KernelNetlist.{KernelNetlist}
 
--- The module of a kernel of these nodes has few parts, by its nodes and their operands, and the
--- names of its nets and memories have at most 80 bytes each.
+-- The module of a kernel of these nodes has no more ports, nets and memories than its nodes may take
+-- and it has beside; and the names of its nets have at most so many bytes each, and fewer those of
+-- nets that are no ports, and of memories.
 pub record IsSmall (nodes : List Node) (m : Module) : Type 0 where
-  pub ports : length m.ports ≤ 5 + 7 * length nodes
-  pub nets : length m.nets ≤ 18 + 128 * (length nodes + operand_count nodes)
-  pub mems : length m.mems ≤ operand_count nodes
-  pub net_names : All (λ (n : Net). length n.name ≤ 80) m.nets
-  pub mem_names : All (λ (k : Mem). length k.name ≤ 80) m.mems
+  pub ports : length m.ports ≤ all_ports nodes
+  pub nets : length m.nets ≤ all_nets nodes
+  pub mems : length m.mems ≤ all_memories nodes
+  pub net_names : All (λ (n : Net). length n.name ≤ port_name) m.nets
+  pub own_names : (n : ℕ) → length m.ports ≤ n → length (name_of m n) ≤ own_name
+  pub mem_names : All (λ (k : Mem). length k.name ≤ own_name) m.mems
 
 -- What a report says of a kernel at these times, by a table of latencies: it can be printed, and it
 -- is shown, so no legal schedule has FIFOs of fewer bits; its bits are those that the FIFOs hold at

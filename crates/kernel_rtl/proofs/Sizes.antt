@@ -14,7 +14,7 @@ use Rattle.kernel_ports.proofs.Whole.{count_scalars, count_inputs, count_outputs
 use Rattle.kernel_stages.specs.Chains.{joined, ring_delays}
 use Rattle.kernel_stages.proofs.Chaining.{joined_rings}
 use Rattle.kernel_states.specs.States.{step_nets}
-use Rattle.kernel_wiring.specs.OneNode.{operand_count}
+use Rattle.kernel_wiring.specs.Costs.{word_nets}
 use Rattle.kernel_layout.specs.declared.layout.Layout.{Layout}
 use Rattle.kernel_rtl.specs.declared.storage.Storage.{Storage}
 use Rattle.kernel_rtl.specs.Planned.{most_nets}
@@ -57,7 +57,7 @@ handshake_count kernel times enables m ports p =
 -- the nets after each step together
 pub net_count : (kernel : Kernel) (times : ℕ → ℕ) (enables : ℕ → Option Signal) (layout : Layout) (a b c d e f : Module) (ports : KernelSignals)
     (storage : Storage) → HasKernelPorts kernel a ports → AddsStorage a b kernel.nodes layout.stages storage
-    → length c.nets ≤ length b.nets + length kernel.nodes + 15 * operand_count kernel.nodes
+    → length c.nets ≤ length b.nets + word_nets kernel.nodes
     → length d.nets ≤ length c.nets + 11 * length (handshakes_of times enables ports) + 12
     → length e.nets ≤ length d.nets + 8 * ring_delays (joined storage.delays)
     → length f.nets ≤ length e.nets + step_nets kernel.nodes

@@ -30,7 +30,7 @@ use Rattle.kernel_layout.specs.declared.layout.Layout.{Layout}
 use Rattle.kernel_layout.specs.Layouts.{IsLayout}
 use Rattle.kernel_stages.specs.Numbers.{differences, stage_count, ring_count}
 use Rattle.kernel_states.specs.States.{state_count, step_nets}
-use Rattle.kernel_wiring.specs.OneNode.{operand_count}
+use Rattle.kernel_wiring.specs.Costs.{word_nets}
 
 -- each of these stages comes at most 2^28 advances after the one before it
 abbrev pub AreNear : List ℕ → Type 0
@@ -55,12 +55,12 @@ abbrev pub times_of : List ℤ → ℕ → ℕ
 times_of times = λ n. unsigned_abs (numbers_of times n)
 
 -- The most nets that the module of a kernel with these stages has: those of its ports and of its
--- position, one and 15 an operand for the wires of a node, one for a state and the wires by which
--- it steps, one for a stage and 9 more for one whose delay is a ring, and 11 for a port's handshake
--- and 12 beside for the control.
+-- position, the wires of its nodes' words, one for a state and the wires by which it steps, one for
+-- a stage and 9 more for one whose delay is a ring, and 11 for a port's handshake and 12 beside for
+-- the control.
 abbrev pub most_nets : List Node → List (List ℕ) → ℕ
 most_nets nodes stages =
-    (ended_port nodes + 2) + length nodes + 15 * operand_count nodes
+    (ended_port nodes + 2) + word_nets nodes
     + state_count nodes + step_nets nodes
     + stage_count stages + 9 * ring_count stages
     + 11 * (length (inputs_of nodes) + length (outputs_of nodes))

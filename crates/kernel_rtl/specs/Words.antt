@@ -41,7 +41,8 @@ use Rattle.kernel_types.specs.Types.{counts}
 use Rattle.kernel_states.specs.States.{state_at}
 use Rattle.kernel_wiring.specs.declared.timing.Timing.{Timing}
 use Rattle.kernel_wiring.specs.Words.{has_word, signal_at, taps_at, control_at, IsWordOf}
-use Rattle.kernel_wiring.specs.OneNode.{IsWired, operand_count}
+use Rattle.kernel_wiring.specs.Costs.{word_nets}
+use Rattle.kernel_wiring.specs.OneNode.{IsWired}
 use Rattle.kernel_wiring.specs.Controls.{AreThere}
 use Rattle.kernel_rtl.specs.declared.storage.Storage.{Storage}
 
@@ -159,7 +160,7 @@ pub record AddsWords (old new : Module) (nodes : List Node) (layout : Layout)
     pub registers : AddsNoRegister old new
     pub leaves : DrivesAtMost old new (data_nets ports.outputs)
     pub driven : AreDriven new (data_nets ports.outputs)
-    pub nets : length new.nets ≤ length old.nets + length nodes + 15 * operand_count nodes
+    pub nets : length new.nets ≤ length old.nets + word_nets nodes
     pub shows : All (IsDriven new words) ports.outputs
     pub counted : length words ≡ length nodes
     pub inputs :

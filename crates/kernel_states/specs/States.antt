@@ -51,11 +51,13 @@ abbrev pub state_count : List Node → ℕ
 state_count nodes =
     sum_by (λ (node : Node). if has_state node.view.kind then 1 else 0) nodes
 
--- the most wires by which the states of these nodes step: 10 for a counter and 8 beside
+-- the most wires by which the state of a node steps: 10 for a counter and 8 beside
+abbrev pub step_wires : Node → ℕ
+step_wires node = if has_state node.view.kind then 10 * length node.digits + 8 else 0
+
+-- those of all these nodes
 abbrev pub step_nets : List Node → ℕ
-step_nets nodes =
-    sum_by (λ (node : Node). if has_state node.view.kind then 10 * length node.digits + 8 else 0)
-    nodes
+step_nets nodes = sum_by step_wires nodes
 
 -- the register of a node's state, if it keeps one
 abbrev pub state_at : List (Option Signal) → ℕ → Option Signal

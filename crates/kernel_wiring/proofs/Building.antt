@@ -4,8 +4,6 @@ use Rattle.std.proofs.Common.{
   ◌∙◌,
   ℕ,
   suc,
-  ◌+◌,
-  ◌*◌,
   ◌/◌,
   ◌%◌,
   ◌^◌,
@@ -65,8 +63,9 @@ use Rattle.kernel_wiring.specs.declared.timing.Timing.{Timing}
 use Rattle.kernel_wiring.specs.Timing.{time_at}
 use Rattle.kernel_wiring.specs.States.{MakesHeld}
 use Rattle.kernel_wiring.specs.Words.{is_wired, signal_at, read_signal, read_net, reads_at, taps_at, IsWordOf}
+use Rattle.kernel_wiring.specs.Costs.{word_wires}
 use Rattle.kernel_wiring.specs.OneNode.{IsWired, takes, IsReadable, AddsWord}
-use Rattle.kernel_wiring.proofs.Mapped.{slice_map, length_map}
+use Rattle.kernel_wiring.proofs.Mapped.{slice_map}
 use Rattle.kernel_types.specs.Types.{is_like, AreTyped}
 
 -- the kinds whose word is their first operand's
@@ -125,6 +124,14 @@ wired_operation : (k : Kind) (op : Op) (mode : RoundMode) (amount : ℕ) → k �
 wired_operation k op mode amount e = ap is_wired e
 
 module _ (nodes : List Node) (layout : Layout) (late : List (List Signal)) (words : List Signal) (timing : Timing) (n : ℕ) where
+  -- the most wires of the node's word
+  abbrev own_wires : ℕ
+  own_wires = word_wires nodes (kind_at nodes n) (operands_at nodes n)
+
+  -- those of a node of this kind
+  wires_of : (k : Kind) → kind_at nodes n ≡ k → own_wires ≡ word_wires nodes k (operands_at nodes n)
+  wires_of k e = ap (λ kind. word_wires nodes kind (operands_at nodes n)) e
+
   pub operation_nets : (m : Module) → IsReadable m nodes layout late words n → (op : Op) (mode : RoundMode) (amount : ℕ)
       → kind_at nodes n ≡ K.Operation op mode amount
       → (types : List StreamType) (nets : List ℕ) → types ≡ map (type_at nodes) (operands_at nodes n) → nets ≡ taps_at layout late words n
@@ -146,10 +153,8 @@ module _ (nodes : List Node) (layout : Layout) (late : List (List Signal)) (word
       subst (λ x. IsFragment old new op mode own taps amount x s) u
       (subst (λ x. IsFragment old new op mode own x amount out s) a (subst (λ x. IsFragment old new op mode x nets amount out s) t f)) in
       let wired : IsWired new nodes timing taps (signal_at words n).net s.net n (K.Operation op mode amount) = g.value in
-      let count = length_map (read_net layout.stages late words) (reads_at layout n) in
-      let same = r.counted (wired_operation (kind_at nodes n) op mode amount e) in
       record {
-        adds = adds_more (1 + 15 * length (operands_at nodes n)) g.adds (omega (arith, count, same));
+        adds = adds_more own_wires g.adds (omega (arith, wires_of (K.Operation op mode amount) e));
         some = sym (wired_operation (kind_at nodes n) op mode amount e);
         shows = (record { signal = g.signal; bits = g.width }, subst (λ k. IsWired new nodes timing taps (signal_at words n).net s.net n k) (sym e) wired);
       }
@@ -159,7 +164,7 @@ module _ (nodes : List Node) (layout : Layout) (late : List (List Signal)) (word
   constant_added old new t h word e s made =
       let wired : IsWired new nodes timing (taps_at layout late words n) (signal_at words n).net s.net n (K.Constant word) = made.value in
       record {
-        adds = adds_more (1 + 15 * length (operands_at nodes n)) made.adds (omega arith);
+        adds = adds_more own_wires made.adds (omega (arith, wires_of (K.Constant word) e));
         some = sym (ap is_wired e);
         shows = (
           record { signal = made.signal; bits = made.width ∙ t.constants n word h e },
@@ -242,7 +247,7 @@ module _ (nodes : List Node) (layout : Layout) (late : List (List Signal)) (word
       let first = t.firsts n h (copy_like (kind_at nodes n) e) in
       let one = r.typed 0 first.some (copy_takes (kind_at nodes n) e) in
       record {
-        adds = adds_none m (1 + 15 * length (operands_at nodes n));
+        adds = adds_none m own_wires;
         some = sym (copy_wired (kind_at nodes n) e);
         shows = (
           subst (λ x. IsWordOf m nodes n x) (sym is) (record { signal = one.signal; bits = one.bits ∙ ap type_width first.same }),
@@ -267,7 +272,7 @@ module _ (nodes : List Node) (layout : Layout) (late : List (List Signal)) (word
       let wired : IsWired new nodes timing taps (signal_at words n).net s.net n (K.Part place) =
       record { chain = chain.net; first = tap_of 0 chain (reads_some old r (ap is_wired e) 0 (omega (arith, one))) is; shows = shows } in
       record {
-        adds = adds_more (1 + 15 * length (operands_at nodes n)) made.adds (omega arith);
+        adds = adds_more own_wires made.adds (omega (arith, wires_of (K.Part place) e));
         some = sym (ap is_wired e);
         shows = (
           record { signal = own.signal; bits = own.width },
@@ -303,7 +308,7 @@ module _ (nodes : List Node) (layout : Layout) (late : List (List Signal)) (word
         shows = own.shows;
       } in
       record {
-        adds = adds_more (1 + 15 * length (operands_at nodes n)) own.adds (omega (arith, count));
+        adds = adds_more own_wires own.adds (omega (arith, wires_of K.Hold e));
         some = sym wires;
         shows = (
           record {
@@ -315,7 +320,7 @@ module _ (nodes : List Node) (layout : Layout) (late : List (List Signal)) (word
       }
 
   pub none_added : (m : Module) → is_wired (kind_at nodes n) ≡ false → AddsWord m m nodes layout late words timing n None
-  none_added m e = record { adds = adds_none m (1 + 15 * length (operands_at nodes n)); some = sym e; shows = tt }
+  none_added m e = record { adds = adds_none m own_wires; some = sym e; shows = tt }
 
 pub not_wired : (k : Kind) → (k ≡ K.Output → ⊥) → ((word : Word) → k ≡ K.Constant word → ⊥)
     → ((op : Op) (mode : RoundMode) (amount : ℕ) → k ≡ K.Operation op mode amount → ⊥) → (k ≡ K.Feed → ⊥)

@@ -4,3 +4,4 @@ mod Mapped
 mod Building
 pub mod Readable
 pub mod Stepping
+pub mod Costs

@@ -30,8 +30,7 @@ use Rattle.std.proofs.Common.{
   arith,
   ⊎_elim,
 }
-use Rattle.std.specs.Prelude.{All, Contains, sum_by}
-use Rattle.std.proofs.lemmas.List.Sums.{sum_by-cons}
+use Rattle.std.specs.Prelude.{All, Contains}
 use Rattle.std.proofs.lemmas.Bool.{false≢true, cases_Bool, cases_eq}
 use Rattle.std.proofs.lemmas.List.{get_or_default}
 use Rattle.rtl_ir.specs.declared.design.Module.{Module}
@@ -78,7 +77,8 @@ use Rattle.kernel_wiring.specs.Words.{
 use Rattle.kernel_control.specs.Nets.{HasWidth, MayEnable}
 use Rattle.kernel_wiring.specs.declared.timing.Timing.{Timing}
 use Rattle.kernel_wiring.specs.Timing.{IsTiming}
-use Rattle.kernel_wiring.specs.OneNode.{IsWired, IsReadable, operand_count, AddsWord}
+use Rattle.kernel_wiring.specs.Costs.{word_wires, word_nets}
+use Rattle.kernel_wiring.specs.OneNode.{IsWired, IsReadable, AddsWord}
 use Rattle.kernel_wiring.specs.AllNodes.{AddsOnlyWires, AddsNodes}
 use Rattle.kernel_types.specs.Types.{takes_bit, AreTyped}
 use Rattle.kernel_wiring.proofs.Mapped.{get_map, length_map}
@@ -262,20 +262,11 @@ node_of layout j = get_or layout.order j 0
 
 -- the most wires of node n
 abbrev node_wires : List Node → ℕ → ℕ
-node_wires nodes n = 1 + 15 * length (operands_at nodes n)
+node_wires nodes n = word_wires nodes (kind_at nodes n) (operands_at nodes n)
 
 -- the most wires of the first so many nodes of the order
 abbrev first_wires : List Node → Layout → ℕ → ℕ
 first_wires nodes layout k = sum_below (λ j. node_wires nodes (node_of layout j)) k
-
--- those of all nodes are one a node and 15 an operand
-all_wires : (nodes : List Node) → sum_by (λ (node : Node). 1 + 15 * length node.operands) nodes ≡ length nodes + 15 * operand_count nodes
-all_wires [] = refl
-all_wires (x ∷ xs) =
-    let whole = sum_by-cons (λ (node : Node). 1 + 15 * length node.operands) x xs in
-    let operands = sum_by-cons (λ (node : Node). length node.operands) x xs in
-    let rest = all_wires xs in
-    omega (arith, whole, operands, rest)
 
 -- one node more of the order
 first_more : (nodes : List Node) (layout : Layout) (old m n : Module) (k : ℕ) → AddsOnlyWires old m (first_wires nodes layout k)
@@ -536,11 +527,10 @@ module _ (nodes : List Node) (o : IsOrderly nodes) (t : AreTyped nodes) (layout 
         let few : first_wires nodes layout (length layout.order) ≤ sum_below (node_wires nodes) (length nodes) =
         sum_apart (node_wires nodes) (node_of layout) (length nodes) (length layout.order) (λ i h. node_in nodes o t layout laid i h)
         (λ i j l h q. apart i j l h (sym q)) in
-        let each : sum_below (node_wires nodes) (length nodes) ≡ sum_by (λ (node : Node). 1 + 15 * length node.operands) nodes =
-        sum_of_list (λ (node : Node). 1 + 15 * length node.operands) no_node nodes in
-        let all = all_wires nodes in
+        let each : sum_below (node_wires nodes) (length nodes) ≡ word_nets nodes =
+        sum_of_list (λ (node : Node). word_wires nodes node.view.kind node.operands) no_node nodes in
         let end : first_wires nodes layout k ≡ first_wires nodes layout (length layout.order) = ap (first_wires nodes layout) e in
-        only_less old m (first_wires nodes layout k) (length nodes + 15 * operand_count nodes) (omega (arith, few, each, all, end)) w.wires;
+        only_less old m (first_wires nodes layout k) (word_nets nodes) (omega (arith, few, each, end)) w.wires;
     counted = w.size;
     given = w.given;
     words = word_end m words k e w;

@@ -10,6 +10,7 @@ use Rattle.rtl_delays.specs.Stored.{stored_bits}
 use Rattle.kernel_layout.specs.declared.layout.Layout.{Layout}
 use Rattle.kernel_control.specs.Nets.{MayEnable}
 use Rattle.kernel_wiring.specs.declared.timing.Timing.{Timing}
+use Rattle.kernel_wiring.specs.Costs.{word_nets}
 use Rattle.kernel_wiring.specs.Words.{
   has_word,
   is_wired,
@@ -18,7 +19,7 @@ use Rattle.kernel_wiring.specs.Words.{
   control_at,
   IsWordOf,
 }
-use Rattle.kernel_wiring.specs.OneNode.{IsWired, operand_count}
+use Rattle.kernel_wiring.specs.OneNode.{IsWired}
 
 -- What wires alone change of a module, at most so many of them.
 pub record AddsOnlyWires (old new : Module) (most : ℕ) : Type 0 where
@@ -37,7 +38,7 @@ pub record AddsOnlyWires (old new : Module) (most : ℕ) : Type 0 where
 pub record AddsNodes (old new : Module) (nodes : List Node) (layout : Layout)
     (late : List (List Signal)) (timing : Timing) (before after : List Signal) : Type 0
   where
-    pub wires : AddsOnlyWires old new (length nodes + 15 * operand_count nodes)
+    pub wires : AddsOnlyWires old new (word_nets nodes)
     pub counted : length after ≡ length before
     pub given :
         (n : ℕ) → is_wired (kind_at nodes n) ≡ false → signal_at after n ≡ signal_at before n

@@ -47,6 +47,7 @@ use Rattle.stream_graph.specs.LookUps.{
 use Rattle.kernel_control.specs.Due.{is_in_ticks}
 use Rattle.kernel_layout.specs.declared.layout.Layout.{Layout}
 use Rattle.kernel_wiring.specs.declared.timing.Timing.{Timing}
+use Rattle.kernel_wiring.specs.Costs.{word_wires}
 use Rattle.kernel_wiring.specs.Timing.{time_at}
 use Rattle.kernel_wiring.specs.Words.{
   is_wired,
@@ -136,13 +137,13 @@ pub record IsReadable (m : Module) (nodes : List Node) (layout : Layout)
 abbrev pub operand_count : List Node → ℕ
 operand_count nodes = sum_by (λ (node : Node). length node.operands) nodes
 
--- The wires of a node were added, at most 15 an operand and one for a constant, if it is of a kind
--- that gets them here, and the signal is that of its word.
+-- The wires of a node were added, no more than it may take for its word, if it is of a kind that
+-- gets them here, and the signal is that of its word.
 pub record AddsWord (old new : Module) (nodes : List Node) (layout : Layout)
     (late : List (List Signal)) (words : List Signal) (timing : Timing) (n : ℕ)
     (word : Option Signal) : Type 0
   where
-    pub adds : AddsWires old new (1 + 15 * length (operands_at nodes n))
+    pub adds : AddsWires old new (word_wires nodes (kind_at nodes n) (operands_at nodes n))
     pub some : is_some word ≡ is_wired (kind_at nodes n)
     pub shows :
         IfSome word (λ s.

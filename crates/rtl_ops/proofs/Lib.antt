@@ -7,3 +7,4 @@ pub mod Multiples
 pub mod Signs
 pub mod Casting
 pub mod Rows
+pub mod Costs

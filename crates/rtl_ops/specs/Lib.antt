@@ -1,3 +1,4 @@
 pub mod Orders
 pub mod Operands
+pub mod Costs
 pub mod Fragments

@@ -5,6 +5,7 @@ ghost use Rattle.fix_arith.specs.Typing.{is_fix, type_of};
 ghost use Rattle.fix_arith.specs.Table.{applied, row_of, GivesType};
 ghost use Rattle.rtl_ir.specs.Value.{width_of as net_width_of};
 ghost use Rattle.rtl_ops.specs.Operands.{takes_two, HasNets};
+ghost use Rattle.rtl_ops.specs.Costs.{most_wires};
 ghost use Rattle.rtl_build.specs.Signals.{HasSignal, MakesWhere};
 ghost use Rattle.rtl_ops.specs.Fragments.{IsFragment};
 
@@ -93,7 +94,7 @@ fn operation(
     requires out { HasWidth out }
     requires gives { GivesType op types.now amount out }
     requires nets { HasNets netlist.old types.now args.now }
-    ensures { IfOk result (MakesWhere netlist.old netlist.new (15 * length args.now) (width_of out)
+    ensures { IfOk result (MakesWhere netlist.old netlist.new (most_wires op types.now) (width_of out)
         (λ v. applied op mode types.now (map v args.now) amount out)) }
 {
     let t = types[0];
@@ -119,7 +120,7 @@ fn operation(
 /// type of the result: of a `Cast` or `Round` the one that is cast to. `amount` is the number of bits of
 /// a shift. No net of `args` is that of an output port.
 ///
-/// At most 15 wires are added for each operand, each with its assignment, after the nets and
+/// At most `most_wires` are added, 15 for each operand, each with its assignment, after the nets and
 /// assignments that stand. A wire is named `w` and then its number among the nets, and none reads the
 /// net of an output port. In every family of values of the module the net that is answered has the
 /// word that `fix_arith::apply` gives for the words of the operands, or any word where that is none.

@@ -4,3 +4,4 @@ pub mod Slots
 pub mod Bytes
 pub mod Names
 pub mod Whole
+pub mod OwnNames

@@ -42,7 +42,7 @@ module _ (m : Module) (most : ℕ) (short : HasShortNames most m) where
       go (Some x) e = one_of (λ (y : Mem). length y.name ≤ most) m.mems short.mems k x e
 
   -- an expression has at most three names
-  expr_up_to : (e : Expr) → sum_by (net_bytes m) (reads e) + mem_bytes m (mem_read e) ≤ 3 * most
+  pub expr_up_to : (e : Expr) → sum_by (net_bytes m) (reads e) + mem_bytes m (mem_read e) ≤ 3 * most
   expr_up_to (Net_ n) = omega (arith, net_up_to n)
   expr_up_to (Literal x) = omega arith
   expr_up_to (Not n) = omega (arith, net_up_to n)

@@ -2,6 +2,7 @@
 -- register one update, and each memory at most one.
 use Rattle.std.proofs.Common.{◌≡◌, ◌∙◌, ◌⊎◌, inl, inr, ⊎_elim, ℕ, ◌+◌, ◌-◌, ◌<◌, ◌≤◌, Bool, true, false, ◌||◌, List, ◌++◌, length, get_or, Some, eqb, refl, sym, ap, subst, arith, length-append}
 use Rattle.std.specs.Prelude.{map, slice_get}
+use Rattle.std.specs.List.{IsDistinct}
 use Rattle.std.proofs.lemmas.Bool.{cases_lt, ne_eqb, eqb-true, true≢false}
 use Rattle.std.proofs.lemmas.List.{length-map, get_or_append_left, get_or-append_right}
 use Rattle.std.proofs.lemmas.Map.Keys.{IsDistinct-from_apart}
@@ -26,7 +27,7 @@ slot nets (Reg n) = n
 slot nets (Word k a) = nets + k
 
 -- the net of each assignment, and the number of what each update writes
-abbrev assigned : Module → List ℕ
+abbrev pub assigned : Module → List ℕ
 assigned m = map (λ (a : Assign). a.target) m.assigns
 
 abbrev written : Module → List ℕ
@@ -139,6 +140,28 @@ module _ {d : Design} {earlier : List Module} (m : Module) (f : IsFormedModule e
           let low : n < length m.nets = subst (λ t. target_net t < length m.nets) is (f.updates w.number w.update w.at).net in
           omega (arith, low, e)
       go (Word k a) is e = let low = (f.updates w.number w.update w.at).mem k (ap target_mem is) in omega (arith, low, e)
+
+  -- assignments have different nets
+  pub targets_differ : IsDistinct eqb (assigned m)
+  targets_differ = IsDistinct-from_apart eqb (assigned m) differ
+    where
+      gives : (i x : ℕ) → i < length (assigned m) → IsAssigned m i (get_or (assigned m) i x)
+      gives i x within =
+          let size = length-map m.assigns (λ (a : Assign). a.target) in
+          let a = found m.assigns i (omega (arith, within, size)) in
+          record {
+            assign = a.0;
+            at = a.1;
+            gives = sym (mapped (λ (a : Assign). a.target) m.assigns i x a.0 a.1);
+          }
+
+      differ : (i j x : ℕ) → i < j → j < length (assigned m) → eqb (get_or (assigned m) i x) (get_or (assigned m) j x) ≡ false
+      differ i j x less within =
+          ne_eqb (get_or (assigned m) i x) (get_or (assigned m) j x)
+          (λ e.
+          let same = same_place i j (get_or (assigned m) j x)
+          (inl (subst (IsAssigned m i) e (gives i x (omega (arith, less, within))))) (inl (gives j x within)) in
+          omega (arith, same, less))
 
   -- so there are at most as many as nets and memories
   pub few_slots : length m.assigns + length m.updates ≤ length m.nets + length m.mems

@@ -68,3 +68,11 @@ design_names d = sum_by (module_names d.modules) d.modules
 pub record HasShortNames (most : ℕ) (m : Module) : Type 0 where
   pub nets : All (λ (n : Net). length n.name ≤ most) m.nets
   pub mems : All (λ (k : Mem). length k.name ≤ most) m.mems
+
+-- the names of the nets of a module have at most so many bytes each, and those of nets that are no
+-- ports, where the ports are the first nets, and of memories so many, which are no more
+pub record HasOwnNames (most own : ℕ) (m : Module) : Type 0 where
+  pub fewer : own ≤ most
+  pub nets : All (λ (n : Net). length n.name ≤ most) m.nets
+  pub inner : (n : ℕ) → length m.ports ≤ n → net_bytes m n ≤ own
+  pub mems : All (λ (k : Mem). length k.name ≤ own) m.mems

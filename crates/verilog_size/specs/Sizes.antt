@@ -6,8 +6,9 @@ use Rattle.rtl_ir.specs.declared.design.Module.{Module}
 use Rattle.rtl_ir.specs.declared.design.Design.{Design}
 use Rattle.rtl_ir.specs.Formed.{IsFormedModule}
 use Rattle.rtl_ir.specs.Rules.{IsSound, IsAccepted}
+use Rattle.rtl_reading.specs.Reads.{IsPortsFirst}
 use Rattle.verilog_print.specs.Lines.{text_of_lines, design_lines}
-use Rattle.verilog_size.specs.Names.{HasShortNames, inner_names, design_names}
+use Rattle.verilog_size.specs.Names.{HasShortNames, HasOwnNames, inner_names, design_names}
 
 -- the names of a module and of what it declares have at most so many bytes each
 pub record HasNamesUpTo (most : ℕ) (m : Module) : Type 0 where
@@ -44,6 +45,19 @@ NamesAreFew =
     → IsSound d m
     → HasShortNames most m
     → inner_names m ≤ 5 * most * (length m.ports + length m.nets + length m.mems)
+
+-- and by how long the names of its ports are and its own: a port's name stands where it is listed,
+-- declared and given its value, and each net or memory has its own name twice and those of three nets
+-- that its value reads
+abbrev pub OwnNamesAreFew : Type 0
+OwnNamesAreFew =
+    (d : Design) (earlier : List Module) (m : Module) (most own : ℕ)
+    → IsFormedModule earlier m
+    → IsSound d m
+    → IsPortsFirst m
+    → HasOwnNames most own m
+    → inner_names m
+    ≤ 3 * most * length m.ports + (2 * own + 3 * most) * (length m.nets + length m.mems)
 
 -- so a text has at most so many bytes for each part, by how long the names of its design are
 abbrev pub TextsAreSmallByNames : Type 0

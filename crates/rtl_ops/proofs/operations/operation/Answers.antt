@@ -97,6 +97,7 @@ returns-in-Mux c =
     rw c.in-Mux.is (IfOk-weaker _ _ _ (λ r made. same_where _ _ _ made (omega (
       arith,
       length-rest args,
+      length-args c.args.netlist.now types args q.nets,
     )) c.width.ensures (λ v. ap (λ n. slice_get (map v (rest_of args))
     (v n)) net ∙ mux_row v args some)) c.choice.ensures)
 

@@ -1,4 +1,5 @@
 use Rattle.verilog_size.proofs.Names.{names_few}
+use Rattle.verilog_size.proofs.OwnNames.{own_names_few}
 use Rattle.verilog_size.proofs.Whole.{texts_small, texts_small_by_names}
 use Rattle.verilog_size.proofs.laws.text_sizes.Goals as goal
 
@@ -10,3 +11,6 @@ returns-clause-names c = names_few
 
 pub returns-clause-by_names : goal.returns-clause-by_names
 returns-clause-by_names c = texts_small_by_names
+
+pub returns-clause-own_names : goal.returns-clause-own_names
+returns-clause-own_names c = own_names_few
