@@ -1,6 +1,6 @@
 -- The ports of a kernel's module: their names and widths in order, and the nets by which a run sees
 -- them.
-use Rattle.std.specs.Prelude.{ℕ, ◌+◌, ◌*◌, Bool, if◌then◌else◌, List, [], ◌∷◌, ◌++◌, map, length, codes}
+use Rattle.std.specs.Prelude.{ℕ, ◌+◌, ◌*◌, List, [], ◌∷◌, ◌++◌, map, length, codes}
 use Rattle.rtl_ir.specs.declared.design.Module.{Module}
 use Rattle.rtl_ir.specs.Run.{Channel}
 use Rattle.rtl_ir.specs.Ports.{
@@ -12,26 +12,9 @@ use Rattle.rtl_ir.specs.Ports.{
   net_at,
   nets_from,
 }
-use Rattle.stream_graph.specs.declared.node.Kind.{Kind}
 use Rattle.stream_graph.specs.declared.node.Node.{Node}
-use Rattle.stream_graph.specs.Kinds.{is_input, is_output, is_scalar}
 use Rattle.stream_graph.specs.LookUps.{node_at, width_at}
-
--- the numbers, from this one on, of the nodes of a kind
-abbrev pub numbers_from : (Kind → Bool) → ℕ → List Node → List ℕ
-numbers_from is_kind n [] = []
-numbers_from is_kind n (node ∷ nodes) =
-    if is_kind node.view.kind then n ∷ numbers_from is_kind (n + 1) nodes
-    else numbers_from is_kind (n + 1) nodes
-
-abbrev pub inputs_of : List Node → List ℕ
-inputs_of nodes = numbers_from is_input 0 nodes
-
-abbrev pub outputs_of : List Node → List ℕ
-outputs_of nodes = numbers_from is_output 0 nodes
-
-abbrev pub scalars_of : List Node → List ℕ
-scalars_of nodes = numbers_from is_scalar 0 nodes
+pub use Rattle.stream_graph.specs.KernelPorts.{numbers_from, inputs_of, outputs_of, scalars_of}
 
 -- a port's name, and the width of its words
 abbrev pub port_shape : List Node → ℕ → List ℕ × ℕ

@@ -29,17 +29,8 @@ in_or_out ticks (negsuc n) = inr (λ h. omega (arith, ints, h.0))
 
 -- a node that keeps something reads its operands now
 pub keeps_now : (kind : Kind) → keeps kind ≡ true → ahead kind ≡ pos 0
-keeps_now K.Input e = refl
-keeps_now K.Hold e = refl
-keeps_now K.Counter e = refl
-keeps_now K.Chain e = refl
-keeps_now K.Output e = refl
-keeps_now K.Scalar e = refl
-keeps_now (K.Constant word) e = refl
-keeps_now (K.Operation op mode amount) e = refl
 keeps_now (K.Offset ticks) e = absurd (cc)
-keeps_now K.Feed e = refl
-keeps_now (K.Part place) e = refl
+keeps_now _ e = refl
 
 module _ (nodes : List Node) (o : IsOrderly nodes) (typed : AreTyped nodes) (causal : IsCausal (edges_of nodes))
     (run : GivenRun) (one other : Values) (first : StreamEquations nodes run one) (second : StreamEquations nodes run other)

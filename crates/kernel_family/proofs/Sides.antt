@@ -17,7 +17,7 @@ use Rattle.stream_equations.specs.Equations.{
   held,
   right_side,
 }
-use Rattle.stream_graph.specs.Kinds.{control_in}
+use Rattle.stream_graph.specs.Kinds.{control_place, operand_in}
 use Rattle.kernel_types.specs.Types.{is_like, AreTyped}
 use Rattle.kernel_family.specs.Steps.{keeps, ahead}
 
@@ -35,18 +35,10 @@ pub record IsControlAt (xs : List ℕ) (c : ℕ) : Type 0 where
   pub within : place < length xs
   pub same : get_or xs place 0 ≡ c
 
-pub control_place : (kind : Kind) (xs : List ℕ) (c : ℕ) → control_in kind xs ≡ Some c → IsControlAt xs c
-control_place K.Input xs c e = let q = got_place xs 0 c e in record { place = 0; within = q.0; same = q.1 }
-control_place K.Output xs c e = let q = got_place xs 1 c e in record { place = 1; within = q.0; same = q.1 }
-control_place K.Hold xs c e = let q = got_place xs 1 c e in record { place = 1; within = q.0; same = q.1 }
-control_place K.Scalar xs c e = absurd (cc)
-control_place (K.Constant word) xs c e = absurd (cc)
-control_place (K.Operation op mode amount) xs c e = absurd (cc)
-control_place (K.Offset ticks) xs c e = absurd (cc)
-control_place K.Feed xs c e = absurd (cc)
-control_place K.Counter xs c e = absurd (cc)
-control_place K.Chain xs c e = absurd (cc)
-control_place (K.Part place) xs c e = absurd (cc)
+pub control_there : (place : Option ℕ) (xs : List ℕ) (c : ℕ) → operand_in place xs ≡ Some c → IsControlAt xs c
+control_there None xs c e = absurd (cc)
+control_there (Some place) xs c e =
+    let q = got_place xs place c e in record { place = place; within = q.0; same = q.1 }
 
 pub map_same : {Y : Type 0} (f g : ℕ → Y) (xs : List ℕ)
     → ((i : ℕ) → i < length xs → f (get_or xs i 0) ≡ g (get_or xs i 0)) → map f xs ≡ map g xs
@@ -102,7 +94,7 @@ module _ (nodes : List Node) (one other : Values) where
           → enabled_by one control s ≡ enabled_by other control s
       by_control None e = refl
       by_control (Some c) e =
-          let p = control_place (kind_at nodes n) (operands_at nodes n) c e in
+          let p = control_there (control_place (kind_at nodes n)) (operands_at nodes n) c e in
           let q : one c (pos s) ≡ other c (pos s) =
           subst (λ u. one u (pos s) ≡ other u (pos s)) p.same (h p.place p.within) in
           ap is_one q
@@ -139,8 +131,6 @@ module _ (nodes : List Node) (one other : Values) where
           ap (λ b. cond b (run.source n (count_before (enabled nodes one n) t)) None) (ticks k t (omega arith))
           ∙ ap (λ m. cond (enabled nodes other n t) (run.source n m) None) c
       by_kind K.Output e = first_now (ap is_like e) (ap ahead e)
-      by_kind K.Scalar e = refl
-      by_kind (K.Constant word) e = refl
       by_kind (K.Operation op mode amount) e =
           let m : map (λ u. one u (pos t)) (operands_at nodes n) ≡ map (λ u. other u (pos t)) (operands_at nodes n) =
           map_same (λ u. one u (pos t)) (λ u. other u (pos t)) (operands_at nodes n)
@@ -154,6 +144,4 @@ module _ (nodes : List Node) (one other : Values) where
           let some = (typed.firsts n h (ap is_like e)).some in
           held_same (enabled nodes one n) (enabled nodes other n) (λ s. one (operand_at nodes n 0) (pos s))
           (λ s. other (operand_at nodes n 0) (pos s)) t (λ s l. ticks k s l) (λ s l. r.before k 0 s some l)
-      by_kind K.Counter e = refl
-      by_kind K.Chain e = refl
-      by_kind (K.Part place) e = refl
+      by_kind _ e = refl

@@ -11,6 +11,7 @@ use Rattle.stream_graph.specs.LookUps.{kind_at, operands_at, operand_at}
 use Rattle.offset_edges.specs.Edges.{source_of, edge_of, edges_into, edges_below, edges_of, edge_at}
 use Rattle.stream_graph.specs.Kinds.{is_steady, is_offset}
 use Rattle.offset_edges.specs.Walks.{start_of, end_of}
+use Rattle.stream_graph.proofs.KindLemmas.{state_moves}
 use Rattle.stream_graph.proofs.NodeLemmas.{IsOrderly}
 use Rattle.offset_edges.proofs.SourceLemmas.{kind_cases, source_past, source_here}
 use Rattle.kernel_types.specs.Types.{AreTyped}
@@ -116,29 +117,11 @@ pub data IsMove (nodes : List Node) (a b : Place) : Type 0 where
 
 keeper : (kind : Kind) → keeps kind ≡ true → (is_offset kind ≡ false) × (is_steady kind ≡ false)
 keeper K.Input e = (refl, refl)
-keeper K.Hold e = (refl, refl)
-keeper K.Counter e = (refl, refl)
-keeper K.Chain e = (refl, refl)
-keeper K.Output e = absurd (cc)
-keeper K.Scalar e = absurd (cc)
-keeper (K.Constant word) e = absurd (cc)
-keeper (K.Operation op mode amount) e = absurd (cc)
-keeper (K.Offset ticks) e = absurd (cc)
-keeper K.Feed e = absurd (cc)
-keeper (K.Part place) e = absurd (cc)
+keeper kind e = state_moves kind e
 
 still : (kind : Kind) → is_offset kind ≡ false → ahead kind ≡ pos 0
 still (K.Offset ticks) e = absurd (cc)
-still K.Input e = refl
-still K.Output e = refl
-still K.Scalar e = refl
-still (K.Constant word) e = refl
-still (K.Operation op mode amount) e = refl
-still K.Feed e = refl
-still K.Hold e = refl
-still K.Counter e = refl
-still K.Chain e = refl
-still (K.Part place) e = refl
+still _ e = refl
 
 module _ (nodes : List Node) (o : IsOrderly nodes) (typed : AreTyped nodes) where
   -- a node that is no offset is read as itself

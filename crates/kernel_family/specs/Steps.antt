@@ -1,18 +1,15 @@
 -- On which words a node's word in a tick hangs, one step back.
-use Rattle.std.specs.Prelude.{◌≡◌, ℕ, suc, ◌<◌, Bool, true, false, ℤ, pos, ◌+ℤ◌, List, length}
+use Rattle.std.specs.Prelude.{◌≡◌, ℕ, suc, ◌<◌, Bool, true, ◌||◌, ℤ, pos, ◌+ℤ◌, List, length}
 use Rattle.stream_graph.specs.declared.node.Kind.{Kind}
 use Rattle.stream_graph.specs.declared.node.Kind.TheVariants as K
 use Rattle.stream_graph.specs.declared.node.Node.{Node}
+use Rattle.stream_graph.specs.Kinds.{is_input, keeps_state}
 use Rattle.stream_graph.specs.LookUps.{kind_at, operands_at, operand_at}
 use Rattle.kernel_family.specs.declared.place.Place.{Place}
 
 -- what a node of this kind has in a tick hangs on the tick before too
 abbrev pub keeps : Kind → Bool
-keeps K.Input = true
-keeps K.Hold = true
-keeps K.Counter = true
-keeps K.Chain = true
-keeps _ = false
+keeps kind = is_input kind || keeps_state kind
 
 -- how many ticks ahead a node of this kind reads its operands
 abbrev pub ahead : Kind → ℤ

@@ -1,9 +1,8 @@
 // The part of a report that is written of a kernel.
-ghost use Rattle.std.specs.Prelude.{◌≡◌, ◌<◌, ◌≤◌, ◌^◌, ℕ, ◌≤ℤ◌, pos, length, take, true, IfOk};
+ghost use Rattle.std.specs.Prelude.{◌≡◌, ◌<◌, ◌≤◌, ◌^◌, ℕ, ◌≤ℤ◌, pos, length, take, IfOk};
 ghost use Rattle.offset_edges.specs.Edges.{edges_of};
 ghost use Rattle.cycle_find.specs.Constraints.{numbers_of};
 ghost use Rattle.schedule_problem.specs.Flow.{cost_of};
-ghost use Rattle.kernel_calls.specs.Laws.{is_port_name};
 ghost use Rattle.kernel_schedule.specs.Beginning.{BeginsAtZero};
 ghost use Rattle.kernel_schedule.specs.Schedules.{IsLeast};
 ghost use Rattle.kernel_report.specs.Judging.{IsShown};
@@ -17,8 +16,7 @@ use std::alloc::Global;
 use stream_graph::Kernel;
 
 /// What a report says of a kernel's least schedule, whose times cost so many bits, below 2^63, and
-/// are at most 2^46 and begin at 0. The kernel's name is a letter and then letters, digits and `_`.
-/// The part shows that its bits are the fewest, so that `judge` finds it good, and its times begin at
+/// are at most 2^46 and begin at 0. The part shows that its bits are the fewest, so that `judge` finds it good, and its times begin at
 /// 0, too. The only error is want of memory.
 pub fn part_of(
     alloc: Global,
@@ -27,7 +25,6 @@ pub fn part_of(
     schedule: &Schedule,
     bits: u64,
 ) -> Result<ReportKernel, NoMemory>
-    requires name { is_port_name kernel.now.name ≡ true }
     requires least { IsLeast table.now kernel.now.nodes schedule.now }
     requires most { (v : ℕ) → numbers_of schedule.now.answer.times v ≤ℤ pos (2 ^ 46) }
     requires bits { pos bits ≡ cost_of schedule.now.problem (numbers_of schedule.now.answer.times) }

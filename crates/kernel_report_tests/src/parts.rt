@@ -1,8 +1,7 @@
 // The part that is written of a kernel's best schedule.
-ghost use Rattle.std.specs.Prelude.{◌≡◌, true, IfOk, IfSome};
+ghost use Rattle.std.specs.Prelude.{◌≡◌, IfOk, IfSome};
 ghost use Rattle.schedule_problem.specs.Optimum.{IsProblem};
 ghost use Rattle.offset_edges.specs.Problems.{problem_of};
-ghost use Rattle.kernel_calls.specs.Laws.{is_port_name};
 ghost use Rattle.schedule_report.specs.Reports.{IsKernelPart};
 
 use kernel_report::part_of;
@@ -21,7 +20,6 @@ pub fn best_part(
     table: &Table,
     problem: &Problem,
 ) -> Result<Option<ReportKernel>, NoMemory>
-    requires name { is_port_name kernel.now.name ≡ true }
     requires problem { problem.now ≡ problem_of table.now kernel.now.nodes }
     requires solvable { IsProblem problem.now }
     ensures { IfOk result (λ part. IfSome part IsKernelPart) }

@@ -1,9 +1,8 @@
 // Judgements on parts of reports on the kernel of three neighbours.
-ghost use Rattle.std.specs.Prelude.{◌≡◌, ◌+◌, ◌≤◌, ◌^◌, true, length};
+ghost use Rattle.std.specs.Prelude.{◌≡◌, ◌+◌, ◌≤◌, ◌^◌, length};
 ghost use Rattle.cycle_find.specs.Constraints.{NeedsWithin};
 ghost use Rattle.schedule_problem.specs.Optimum.{IsProblem};
 ghost use Rattle.offset_edges.specs.Problems.{problem_of};
-ghost use Rattle.kernel_calls.specs.Laws.{is_port_name};
 
 use crate::parts::best_part;
 use crate::texts::{Change, JUDGED, changed};
@@ -83,7 +82,6 @@ fn expect_good(
     problem: &Problem,
     sample: &ReportKernel,
 ) -> Result<(), Fail>
-    requires name { is_port_name kernel.now.name ≡ true }
     requires problem { problem.now ≡ problem_of table.now kernel.now.nodes }
     requires solvable { IsProblem problem.now }
     requires few { length problem.now.arcs.list ≤ 2 ^ 20 }

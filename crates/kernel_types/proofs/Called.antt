@@ -11,8 +11,7 @@ use Rattle.kernel_calls.specs.declared.call.Call.TheVariants as C
 use Rattle.kernel_calls.specs.Calls.{count_of, bits_in, Makes}
 use Rattle.stream_graph.specs.Nodes.{digits_to, place_of}
 use Rattle.stream_graph.specs.Steps.{WereLawful}
-use Rattle.stream_graph.proofs.Facts.{makes_older}
-use Rattle.stream_graph.proofs.CallLemmas.{makes_cases, made_below}
+use Rattle.stream_graph.proofs.Facts.{makes_older, makes_cases, made_below}
 
 -- ---- the digits of a chain
 

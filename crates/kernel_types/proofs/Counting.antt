@@ -16,7 +16,7 @@ use Rattle.stream_graph.specs.declared.node.Kind.TheVariants as K
 use Rattle.stream_graph.specs.declared.node.Node.{Node}
 use Rattle.stream_graph.specs.Nodes.{later, digits_to, place_of, IsKind, type_of, operands_by, digits_by, AreNodes}
 use Rattle.stream_graph.specs.Steps.{WereLawful}
-use Rattle.stream_graph.specs.Kinds.{is_chain}
+use Rattle.stream_graph.specs.Kinds.{is_chain, counts}
 use Rattle.stream_graph.specs.Kernels.{AreKernel}
 use Rattle.stream_graph.specs.LookUps.{
   kind_at,
@@ -26,9 +26,10 @@ use Rattle.stream_graph.specs.LookUps.{
   no_node,
   digits_at,
 }
-use Rattle.stream_graph.proofs.CallLemmas.{made_below, were_later, WasLawful, chain_bits_most, chain_bits_least}
+use Rattle.stream_graph.proofs.Facts.{made_below}
+use Rattle.stream_graph.proofs.CallLemmas.{were_later, WasLawful, chain_bits_most, chain_bits_least}
 use Rattle.stream_graph.proofs.NodeLemmas.{of_node}
-use Rattle.kernel_types.specs.Types.{counts, IsCounting, IsPartOf, AreCounting}
+use Rattle.kernel_types.specs.Types.{IsCounting, IsPartOf, AreCounting}
 use Rattle.kernel_types.proofs.Digital.{is_digit, passes_digit, passed_digit}
 use Rattle.kernel_types.proofs.Called.{digits_lawful, chain_bits, digit_at_place, chain_made}
 

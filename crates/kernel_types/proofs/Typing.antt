@@ -29,6 +29,7 @@ use Rattle.std.proofs.Common.{
   inl,
   inr,
   ◌⊎◌,
+  ⊎_elim,
 }
 use Rattle.std.proofs.Props.{props}
 use Rattle.std.proofs.Math.Logic.{∥∥₁_elim}
@@ -53,26 +54,20 @@ use Rattle.stream_graph.specs.Kernels.{AreKernel}
 use Rattle.stream_graph.specs.Nodes.{later, connected_to, one_or_none, IsKind, type_of, operands_by, IsNode, AreNodes}
 use Rattle.stream_graph.specs.Steps.{WereLawful}
 use Rattle.stream_graph.specs.LookUps.{node_at, kind_at, operands_at, width_at, no_node, type_at}
-use Rattle.stream_graph.proofs.Facts.{makes_older}
-use Rattle.stream_graph.proofs.CallLemmas.{makes_cases, made, were_later}
+use Rattle.stream_graph.specs.Kinds.{is_like_first, takes_bit, fixed_operands}
+use Rattle.stream_graph.proofs.Facts.{makes_cases, makes_older}
+use Rattle.stream_graph.proofs.KindLemmas.{made_by, takes_at, control_call, like_call}
+use Rattle.stream_graph.proofs.CallLemmas.{made, were_later}
 use Rattle.stream_graph.proofs.NodeLemmas.{IsOrderly, orderly}
-use Rattle.kernel_types.specs.Types.{is_like, takes_bit, HasFirst, AreTyped}
+use Rattle.kernel_types.specs.Types.{HasFirst, AreTyped}
 
 -- ---- streams
 
 stream_type : (so_far : List Call) (n : ℕ) (call : Call) (t : StreamType) → stream_of call ≡ Some t → type_of so_far n call ≡ t
-stream_type so_far n (C.Input name u control) t e = cc
 stream_type so_far n (C.Output name value control u) t e = absurd (cc)
-stream_type so_far n (C.Scalar name u) t e = cc
-stream_type so_far n (C.Constant bits u) t e = cc
-stream_type so_far n (C.Operation op mode amount args u) t e = cc
-stream_type so_far n (C.Offset value k u) t e = cc
-stream_type so_far n (C.Feed u) t e = cc
 stream_type so_far n (C.Connect feed value) t e = absurd (cc)
-stream_type so_far n (C.Hold value store u) t e = cc
-stream_type so_far n (C.Counter d) t e = cc
 stream_type so_far n C.Chain t e = absurd (cc)
-stream_type so_far n (C.ChainDigit chain d) t e = cc
+stream_type so_far n _ t e = cc
 
 got : {X : Type 0} (xs : List X) (n : ℕ) (x d : X) → slice_get xs n ≡ Some x → x ≡ get_or xs n d
 got [] n x d e = absurd (cc)
@@ -122,9 +117,6 @@ control_known : (nodes : List Node) (calls : List Call) (n : ℕ) → AreKnown n
 control_known nodes calls n known (inl s) = ap width_of (known n _ s)
 control_known nodes calls n known (inr s) = ap width_of (known n _ s)
 
-is_place : (k place : ℕ) → eqb place k ≡ true → place ≡ k
-is_place k place e = grind (arith, e)
-
 -- ---- feeds
 
 -- two nodes have words of one type
@@ -153,17 +145,7 @@ connected_known nodes (newest ∷ older) n known fed w = by_call newest refl
         let l : IsLawful older (C.Connect feed value) = subst (λ c. IsLawful older c) e w.0 in
         by_test feed value l.0 (eqb feed n) refl (makes_older newest older feed (C.Feed l.0) l.1)
         (l.2.0, makes_older newest older value l.2.0 l.2.1, l.2.2) r
-    by_call (C.Input name t control) e r = r
-    by_call (C.Output name value control t) e r = r
-    by_call (C.Scalar name t) e r = r
-    by_call (C.Constant bits t) e r = r
-    by_call (C.Operation op mode amount args t) e r = r
-    by_call (C.Offset value k t) e r = r
-    by_call (C.Feed t) e r = r
-    by_call (C.Hold value store t) e r = r
-    by_call (C.Counter d) e r = r
-    by_call C.Chain e r = r
-    by_call (C.ChainDigit chain d) e r = r
+    by_call _ e r = r
 
 -- ---- calls by the kinds of their nodes
 
@@ -172,17 +154,8 @@ constant_call : (so_far : List Call) (n : ℕ) (call : Call) (kind : Kind) (word
 constant_call so_far n (C.Constant bits t) kind word i e =
     let same : word ≡ i.0 = let q = i.1 in cc in
     ap (λ (x : Word). x.width) same ∙ i.3
-constant_call so_far n (C.Input name t control) kind word i e = absurd (cc)
-constant_call so_far n (C.Output name value control t) kind word i e = absurd (cc)
-constant_call so_far n (C.Scalar name t) kind word i e = absurd (cc)
-constant_call so_far n (C.Operation op mode amount args t) kind word i e = absurd (cc)
-constant_call so_far n (C.Offset value k t) kind word i e = absurd (cc)
-constant_call so_far n (C.Feed t) kind word i e = absurd (cc)
 constant_call so_far n (C.Connect feed value) kind word i e = absurd i
-constant_call so_far n (C.Hold value store t) kind word i e = absurd (cc)
-constant_call so_far n (C.Counter d) kind word i e = absurd (cc)
-constant_call so_far n C.Chain kind word i e = absurd (cc)
-constant_call so_far n (C.ChainDigit chain d) kind word i e = absurd (cc)
+constant_call so_far n _ kind word i e = absurd (cc)
 
 types_of : (nodes : List Node) (calls : List Call) (args : List ℕ) (types : List StreamType) → AreKnown nodes calls → AreStreams calls args types
     → map (type_at nodes) args ≡ types
@@ -196,24 +169,12 @@ module _ (so_far : List Call) (nodes : List Node) (known : AreKnown nodes so_far
   operation_call : (n : ℕ) (call : Call) (kind : Kind) (op : Op) (mode : RoundMode) (amount : ℕ) → WasCalled so_far n call
       → IsKind so_far n call kind → kind ≡ K.Operation op mode amount
       → GivesType op (map (type_at nodes) (operands_by so_far n call)) amount (type_of so_far n call)
-  operation_call n (C.Operation op' mode' amount' args t) kind op mode amount w i e =
-      let same : op' ≡ op = cc in
-      let same_amount : amount' ≡ amount = cc in
-      let are = types_of nodes w.older args w.lawful.0 (older_known nodes known w) w.lawful.1 in
-      subst (λ o. GivesType o (map (type_at nodes) args) amount t) same
-      (subst (λ k. GivesType op' (map (type_at nodes) args) k t) same_amount
-      (subst (λ ts. GivesType op' ts amount' t) (sym are) w.lawful.2))
-  operation_call n (C.Constant bits t) kind op mode amount w i e = let q = i.1 in absurd (cc)
-  operation_call n (C.Input name t control) kind op mode amount w i e = absurd (cc)
-  operation_call n (C.Output name value control t) kind op mode amount w i e = absurd (cc)
-  operation_call n (C.Scalar name t) kind op mode amount w i e = absurd (cc)
-  operation_call n (C.Offset value k t) kind op mode amount w i e = absurd (cc)
-  operation_call n (C.Feed t) kind op mode amount w i e = absurd (cc)
-  operation_call n (C.Connect feed value) kind op mode amount w i e = absurd i
-  operation_call n (C.Hold value store t) kind op mode amount w i e = absurd (cc)
-  operation_call n (C.Counter d) kind op mode amount w i e = absurd (cc)
-  operation_call n C.Chain kind op mode amount w i e = absurd (cc)
-  operation_call n (C.ChainDigit chain d) kind op mode amount w i e = absurd (cc)
+  operation_call n call kind op mode amount w i e =
+      let m = made_by so_far n call (K.Operation op mode amount) (subst (λ k. IsKind so_far n call k) e i) in
+      let l : IsLawful w.older (C.Operation op mode amount m.0 m.1) = subst (λ c. IsLawful w.older c) m.2 w.lawful in
+      let are = types_of nodes w.older m.0 l.0 (older_known nodes known w) l.1 in
+      subst (λ c. GivesType op (map (type_at nodes) (operands_by so_far n c)) amount (type_of so_far n c)) (sym m.2)
+      (subst (λ ts. GivesType op ts amount m.1) (sym are) l.2)
 
   record IsFirstOf (n : ℕ) (operands : List ℕ) : Type 0 where
     some : 0 < length operands
@@ -225,83 +186,22 @@ module _ (so_far : List Call) (nodes : List Node) (known : AreKnown nodes so_far
 
   first_call : (n : ℕ) (call : Call) (kind : Kind) → WereLawful so_far → ((k : ℕ) (t : StreamType) → Makes so_far k (C.Feed t) → type_at nodes k ≡ t)
       → ((k : ℕ) → ((t : StreamType) × Makes so_far k (C.Feed t) × (connected_to so_far k ≡ [])) → ⊥) → Makes so_far n call
-      → WasCalled so_far n call → IsKind so_far n call kind → type_at nodes n ≡ type_of so_far n call → is_like kind ≡ true → IsFirstOf n
+      → WasCalled so_far n call → IsKind so_far n call kind → type_at nodes n ≡ type_of so_far n call → is_like_first kind ≡ true → IsFirstOf n
       (operands_by so_far n call)
-  first_call n (C.Input name t control) kind l fed connected m w i u e = absurd (false≢true (sym (ap is_like i) ∙ e))
-  first_call n (C.Output name value control t) kind l fed connected m w i u e =
-      record { some = omega arith; like = older_known nodes known w value t w.lawful.1 ∙ sym u }
-  first_call n (C.Scalar name t) kind l fed connected m w i u e = absurd (false≢true (sym (ap is_like i) ∙ e))
-  first_call n (C.Constant bits t) kind l fed connected m w i u e = absurd (false≢true (sym (ap is_like i.1) ∙ e))
-  first_call n (C.Operation op mode amount args t) kind l fed connected m w i u e = absurd (false≢true (sym (ap is_like i) ∙ e))
-  first_call n (C.Offset value k t) kind l fed connected m w i u e =
-      record { some = omega arith; like = older_known nodes known w value t w.lawful.0 ∙ sym u }
-  first_call n (C.Feed t) kind l fed connected m w i u e =
-      first_of_all n (connected_to so_far n) (connected_known nodes so_far n known fed l) (λ q. connected n (t, m, q))
-  first_call n (C.Connect feed value) kind l fed connected m w i u e = absurd i
-  first_call n (C.Hold value store t) kind l fed connected m w i u e =
-      record { some = omega arith; like = older_known nodes known w value t w.lawful.0 ∙ sym u }
-  first_call n (C.Counter d) kind l fed connected m w i u e = absurd (false≢true (sym (ap is_like i) ∙ e))
-  first_call n C.Chain kind l fed connected m w i u e = absurd (false≢true (sym (ap is_like i) ∙ e))
-  first_call n (C.ChainDigit chain d) kind l fed connected m w i u e = absurd (false≢true (sym (ap is_like i) ∙ e))
-
-  one_bit : (calls : List Call) (control : Option ℕ) → AreKnown nodes calls → MayControl calls control → 0 < length (one_or_none control)
-      → width_at nodes (get_or (one_or_none control) 0 0) ≡ 1
-  one_bit calls None known c h = absurd (omega arith)
-  one_bit calls (Some n) known c h = control_known nodes calls n known c
+  first_call n call kind l fed connected m w i u e = ⊎_elim
+      (λ (p : (t : StreamType) × (call ≡ C.Feed t)).
+      subst (λ c. IsFirstOf n (operands_by so_far n c)) (sym p.1)
+      (first_of_all n (connected_to so_far n) (connected_known nodes so_far n known fed l)
+      (λ q. connected n (p.0, subst (λ c. Makes so_far n c) p.1 m, q))))
+      (λ (p : (0 < length (operands_by so_far n call)) × IsStream w.older (get_or (operands_by so_far n call) 0 0) (type_of so_far n call)).
+      record { some = p.0; like = older_known nodes known w (get_or (operands_by so_far n call) 0 0) (type_of so_far n call) p.1 ∙ sym u })
+      (like_call so_far w.older n call kind i e w.lawful)
 
   bit_call : (n : ℕ) (call : Call) (kind : Kind) (place : ℕ) → WasCalled so_far n call → IsKind so_far n call kind
       → takes_bit kind place ≡ true → place < length (operands_by so_far n call) → width_at nodes (get_or (operands_by so_far n call) place 0) ≡ 1
-  bit_call n (C.Input name t control) kind place w i e h =
-      let at : place ≡ 0 = is_place 0 place (sym (ap (λ k. takes_bit k place) i) ∙ e) in
-      subst (λ p. width_at nodes (get_or (one_or_none control) p 0) ≡ 1) (sym at)
-      (one_bit w.older control (older_known nodes known w) w.lawful.2 (omega (arith, h, at)))
-  bit_call n (C.Output name value control t) kind place w i e h =
-      let at : place ≡ 1 = is_place 1 place (sym (ap (λ k. takes_bit k place) i) ∙ e) in
-      subst (λ p. width_at nodes (get_or (value ∷ one_or_none control) p 0) ≡ 1) (sym at)
-      (one_bit w.older control (older_known nodes known w) w.lawful.2 (omega (arith, h, at)))
-  bit_call n (C.Scalar name t) kind place w i e h = absurd (false≢true (sym (ap (λ k. takes_bit k place) i) ∙ e))
-  bit_call n (C.Constant bits t) kind place w i e h = absurd (false≢true (sym (ap (λ k. takes_bit k place) i.1) ∙ e))
-  bit_call n (C.Operation op mode amount args t) kind place w i e h = absurd (false≢true (sym (ap (λ k. takes_bit k place) i) ∙ e))
-  bit_call n (C.Offset value k t) kind place w i e h = absurd (false≢true (sym (ap (λ k. takes_bit k place) i) ∙ e))
-  bit_call n (C.Feed t) kind place w i e h = absurd (false≢true (sym (ap (λ k. takes_bit k place) i) ∙ e))
-  bit_call n (C.Connect feed value) kind place w i e h = absurd i
-  bit_call n (C.Hold value store t) kind place w i e h =
-      let at : place ≡ 1 = is_place 1 place (sym (ap (λ k. takes_bit k place) i) ∙ e) in
-      subst (λ p. width_at nodes (get_or (value ∷ store ∷ []) p 0) ≡ 1) (sym at)
-      (control_known nodes w.older store (older_known nodes known w) w.lawful.1)
-  bit_call n (C.Counter d) kind place w i e h = absurd (false≢true (sym (ap (λ k. takes_bit k place) i) ∙ e))
-  bit_call n C.Chain kind place w i e h = absurd (false≢true (sym (ap (λ k. takes_bit k place) i) ∙ e))
-  bit_call n (C.ChainDigit chain d) kind place w i e h = absurd (false≢true (sym (ap (λ k. takes_bit k place) i) ∙ e))
-
-hold_call : (so_far : List Call) (n : ℕ) (call : Call) (kind : Kind) → IsKind so_far n call kind → kind ≡ K.Hold
-    → length (operands_by so_far n call) ≡ 2
-hold_call so_far n (C.Input name t control) kind i e = absurd (cc)
-hold_call so_far n (C.Output name value control t) kind i e = absurd (cc)
-hold_call so_far n (C.Scalar name t) kind i e = absurd (cc)
-hold_call so_far n (C.Constant bits t) kind i e = let q = i.1 in absurd (cc)
-hold_call so_far n (C.Operation op mode amount args t) kind i e = absurd (cc)
-hold_call so_far n (C.Offset value k t) kind i e = absurd (cc)
-hold_call so_far n (C.Feed t) kind i e = absurd (cc)
-hold_call so_far n (C.Connect feed value) kind i e = absurd i
-hold_call so_far n (C.Hold value store t) kind i e = omega arith
-hold_call so_far n (C.Counter d) kind i e = absurd (cc)
-hold_call so_far n C.Chain kind i e = absurd (cc)
-hold_call so_far n (C.ChainDigit chain d) kind i e = absurd (cc)
-
-offset_call : (so_far : List Call) (n : ℕ) (call : Call) (kind : Kind) (ticks : ℤ) → IsKind so_far n call kind → kind ≡ K.Offset ticks
-    → length (operands_by so_far n call) ≡ 1
-offset_call so_far n (C.Input name t control) kind ticks i e = absurd (cc)
-offset_call so_far n (C.Output name value control t) kind ticks i e = absurd (cc)
-offset_call so_far n (C.Scalar name t) kind ticks i e = absurd (cc)
-offset_call so_far n (C.Constant bits t) kind ticks i e = let q = i.1 in absurd (cc)
-offset_call so_far n (C.Operation op mode amount args t) kind ticks i e = absurd (cc)
-offset_call so_far n (C.Offset value k t) kind ticks i e = omega arith
-offset_call so_far n (C.Feed t) kind ticks i e = absurd (cc)
-offset_call so_far n (C.Connect feed value) kind ticks i e = absurd i
-offset_call so_far n (C.Hold value store t) kind ticks i e = absurd (cc)
-offset_call so_far n (C.Counter d) kind ticks i e = absurd (cc)
-offset_call so_far n C.Chain kind ticks i e = absurd (cc)
-offset_call so_far n (C.ChainDigit chain d) kind ticks i e = absurd (cc)
+  bit_call n call kind place w i e h =
+      control_known nodes w.older (get_or (operands_by so_far n call) place 0) (older_known nodes known w)
+      (control_call so_far w.older n place call kind i (takes_at kind place e) w.lawful h)
 
 -- ---- what the crate uses of a kernel's types
 
@@ -349,12 +249,9 @@ typed_so_far so_far nodes o l connected a =
           let same = c.is.operands in
           subst (λ xs. width_at nodes (get_or xs place 0) ≡ 1) (sym same)
           (bit_call so_far nodes known n c.call (kind_at nodes n) place c.was c.is.kind e (subst (λ (xs : List ℕ). place < length xs) same lt));
-      holds = λ n h e.
-          let c = call_of so_far nodes l a n h in
-          ap length c.is.operands ∙ hold_call so_far n c.call (kind_at nodes n) c.is.kind e;
-      offsets = λ n ticks h e.
-          let c = call_of so_far nodes l a n h in
-          ap length c.is.operands ∙ offset_call so_far n c.call (kind_at nodes n) ticks c.is.kind e;
+      holds = λ n h e. o.fixed n 2 h (ap fixed_operands e);
+      offsets = λ n ticks h e. o.fixed n 1 h (ap fixed_operands e);
+      fixed = o.fixed;
     }
 
 gives_prop : (op : Op) (types : List StreamType) (amount : ℕ) (out : StreamType) → IsProp (GivesType op types amount out)

@@ -6,8 +6,6 @@ use Rattle.std.specs.Prelude.{
   ◌≤◌,
   Bool,
   true,
-  false,
-  nat_eq,
   ℤ,
   List,
   map,
@@ -24,7 +22,6 @@ use Rattle.counter_chains.specs.Chains.{bits_of}
 use Rattle.fix_arith.specs.declared.types.RoundMode.{RoundMode}
 use Rattle.fix_arith.specs.Types.{HasWidth}
 use Rattle.fix_arith.specs.Table.{GivesType}
-use Rattle.stream_graph.specs.declared.node.Kind.{Kind}
 use Rattle.stream_graph.specs.declared.node.Kind.TheVariants as K
 use Rattle.stream_graph.specs.declared.node.Node.{Node}
 use Rattle.stream_graph.specs.LookUps.{
@@ -35,23 +32,15 @@ use Rattle.stream_graph.specs.LookUps.{
   type_at,
   digits_at,
 }
+use Rattle.stream_graph.specs.declared.node.Kind.{Kind}
+use Rattle.stream_graph.specs.Kinds.{is_like_first, fixed_operands}
+pub use Rattle.stream_graph.specs.Kinds.{takes_bit, counts}
 
 -- ---- operands
 
 -- the kinds whose words have the type of their first operand
 abbrev pub is_like : Kind → Bool
-is_like K.Output = true
-is_like (K.Offset ticks) = true
-is_like K.Feed = true
-is_like K.Hold = true
-is_like _ = false
-
--- a node of this kind has a bit as its operand at this place: a control or a store
-abbrev pub takes_bit : Kind → ℕ → Bool
-takes_bit K.Input place = nat_eq place 0
-takes_bit K.Output place = nat_eq place 1
-takes_bit K.Hold place = nat_eq place 1
-takes_bit _ place = false
+is_like kind = is_like_first kind
 
 -- there is a first operand, of the node's type
 pub record HasFirst (nodes : List Node) (n : ℕ) : Type 0 where
@@ -59,12 +48,6 @@ pub record HasFirst (nodes : List Node) (n : ℕ) : Type 0 where
   pub same : type_at nodes (operand_at nodes n 0) ≡ type_at nodes n
 
 -- ---- counters
-
--- a node of this kind counts
-abbrev pub counts : Kind → Bool
-counts K.Counter = true
-counts K.Chain = true
-counts _ = false
 
 -- A counter or a chain has counters, at most 128 of them, and its words have the bits of these.
 pub record IsCounting (nodes : List Node) (n : ℕ) : Type 0 where
@@ -85,8 +68,8 @@ pub record IsPartOf (nodes : List Node) (n place : ℕ) : Type 0 where
 
 -- These are well typed: words have 1 to 128 bits, that of a constant the bits of its node; operands
 -- are nodes, and have the types that the operation of a node takes and gives; what is like its first
--- operand has the type of it; controls and stores are bits; a hold has a value and a store, and an
--- offset one operand.
+-- operand has the type of it; controls and stores are bits; a hold has a value and a store, an offset
+-- one operand, and each node as many as its kind says.
 pub record AreTyped (nodes : List Node) : Type 0 where
   pub widths : (n : ℕ) → n < length nodes → HasWidth (type_at nodes n)
   pub inside :
@@ -118,6 +101,11 @@ pub record AreTyped (nodes : List Node) : Type 0 where
       → n < length nodes
       → kind_at nodes n ≡ K.Offset ticks
       → length (operands_at nodes n) ≡ 1
+  pub fixed :
+      (n count : ℕ)
+      → n < length nodes
+      → fixed_operands (kind_at nodes n) ≡ Some count
+      → length (operands_at nodes n) ≡ count
 
 -- The counters and chains have counters, a counter by itself has one, and a part is one of those of
 -- its chain.

@@ -4,7 +4,6 @@ ghost use Rattle.kernel_words.specs.Guarded.{IsGuardedBut, IsUnguarded};
 ghost use Rattle.kernel_words.specs.Streams.{values_of};
 
 use crate::Streams;
-use crate::ports::control;
 use kernel_family::Place;
 use stream_graph::{Kernel, NodeId};
 
@@ -34,7 +33,7 @@ fn is_unguarded(kernel: &Kernel, streams: &Streams, place: Place) -> bool
     ensures yes { result ≡ true → IsUnguarded kernel.now.nodes streams.now.ticks (values_of streams.now) place }
     ensures no { result ≡ false → IsUnguarded kernel.now.nodes streams.now.ticks (values_of streams.now) place → ⊥ }
 {
-    let Some(port) = control(kernel, NodeId::new(place.node)) else {
+    let Some(port) = kernel.control(NodeId::new(place.node)) else {
         return false;
     };
     match streams.word(port, place.tick) {

@@ -1,14 +1,13 @@
 // The words of the ports of a kernel.
 ghost use Rattle.std.specs.Prelude.{◌≡◌, ◌<◌, ◌++◌, ◌∷◌, [], pos, length, if◌then◌else◌, IfOk, OnOk};
 ghost use Rattle.stream_equations.specs.Equations.{GivenRun, enabled};
-ghost use Rattle.stream_graph.specs.LookUps.{control_of};
 ghost use Rattle.stream_equations.specs.Words.{port_words};
 ghost use Rattle.kernel_words.specs.Streams.{values_of};
 
 use crate::Streams;
 use mx_base::NoMemory;
 use std::alloc::Global;
-use stream_graph::{Kernel, Kind, NodeId};
+use stream_graph::{Kernel, NodeId};
 
 /// Whether a node has no control and no store, or it is 1 in that tick, from 0. An undefined one
 /// counts as 0.
@@ -16,7 +15,7 @@ pub fn is_enabled(kernel: &Kernel, streams: &Streams, node: NodeId, tick: u64) -
     requires node { node < length kernel.now.nodes }
     ensures { result ≡ enabled kernel.now.nodes (values_of streams.now) node tick }
 {
-    match control(kernel, node) {
+    match kernel.control(node) {
         Some(control) => streams.word(control, tick) == Some(1),
         None => true,
     }
@@ -58,17 +57,4 @@ fn push_word(
     }
     words.push(streams.word(node, tick))?;
     Ok(())
-}
-
-// The node of a port's control or of a hold's store.
-pub(crate) fn control(kernel: &Kernel, node: NodeId) -> Option<NodeId>
-    requires node { node < length kernel.now.nodes }
-    ensures { result ≡ control_of kernel.now.nodes node }
-{
-    let operands = kernel.operands(node);
-    match kernel.node(node).kind {
-        Kind::Input => operands.first().copied(),
-        Kind::Output | Kind::Hold => operands.get(1).copied(),
-        _ => None,
-    }
 }

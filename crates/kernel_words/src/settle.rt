@@ -157,7 +157,7 @@ fn open_operand(kernel: &Kernel, streams: &Streams, node: NodeId, tick: u64) -> 
 fn keeps(kind: Kind) -> bool
     ensures { result ≡ keeps kind }
 {
-    matches!(kind, Kind::Input | Kind::Hold | Kind::Counter | Kind::Chain)
+    matches!(kind, Kind::Input) || kind.keeps_state()
 }
 
 // How many ticks ahead a node of this kind reads its operands.

@@ -34,30 +34,12 @@ use Rattle.stream_graph.proofs.NodeLemmas.{IsOrderly}
 -- of a kind: an offset, or another one
 pub kind_cases : (kind : Kind) → ((ticks : ℤ) × (kind ≡ K.Offset ticks)) ⊎ (is_offset kind ≡ false)
 kind_cases (K.Offset ticks) = inl (ticks, refl)
-kind_cases K.Input = inr refl
-kind_cases K.Output = inr refl
-kind_cases K.Scalar = inr refl
-kind_cases (K.Constant word) = inr refl
-kind_cases (K.Operation op mode amount) = inr refl
-kind_cases K.Feed = inr refl
-kind_cases K.Hold = inr refl
-kind_cases K.Counter = inr refl
-kind_cases K.Chain = inr refl
-kind_cases (K.Part place) = inr refl
+kind_cases _ = inr refl
 
 past_other : (kind : Kind) (n : ℕ) (behind : Source) → is_offset kind ≡ false
     → past kind n behind ≡ new_source n (pos 0)
 past_other (K.Offset ticks) n behind e = absurd (cc)
-past_other K.Input n behind e = refl
-past_other K.Output n behind e = refl
-past_other K.Scalar n behind e = refl
-past_other (K.Constant word) n behind e = refl
-past_other (K.Operation op mode amount) n behind e = refl
-past_other K.Feed n behind e = refl
-past_other K.Hold n behind e = refl
-past_other K.Counter n behind e = refl
-past_other K.Chain n behind e = refl
-past_other (K.Part place) n behind e = refl
+past_other _ n behind e = refl
 
 module _ (nodes : List Node) (o : IsOrderly nodes) where
   -- so many steps are enough

@@ -1,12 +1,11 @@
 // The edges of a kernel, in order.
 ghost use Rattle.std.specs.Prelude.{◌≡◌, ◌<◌, ◌≤◌, ◌^◌, ◌++◌, All, length, option_to_list, IfOk, OnOk};
 ghost use Rattle.offset_edges.specs.Edges.{edges_of, edges_into, edge_of, IsEdge, AreSources};
-ghost use Rattle.stream_graph.specs.Kinds.{is_steady, is_offset};
 
 use crate::source::{Source, sources};
 use mx_base::NoMemory;
 use std::alloc::Global;
-use stream_graph::{Kernel, Kind, NodeId};
+use stream_graph::{Kernel, NodeId};
 
 /// The node `to` reads the words of the node `from`, so many ticks ahead, below 0 for the past.
 #[derive(Clone, Copy, PartialEq, Eq)]
@@ -44,7 +43,7 @@ fn push_edges(
     ensures { OnOk result (edges.new.items ≡ edges.old.items ++ edges_into kernel.now.nodes number) }
 {
     let id = NodeId::new(number);
-    if is_offset(kernel.node(id).kind) {
+    if kernel.node(id).kind.is_offset() {
         return Ok(());
     }
     for operand in kernel.operands(id) {
@@ -62,7 +61,7 @@ fn edge_over(kernel: &Kernel, sources: &[Source], reader: u32, operand: NodeId) 
     ensures { option_to_list result ≡ edge_of kernel.now.nodes reader operand }
 {
     let source = sources[operand.index()];
-    if is_steady(kernel.node(NodeId::new(source.node)).kind) {
+    if kernel.node(NodeId::new(source.node)).kind.is_steady() {
         return None;
     }
     Some(Edge {
@@ -70,17 +69,4 @@ fn edge_over(kernel: &Kernel, sources: &[Source], reader: u32, operand: NodeId) 
         to: reader,
         offset: source.offset,
     })
-}
-
-fn is_offset(kind: Kind) -> bool
-    ensures { result ≡ is_offset kind }
-{
-    matches!(kind, Kind::Offset(_))
-}
-
-// Whether the words of a node are one word in all ticks of a run, so that nothing waits for it.
-fn is_steady(kind: Kind) -> bool
-    ensures { result ≡ is_steady kind }
-{
-    matches!(kind, Kind::Constant(_) | Kind::Scalar)
 }

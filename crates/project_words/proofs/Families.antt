@@ -6,15 +6,13 @@ use Rattle.std.proofs.lemmas.Bool.{cases_lt}
 use Rattle.std.proofs.lemmas.Option.{same_Some, slice_get_read}
 use Rattle.std.proofs.lemmas.List.Elements.{All-from_get_or}
 use Rattle.stream_graph.specs.declared.kernel.Kernel.{Kernel}
-use Rattle.stream_graph.specs.declared.node.Kind.{Kind}
-use Rattle.stream_graph.specs.declared.node.Kind.TheVariants as K
 use Rattle.stream_graph.specs.declared.node.Node.{Node}
 use Rattle.stream_graph.specs.LookUps.{kind_at, operands_at, control_of}
 use Rattle.offset_edges.specs.Edges.{edges_of}
 use Rattle.offset_edges.specs.Walks.{IsCausal}
 use Rattle.stream_graph.proofs.NodeLemmas.{IsOrderly, orderly}
 use Rattle.stream_equations.specs.Equations.{Values, enabled, enabled_by, is_one}
-use Rattle.stream_graph.specs.Kinds.{control_in}
+use Rattle.stream_graph.specs.Kinds.{control_place, operand_in}
 use Rattle.stream_equations.specs.Words.{words_before}
 use Rattle.kernel_family.specs.Laws as OneKernel
 use Rattle.manager_links.specs.declared.links.PortAt.{PortAt}
@@ -31,19 +29,10 @@ use Rattle.project_words.proofs.Runs.{still_satisfied}
 -- ---- controls
 
 -- a control is among the operands
-control_within : (kind : Kind) (operands : List ℕ) (c count : ℕ) → All (λ u. u < count) operands
-    → control_in kind operands ≡ Some c → c < count
-control_within K.Input operands c count all e = all_at (λ u. u < count) operands 0 c all e
-control_within K.Output operands c count all e = all_at (λ u. u < count) operands 1 c all e
-control_within K.Hold operands c count all e = all_at (λ u. u < count) operands 1 c all e
-control_within K.Scalar operands c count all e = absurd (cc)
-control_within (K.Constant word) operands c count all e = absurd (cc)
-control_within (K.Operation op mode amount) operands c count all e = absurd (cc)
-control_within (K.Offset ticks) operands c count all e = absurd (cc)
-control_within K.Feed operands c count all e = absurd (cc)
-control_within K.Counter operands c count all e = absurd (cc)
-control_within K.Chain operands c count all e = absurd (cc)
-control_within (K.Part place) operands c count all e = absurd (cc)
+control_within : (place : Option ℕ) (operands : List ℕ) (c count : ℕ) → All (λ u. u < count) operands
+    → operand_in place operands ≡ Some c → c < count
+control_within None operands c count all e = absurd (cc)
+control_within (Some place) operands c count all e = all_at (λ u. u < count) operands place c all e
 
 -- nodes have the same words in two families
 abbrev AreSame : List Node → Values → Values → Type 0
@@ -57,7 +46,7 @@ enabled_same nodes o one other same n t h = by_control (control_of nodes n) refl
     by_control None e = refl
     by_control (Some c) e =
         let within =
-        control_within (kind_at nodes n) (operands_at nodes n) c (length nodes)
+        control_within (control_place (kind_at nodes n)) (operands_at nodes n) c (length nodes)
         (All-from_get_or (λ u. u < length nodes) (operands_at nodes n) 0 (λ i l. o.operands n i h l)) e in
         ap is_one (same c (pos t) within)
 

@@ -16,16 +16,8 @@ module _ (nodes : List Node) (one other : GivenRun) (same : GiveSame nodes one o
       → right_side nodes one val n t kind ≡ right_side nodes other val n t kind
   same_side n t h K.Input =
       ap (λ (word : Option ℕ). cond (enabled nodes val n t) word None) (same.source n (count_before (enabled nodes val n) t) h)
-  same_side n t h K.Output = refl
   same_side n t h K.Scalar = ap (λ (x : ℕ). Some x) (same.scalar n h)
-  same_side n t h (K.Constant word) = refl
-  same_side n t h (K.Operation op mode amount) = refl
-  same_side n t h (K.Offset ahead) = refl
-  same_side n t h K.Feed = refl
-  same_side n t h K.Hold = refl
-  same_side n t h K.Counter = refl
-  same_side n t h K.Chain = refl
-  same_side n t h (K.Part place) = refl
+  same_side n t h _ = refl
 
   -- what satisfies the equations in the one satisfies them in the other
   pub still_satisfied : StreamEquations nodes one val → StreamEquations nodes other val

@@ -28,18 +28,9 @@ got_at (y ∷ ys) (suc n) x h e = got_at ys n x (omega arith) e
 pub plain_row : (bytes operands : List ℕ) (row : Row) → ((feed value : ℕ) → row ≡ R.Connect feed value → ⊥) →
     ((chain : ℕ) (d : CounterDigit) → row ≡ R.ChainDigit chain d → ⊥) →
     is_plain_call (call_by bytes operands row) ≡ true
-plain_row bytes operands (R.Input name t control) f g = refl
-plain_row bytes operands (R.Output name value control t) f g = refl
-plain_row bytes operands (R.Scalar name t) f g = refl
-plain_row bytes operands (R.Constant bits t) f g = refl
-plain_row bytes operands (R.Operation op mode amount args t) f g = refl
-plain_row bytes operands (R.Offset value k t) f g = refl
-plain_row bytes operands (R.Feed t) f g = refl
 plain_row bytes operands (R.Connect feed value) f g = absurd (f feed value refl)
-plain_row bytes operands (R.Hold value store t) f g = refl
-plain_row bytes operands (R.Counter d) f g = refl
-plain_row bytes operands R.Chain f g = refl
 plain_row bytes operands (R.ChainDigit chain d) f g = absurd (g chain d refl)
+plain_row bytes operands _ f g = refl
 
 pub after_plain : (call : Call) (old new : List Node) (node : Node) → is_plain_call call ≡ true →
     IsNode [] 0 call node → new ≡ old ++ node ∷ [] → Adds old call new

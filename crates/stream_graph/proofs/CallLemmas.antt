@@ -44,7 +44,8 @@ use Rattle.kernel_calls.specs.declared.call.Call.{Call}
 use Rattle.kernel_calls.specs.declared.call.Call.TheVariants as C
 use Rattle.kernel_calls.specs.Calls.{count_of, nodes_of, bits_in, Makes}
 use Rattle.kernel_calls.specs.Laws.{IsLawful, AreLawful, IsStream}
-use Rattle.stream_graph.proofs.Facts.{makes_cases, makes_older, made_below}
+use Rattle.stream_graph.proofs.Facts.{makes_older}
+pub use Rattle.stream_graph.proofs.Facts.{makes_cases, made_below}
 use Rattle.stream_graph.specs.Nodes.{later, connected_to, digits_to, name_by}
 use Rattle.stream_graph.specs.Steps.{WereLawful}
 

@@ -21,152 +21,57 @@ use Rattle.stream_graph.proofs.Steps.{is_plain_call}
 pub by_sort : (P : Call → Type 0) → ((feed value : ℕ) → P (C.Connect feed value)) →
     ((chain : ℕ) (d : CounterDigit) → P (C.ChainDigit chain d)) →
     ((call : Call) → is_plain_call call ≡ true → P call) → (call : Call) → P call
-by_sort P connect digit plain (C.Input name t control) = plain _ refl
-by_sort P connect digit plain (C.Output name value control t) = plain _ refl
-by_sort P connect digit plain (C.Scalar name t) = plain _ refl
-by_sort P connect digit plain (C.Constant bits t) = plain _ refl
-by_sort P connect digit plain (C.Operation op mode amount args t) = plain _ refl
-by_sort P connect digit plain (C.Offset value k t) = plain _ refl
-by_sort P connect digit plain (C.Feed t) = plain _ refl
 by_sort P connect digit plain (C.Connect feed value) = connect feed value
-by_sort P connect digit plain (C.Hold value store t) = plain _ refl
-by_sort P connect digit plain (C.Counter d) = plain _ refl
-by_sort P connect digit plain C.Chain = plain _ refl
 by_sort P connect digit plain (C.ChainDigit chain d) = digit chain d
+by_sort P connect digit plain _ = plain _ refl
 
 -- plain calls
 
 pub plain_nodes : (call : Call) → is_plain_call call ≡ true → nodes_of call ≡ 1
-plain_nodes (C.Input name t control) h = refl
-plain_nodes (C.Output name value control t) h = refl
-plain_nodes (C.Scalar name t) h = refl
-plain_nodes (C.Constant bits t) h = refl
-plain_nodes (C.Operation op mode amount args t) h = refl
-plain_nodes (C.Offset value k t) h = refl
-plain_nodes (C.Feed t) h = refl
 plain_nodes (C.Connect feed value) h = absurd (cc)
-plain_nodes (C.Hold value store t) h = refl
-plain_nodes (C.Counter d) h = refl
-plain_nodes C.Chain h = refl
-plain_nodes (C.ChainDigit chain d) h = refl
+plain_nodes _ h = refl
 
 pub plain_connected : (call : Call) (older : List Call) (n : ℕ) → is_plain_call call ≡ true →
     connected_to (call ∷ older) n ≡ connected_to older n
-plain_connected (C.Input name t control) older n h = refl
-plain_connected (C.Output name value control t) older n h = refl
-plain_connected (C.Scalar name t) older n h = refl
-plain_connected (C.Constant bits t) older n h = refl
-plain_connected (C.Operation op mode amount args t) older n h = refl
-plain_connected (C.Offset value k t) older n h = refl
-plain_connected (C.Feed t) older n h = refl
 plain_connected (C.Connect feed value) older n h = absurd (cc)
-plain_connected (C.Hold value store t) older n h = refl
-plain_connected (C.Counter d) older n h = refl
-plain_connected C.Chain older n h = refl
 plain_connected (C.ChainDigit chain d) older n h = absurd (cc)
+plain_connected _ older n h = refl
 
 pub plain_digits : (call : Call) (older : List Call) (n : ℕ) → is_plain_call call ≡ true →
     digits_to (call ∷ older) n ≡ digits_to older n
-plain_digits (C.Input name t control) older n h = refl
-plain_digits (C.Output name value control t) older n h = refl
-plain_digits (C.Scalar name t) older n h = refl
-plain_digits (C.Constant bits t) older n h = refl
-plain_digits (C.Operation op mode amount args t) older n h = refl
-plain_digits (C.Offset value k t) older n h = refl
-plain_digits (C.Feed t) older n h = refl
 plain_digits (C.Connect feed value) older n h = absurd (cc)
-plain_digits (C.Hold value store t) older n h = refl
-plain_digits (C.Counter d) older n h = refl
-plain_digits C.Chain older n h = refl
 plain_digits (C.ChainDigit chain d) older n h = absurd (cc)
+plain_digits _ older n h = refl
 
 pub plain_bits : (call : Call) (older : List Call) (n : ℕ) → is_plain_call call ≡ true →
     bits_in (call ∷ older) n ≡ bits_in older n
-plain_bits (C.Input name t control) older n h = omega arith
-plain_bits (C.Output name value control t) older n h = omega arith
-plain_bits (C.Scalar name t) older n h = omega arith
-plain_bits (C.Constant bits t) older n h = omega arith
-plain_bits (C.Operation op mode amount args t) older n h = omega arith
-plain_bits (C.Offset value k t) older n h = omega arith
-plain_bits (C.Feed t) older n h = omega arith
 plain_bits (C.Connect feed value) older n h = absurd (cc)
-plain_bits (C.Hold value store t) older n h = omega arith
-plain_bits (C.Counter d) older n h = omega arith
-plain_bits C.Chain older n h = omega arith
 plain_bits (C.ChainDigit chain d) older n h = absurd (cc)
+plain_bits _ older n h = omega arith
 
 pub plain_place : (call : Call) (older : List Call) (chain n : ℕ) → is_plain_call call ≡ true →
     place_of (call ∷ older) chain n ≡ place_of older chain n
-plain_place (C.Input name t control) older ch n h = refl
-plain_place (C.Output name value control t) older ch n h = refl
-plain_place (C.Scalar name t) older ch n h = refl
-plain_place (C.Constant bits t) older ch n h = refl
-plain_place (C.Operation op mode amount args t) older ch n h = refl
-plain_place (C.Offset value k t) older ch n h = refl
-plain_place (C.Feed t) older ch n h = refl
 plain_place (C.Connect feed value) older ch n h = absurd (cc)
-plain_place (C.Hold value store t) older ch n h = refl
-plain_place (C.Counter d) older ch n h = refl
-plain_place C.Chain older ch n h = refl
 plain_place (C.ChainDigit chain d) older ch n h = absurd (cc)
+plain_place _ older ch n h = refl
 
 -- which calls make nodes
 
 pub makes_cases : (newest : Call) (older : List Call) (n : ℕ) (call : Call) → Makes (newest ∷ older) n call →
     ((nodes_of newest ≡ 1) × (n ≡ count_of older) × (call ≡ newest)) ⊎ Makes older n call
-makes_cases (C.Input name t control) older n call (inl p) = inl (refl, p.0, p.1)
-makes_cases (C.Output name value control t) older n call (inl p) = inl (refl, p.0, p.1)
-makes_cases (C.Scalar name t) older n call (inl p) = inl (refl, p.0, p.1)
-makes_cases (C.Constant bits t) older n call (inl p) = inl (refl, p.0, p.1)
-makes_cases (C.Operation op mode amount args t) older n call (inl p) = inl (refl, p.0, p.1)
-makes_cases (C.Offset value k t) older n call (inl p) = inl (refl, p.0, p.1)
-makes_cases (C.Feed t) older n call (inl p) = inl (refl, p.0, p.1)
-makes_cases (C.Hold value store t) older n call (inl p) = inl (refl, p.0, p.1)
-makes_cases (C.Counter d) older n call (inl p) = inl (refl, p.0, p.1)
-makes_cases C.Chain older n call (inl p) = inl (refl, p.0, p.1)
-makes_cases (C.ChainDigit chain d) older n call (inl p) = inl (refl, p.0, p.1)
-makes_cases (C.Input name t control) older n call (inr h) = inr h
-makes_cases (C.Output name value control t) older n call (inr h) = inr h
-makes_cases (C.Scalar name t) older n call (inr h) = inr h
-makes_cases (C.Constant bits t) older n call (inr h) = inr h
-makes_cases (C.Operation op mode amount args t) older n call (inr h) = inr h
-makes_cases (C.Offset value k t) older n call (inr h) = inr h
-makes_cases (C.Feed t) older n call (inr h) = inr h
 makes_cases (C.Connect feed value) older n call h = inr h
-makes_cases (C.Hold value store t) older n call (inr h) = inr h
-makes_cases (C.Counter d) older n call (inr h) = inr h
-makes_cases C.Chain older n call (inr h) = inr h
-makes_cases (C.ChainDigit chain d) older n call (inr h) = inr h
+makes_cases _ older n call (inl p) = inl (refl, p.0, p.1)
+makes_cases _ older n call (inr h) = inr h
 
 pub makes_newest : (newest : Call) (older : List Call) → nodes_of newest ≡ 1 →
     Makes (newest ∷ older) (count_of older) newest
-makes_newest (C.Input name t control) older h = inl (refl, refl)
-makes_newest (C.Output name value control t) older h = inl (refl, refl)
-makes_newest (C.Scalar name t) older h = inl (refl, refl)
-makes_newest (C.Constant bits t) older h = inl (refl, refl)
-makes_newest (C.Operation op mode amount args t) older h = inl (refl, refl)
-makes_newest (C.Offset value k t) older h = inl (refl, refl)
-makes_newest (C.Feed t) older h = inl (refl, refl)
 makes_newest (C.Connect feed value) older h = absurd (cc)
-makes_newest (C.Hold value store t) older h = inl (refl, refl)
-makes_newest (C.Counter d) older h = inl (refl, refl)
-makes_newest C.Chain older h = inl (refl, refl)
-makes_newest (C.ChainDigit chain d) older h = inl (refl, refl)
+makes_newest _ older h = inl (refl, refl)
 
 pub makes_older : (newest : Call) (older : List Call) (n : ℕ) (call : Call) → Makes older n call →
     Makes (newest ∷ older) n call
-makes_older (C.Input name t control) older n call h = inr h
-makes_older (C.Output name value control t) older n call h = inr h
-makes_older (C.Scalar name t) older n call h = inr h
-makes_older (C.Constant bits t) older n call h = inr h
-makes_older (C.Operation op mode amount args t) older n call h = inr h
-makes_older (C.Offset value k t) older n call h = inr h
-makes_older (C.Feed t) older n call h = inr h
 makes_older (C.Connect feed value) older n call h = h
-makes_older (C.Hold value store t) older n call h = inr h
-makes_older (C.Counter d) older n call h = inr h
-makes_older C.Chain older n call h = inr h
-makes_older (C.ChainDigit chain d) older n call h = inr h
+makes_older _ older n call h = inr h
 
 pub made_below : (so_far : List Call) (n : ℕ) (call : Call) → Makes so_far n call → n < count_of so_far
 made_below [] n call h = absurd h
@@ -282,63 +187,23 @@ pub record SameAt (s : List Call) (n : ℕ) (r : List Call) (m : ℕ) (call : Ca
 
 same_type : (s : List Call) (n : ℕ) (r : List Call) (m : ℕ) (call : Call) → SameAt s n r m call →
     type_of s n call ≡ type_of r m call
-same_type s n r m (C.Input name t control) e = refl
-same_type s n r m (C.Output name value control t) e = refl
-same_type s n r m (C.Scalar name t) e = refl
-same_type s n r m (C.Constant bits t) e = refl
-same_type s n r m (C.Operation op mode amount args t) e = refl
-same_type s n r m (C.Offset value k t) e = refl
-same_type s n r m (C.Feed t) e = refl
-same_type s n r m (C.Connect feed value) e = refl
-same_type s n r m (C.Hold value store t) e = refl
-same_type s n r m (C.Counter d) e = refl
 same_type s n r m C.Chain e = ap UInt e.bits
-same_type s n r m (C.ChainDigit chain d) e = refl
+same_type s n r m _ e = refl
 
 same_operands : (s : List Call) (n : ℕ) (r : List Call) (m : ℕ) (call : Call) → SameAt s n r m call →
     operands_by s n call ≡ operands_by r m call
-same_operands s n r m (C.Input name t control) e = refl
-same_operands s n r m (C.Output name value control t) e = refl
-same_operands s n r m (C.Scalar name t) e = refl
-same_operands s n r m (C.Constant bits t) e = refl
-same_operands s n r m (C.Operation op mode amount args t) e = refl
-same_operands s n r m (C.Offset value k t) e = refl
 same_operands s n r m (C.Feed t) e = e.connected
-same_operands s n r m (C.Connect feed value) e = refl
-same_operands s n r m (C.Hold value store t) e = refl
-same_operands s n r m (C.Counter d) e = refl
-same_operands s n r m C.Chain e = refl
-same_operands s n r m (C.ChainDigit chain d) e = refl
+same_operands s n r m _ e = refl
 
 same_digits : (s : List Call) (n : ℕ) (r : List Call) (m : ℕ) (call : Call) → SameAt s n r m call →
     digits_by s n call ≡ digits_by r m call
-same_digits s n r m (C.Input name t control) e = refl
-same_digits s n r m (C.Output name value control t) e = refl
-same_digits s n r m (C.Scalar name t) e = refl
-same_digits s n r m (C.Constant bits t) e = refl
-same_digits s n r m (C.Operation op mode amount args t) e = refl
-same_digits s n r m (C.Offset value k t) e = refl
-same_digits s n r m (C.Feed t) e = refl
-same_digits s n r m (C.Connect feed value) e = refl
-same_digits s n r m (C.Hold value store t) e = refl
-same_digits s n r m (C.Counter d) e = refl
 same_digits s n r m C.Chain e = e.digits
-same_digits s n r m (C.ChainDigit chain d) e = refl
+same_digits s n r m _ e = refl
 
 same_kind : (s : List Call) (n : ℕ) (r : List Call) (m : ℕ) (call : Call) → SameAt s n r m call → (kind : Kind) →
     IsKind s n call kind → IsKind r m call kind
-same_kind s n r m (C.Input name t control) e kind h = h
-same_kind s n r m (C.Output name value control t) e kind h = h
-same_kind s n r m (C.Scalar name t) e kind h = h
-same_kind s n r m (C.Constant bits t) e kind h = h
-same_kind s n r m (C.Operation op mode amount args t) e kind h = h
-same_kind s n r m (C.Offset value k t) e kind h = h
-same_kind s n r m (C.Feed t) e kind h = h
-same_kind s n r m (C.Connect feed value) e kind h = h
-same_kind s n r m (C.Hold value store t) e kind h = h
-same_kind s n r m (C.Counter d) e kind h = h
-same_kind s n r m C.Chain e kind h = h
 same_kind s n r m (C.ChainDigit chain d) e kind h = h ∙ ap K.Part (e.places chain d refl)
+same_kind s n r m _ e kind h = h
 
 pub same_node : (s : List Call) (n : ℕ) (r : List Call) (m : ℕ) (call : Call) (node : Node) → SameAt s n r m call →
     IsNode s n call node → IsNode r m call node

@@ -29,32 +29,12 @@ makes_some (newest ∷ older) n h = by_place (below_or n (count_of older)) (λ l
     below_or (suc a) (suc b) = elim (below_or a b) [ inl h ↦ inl (omega arith) | inr h ↦ inr (omega arith) ]
 
     one : (call : Call) → 0 < nodes_of call → nodes_of call ≡ 1
-    one (C.Input name t control) h = refl
-    one (C.Output name value control t) h = refl
-    one (C.Scalar name t) h = refl
-    one (C.Constant bits t) h = refl
-    one (C.Operation op mode amount args t) h = refl
-    one (C.Offset value k t) h = refl
-    one (C.Feed t) h = refl
     one (C.Connect feed value) h = absurd (omega arith)
-    one (C.Hold value store t) h = refl
-    one (C.Counter d) h = refl
-    one C.Chain h = refl
-    one (C.ChainDigit chain d) h = refl
+    one _ h = refl
 
     few : (call : Call) → nodes_of call ≤ 1
-    few (C.Input name t control) = omega arith
-    few (C.Output name value control t) = omega arith
-    few (C.Scalar name t) = omega arith
-    few (C.Constant bits t) = omega arith
-    few (C.Operation op mode amount args t) = omega arith
-    few (C.Offset value k t) = omega arith
     few (C.Feed t) = omega arith
-    few (C.Connect feed value) = omega arith
-    few (C.Hold value store t) = omega arith
-    few (C.Counter d) = omega arith
-    few C.Chain = omega arith
-    few (C.ChainDigit chain d) = omega arith
+    few _ = omega arith
 
     by_place : (n < count_of older) ⊎ (count_of older ≤ n) →
         (n < count_of older → (call : Call) × Makes older n call) → (call : Call) × Makes (newest ∷ older) n call
@@ -71,33 +51,17 @@ makes_some (newest ∷ older) n h = by_place (below_or n (count_of older)) (λ l
 
 chain_call : (so_far : List Call) (n : ℕ) (call : Call) (kind : Kind) → IsKind so_far n call kind →
     is_chain kind ≡ true → call ≡ C.Chain
-chain_call so_far n (C.Input name t control) kind is e = let f = ap is_chain is in absurd (cc)
-chain_call so_far n (C.Output name value control t) kind is e = let f = ap is_chain is in absurd (cc)
-chain_call so_far n (C.Scalar name t) kind is e = let f = ap is_chain is in absurd (cc)
 chain_call so_far n (C.Constant bits t) kind is e = let f = ap is_chain is.1 in absurd (cc)
-chain_call so_far n (C.Operation op mode amount args t) kind is e = let f = ap is_chain is in absurd (cc)
-chain_call so_far n (C.Offset value k t) kind is e = let f = ap is_chain is in absurd (cc)
-chain_call so_far n (C.Feed t) kind is e = let f = ap is_chain is in absurd (cc)
 chain_call so_far n (C.Connect feed value) kind is e = absurd is
-chain_call so_far n (C.Hold value store t) kind is e = let f = ap is_chain is in absurd (cc)
-chain_call so_far n (C.Counter d) kind is e = let f = ap is_chain is in absurd (cc)
 chain_call so_far n C.Chain kind is e = refl
-chain_call so_far n (C.ChainDigit chain d) kind is e = let f = ap is_chain is in absurd (cc)
+chain_call so_far n _ kind is e = let f = ap is_chain is in absurd (cc)
 
 feed_call : (so_far : List Call) (n : ℕ) (call : Call) (kind : Kind) → IsKind so_far n call kind →
     is_feed kind ≡ true → (t : StreamType) × (call ≡ C.Feed t)
-feed_call so_far n (C.Input name t control) kind is e = let f = ap is_feed is in absurd (cc)
-feed_call so_far n (C.Output name value control t) kind is e = let f = ap is_feed is in absurd (cc)
-feed_call so_far n (C.Scalar name t) kind is e = let f = ap is_feed is in absurd (cc)
 feed_call so_far n (C.Constant bits t) kind is e = let f = ap is_feed is.1 in absurd (cc)
-feed_call so_far n (C.Operation op mode amount args t) kind is e = let f = ap is_feed is in absurd (cc)
-feed_call so_far n (C.Offset value k t) kind is e = let f = ap is_feed is in absurd (cc)
 feed_call so_far n (C.Feed t) kind is e = (t, refl)
 feed_call so_far n (C.Connect feed value) kind is e = absurd is
-feed_call so_far n (C.Hold value store t) kind is e = let f = ap is_feed is in absurd (cc)
-feed_call so_far n (C.Counter d) kind is e = let f = ap is_feed is in absurd (cc)
-feed_call so_far n C.Chain kind is e = let f = ap is_feed is in absurd (cc)
-feed_call so_far n (C.ChainDigit chain d) kind is e = let f = ap is_feed is in absurd (cc)
+feed_call so_far n _ kind is e = let f = ap is_feed is in absurd (cc)
 
 left_of : (a b : Bool) → (a && b) ≡ true → a ≡ true
 left_of true b e = refl

@@ -1,6 +1,9 @@
 -- What a fact of a kind says of it, and which call makes a node of a kind.
-use Rattle.std.proofs.Common.{◌≡◌, ℕ, true, List, refl, ap, sym, subst, inl, inr, ◌⊎◌}
+use Rattle.std.proofs.Common.{◌≡◌, ℕ, ◌<◌, true, false, List, [], ◌∷◌, length, get_or, refl, ap, sym, ◌∙◌, subst, arith, inl, inr, ◌⊎◌}
 use Rattle.std.specs.Prelude.{ℤ, Option, Some, None}
+use Rattle.std.proofs.lemmas.Bool.{false≢true}
+use Rattle.fix_arith.specs.declared.types.StreamType.{StreamType}
+use Rattle.kernel_calls.specs.Laws.{IsLawful, IsStream, IsControl, MayControl}
 use Rattle.mx_bits.specs.declared.word.Word.{Word}
 use Rattle.kernel_calls.specs.declared.call.Call.{Call}
 use Rattle.kernel_calls.specs.declared.call.Call.TheVariants as C
@@ -9,7 +12,7 @@ use Rattle.stream_graph.specs.declared.node.Kind.TheVariants as K
 use Rattle.stream_graph.specs.declared.role.Role.TheVariants as R
 use Rattle.stream_graph.specs.declared.role.PortSide.{PortSide}
 use Rattle.stream_graph.specs.declared.role.PortSide.TheVariants as S
-use Rattle.stream_graph.specs.Nodes.{IsKind}
+use Rattle.stream_graph.specs.Nodes.{IsKind, type_of, operands_by, one_or_none}
 use Rattle.stream_graph.specs.Kinds.{
   role_of,
   IsOfRole,
@@ -27,6 +30,8 @@ use Rattle.stream_graph.specs.Kinds.{
   is_on,
   call_side,
   control_place,
+  is_place,
+  takes_bit,
   fixed_operands,
   IsCallOf,
 }
@@ -72,6 +77,13 @@ state_is K.Counter e = inr (inl refl)
 state_is K.Chain e = inr (inr refl)
 state_is _ e = absurd (cc)
 
+-- a node that keeps a state has a word of its own in each tick
+pub state_moves : (kind : Kind) → keeps_state kind ≡ true → (is_offset kind ≡ false) × (is_steady kind ≡ false)
+state_moves K.Hold e = (refl, refl)
+state_moves K.Counter e = (refl, refl)
+state_moves K.Chain e = (refl, refl)
+state_moves _ e = absurd (cc)
+
 pub counts_is : (kind : Kind) → counts kind ≡ true → (kind ≡ K.Counter) ⊎ (kind ≡ K.Chain)
 counts_is K.Counter e = inl refl
 counts_is K.Chain e = inr refl
@@ -113,6 +125,14 @@ control_is K.Output place e = inr (inl (refl, cc))
 control_is K.Hold place e = inr (inr (refl, cc))
 control_is _ place e = absurd (cc)
 
+at_place : (own : Option ℕ) (place : ℕ) → is_place own place ≡ true → own ≡ Some place
+at_place None place e = absurd (cc)
+at_place (Some own) place e = let same : place ≡ own = grind (arith, e) in cc
+
+-- a place of a bit is that of the control or the store
+pub takes_at : (kind : Kind) (place : ℕ) → takes_bit kind place ≡ true → control_place kind ≡ Some place
+takes_at kind place e = at_place (control_place kind) place e
+
 -- one word in all ticks has no operands
 pub steady_fixed : (kind : Kind) → is_steady kind ≡ true → fixed_operands kind ≡ Some 0
 steady_fixed K.Scalar e = refl
@@ -150,3 +170,45 @@ pub side_kept : (so_far : List Call) (n : ℕ) (call : Call) (kind : Kind) → I
 side_kept so_far n (C.Constant bits t) kind i = ap side_of i.1
 side_kept so_far n (C.Connect feed value) kind i = absurd i
 side_kept so_far n _ kind i = ap side_of i
+
+some_eq : {A : Type 0} {x y : A} → Some x ≡ Some y → x ≡ y
+some_eq e = cc
+
+none_some : {A : Type 0} {x : A} → None ≡ Some x → ⊥
+none_some e = cc
+
+one_control : (older : List Call) (control : Option ℕ) → MayControl older control → 0 < length (one_or_none control)
+    → IsControl older (get_or (one_or_none control) 0 0)
+one_control older None m h = absurd (omega (arith, h))
+one_control older (Some n) m h = m
+
+-- the control of a lawful port, and the store of a lawful hold
+pub control_call : (so_far older : List Call) (n place : ℕ) (call : Call) (kind : Kind) → IsKind so_far n call kind
+    → control_place kind ≡ Some place → IsLawful older call → place < length (operands_by so_far n call)
+    → IsControl older (get_or (operands_by so_far n call) place 0)
+control_call so_far older n place (C.Input name t control) kind i e l =
+    subst (λ p. p < length (one_or_none control) → IsControl older (get_or (one_or_none control) p 0))
+    (some_eq (sym (ap control_place i) ∙ e)) (one_control older control l.2)
+control_call so_far older n place (C.Output name value control t) kind i e l =
+    subst (λ p. p < length (value ∷ one_or_none control) → IsControl older (get_or (value ∷ one_or_none control) p 0))
+    (some_eq (sym (ap control_place i) ∙ e)) (λ h. one_control older control l.2 (omega (arith, h)))
+control_call so_far older n place (C.Hold value store t) kind i e l =
+    subst (λ p. p < length (value ∷ store ∷ []) → IsControl older (get_or (value ∷ store ∷ []) p 0))
+    (some_eq (sym (ap control_place i) ∙ e)) (λ h. l.1)
+control_call so_far older n place (C.Constant bits t) kind i e l =
+    absurd (none_some (sym (ap control_place i.1) ∙ e))
+control_call so_far older n place (C.Connect feed value) kind i e l = absurd i
+control_call so_far older n place _ kind i e l = absurd (none_some (sym (ap control_place i) ∙ e))
+
+-- what a lawful call of such a kind takes first has the node's type; or it makes a feed
+pub like_call : (so_far older : List Call) (n : ℕ) (call : Call) (kind : Kind) → IsKind so_far n call kind
+    → is_like_first kind ≡ true → IsLawful older call
+    → ((t : StreamType) × (call ≡ C.Feed t))
+    ⊎ ((0 < length (operands_by so_far n call)) × IsStream older (get_or (operands_by so_far n call) 0 0) (type_of so_far n call))
+like_call so_far older n (C.Output name value control t) kind i e l = inr (omega arith, l.1)
+like_call so_far older n (C.Offset value k t) kind i e l = inr (omega arith, l.0)
+like_call so_far older n (C.Feed t) kind i e l = inl (t, refl)
+like_call so_far older n (C.Hold value store t) kind i e l = inr (omega arith, l.0)
+like_call so_far older n (C.Constant bits t) kind i e l = absurd (false≢true (sym (ap is_like_first i.1) ∙ e))
+like_call so_far older n (C.Connect feed value) kind i e l = absurd i
+like_call so_far older n _ kind i e l = absurd (false≢true (sym (ap is_like_first i) ∙ e))

@@ -85,18 +85,8 @@ record IsRow (call : Call) : Type 0 where
   pub args : args_of call ≤ operands_of call
 
 is_row : (call : Call) → IsRow call
-is_row (C.Input name t control) = record { one = refl; args = omega arith }
-is_row (C.Output name value control t) = record { one = refl; args = omega arith }
-is_row (C.Scalar name t) = record { one = refl; args = omega arith }
-is_row (C.Constant bits t) = record { one = refl; args = omega arith }
 is_row (C.Operation op mode amount args t) = record { one = refl; args = omega arith }
-is_row (C.Offset value k t) = record { one = refl; args = omega arith }
-is_row (C.Feed t) = record { one = refl; args = omega arith }
-is_row (C.Connect feed value) = record { one = refl; args = omega arith }
-is_row (C.Hold value store t) = record { one = refl; args = omega arith }
-is_row (C.Counter d) = record { one = refl; args = omega arith }
-is_row C.Chain = record { one = refl; args = omega arith }
-is_row (C.ChainDigit chain d) = record { one = refl; args = omega arith }
+is_row _ = record { one = refl; args = omega arith }
 
 next_has : (call : Call) (before mid after : Tally) (g : Graph) → IsRow call → Counts before call mid →
     Grows mid after → Leaves g before after → HasSpace g call

@@ -97,18 +97,8 @@ nodes_more [] row = refl
 nodes_more (r ∷ rs) row = let e = nodes_more rs row in omega arith
 
 nodes_same : (bytes operands : List ℕ) (row : Row) → nodes_of (call_by bytes operands row) ≡ nodes_by row
-nodes_same bytes operands (R.Input name t control) = refl
-nodes_same bytes operands (R.Output name value control t) = refl
-nodes_same bytes operands (R.Scalar name t) = refl
-nodes_same bytes operands (R.Constant bits t) = refl
-nodes_same bytes operands (R.Operation op mode amount args t) = refl
-nodes_same bytes operands (R.Offset value k t) = refl
 nodes_same bytes operands (R.Feed t) = refl
-nodes_same bytes operands (R.Connect feed value) = refl
-nodes_same bytes operands (R.Hold value store t) = refl
-nodes_same bytes operands (R.Counter d) = refl
-nodes_same bytes operands R.Chain = refl
-nodes_same bytes operands (R.ChainDigit chain d) = refl
+nodes_same bytes operands _ = refl
 
 -- rows make as many nodes as their calls
 pub count_same : (bytes operands : List ℕ) (rows : List Row) →

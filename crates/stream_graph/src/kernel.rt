@@ -1,6 +1,7 @@
 // A kernel, node by node.
-ghost use Rattle.std.specs.Prelude.{◌≡◌, ◌<◌, ◌≤◌, Some, length, slice_get, All, IfOk};
+ghost use Rattle.std.specs.Prelude.{◌≡◌, ◌<◌, ◌≤◌, Some, length, slice_get, All, IfOk, IsTrue};
 ghost use Rattle.std.specs.Option.{option_map};
+ghost use Rattle.kernel_calls.specs.Laws.{is_port_name};
 ghost use Rattle.stream_graph.specs.Kernels.{AreKernel};
 
 use crate::node::Node;
@@ -9,11 +10,12 @@ use counter_chains::CounterDigit;
 use mx_base::{List, NoMemory, Text};
 use std::alloc::Global;
 
-/// A kernel: its name, and the nodes that lawful calls made, in the order of their calls.
+/// A kernel: its name, which is a letter with letters, digits and `_`, and the nodes that lawful calls made, in the order of their calls.
 #[derive(Debug, Drop)]
 pub struct Kernel {
     pub(crate) name: Text,
     pub(crate) nodes: List<Node>,
+    ghost named: { IsTrue (is_port_name name) },
     ghost few: { length nodes ≤ 4096 },
     ghost made: { ∥ AreKernel nodes ∥₁ },
 }

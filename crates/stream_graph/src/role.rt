@@ -107,7 +107,10 @@ impl Kind {
     pub fn is_like_first(self) -> bool
         ensures { result ≡ is_like_first self }
     {
-        matches!(self, Kind::Output | Kind::Offset(_) | Kind::Feed | Kind::Hold)
+        matches!(
+            self,
+            Kind::Output | Kind::Offset(_) | Kind::Feed | Kind::Hold
+        )
     }
 
     /// The place, among a node's operands, of the control of a port, where it has one, or of the

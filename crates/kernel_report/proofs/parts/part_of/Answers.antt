@@ -23,7 +23,7 @@ returns c =
     let flow : c.from_vec-2.result ≡ schedule.answer.flow = search rules in
     let times : c.in_ok-first_times.field-0 ≡ take (length kernel.nodes) schedule.answer.times =
     c.in_ok-first_times.ensures ∙ ap (λ n. take n schedule.answer.times) c.count-nodes.ensures in
-    let part = part_is c.args.table.now kernel schedule c.requires.least _ c.requires.name
+    let part = part_is c.args.table.now kernel schedule c.requires.least _ kernel.named
     c.requires.most c.requires.small c.requires.bits name c.count-nodes.ensures edges times flow in
     record {
       part = part;

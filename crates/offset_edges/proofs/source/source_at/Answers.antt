@@ -1,4 +1,4 @@
-use Rattle.std.proofs.Common.{arith, ◌≡◌, ℕ, ◌<◌, ◌≤◌, ◌^◌, ◌∙◌, ap, sym, length, get_or, List}
+use Rattle.std.proofs.Common.{arith, ◌≡◌, ℕ, ◌<◌, ◌≤◌, ◌^◌, ◌∙◌, ap, sym, length, get_or, List, false, ⊎_elim}
 use Rattle.std.specs.Prelude.{ℤ, pos, ◌+ℤ◌, unsigned_abs}
 use Rattle.std.proofs.lemmas.Int.{ints}
 use Rattle.std.proofs.lemmas.List.{get_or_read}
@@ -8,9 +8,10 @@ use Rattle.stream_graph.specs.Kernels.{AreKernel}
 use Rattle.offset_edges.specs.declared.source.Source.{Source}
 use Rattle.stream_graph.specs.LookUps.{kind_at, operand_at}
 use Rattle.offset_edges.specs.Edges.{source_of, new_source, AreSources}
+use Rattle.stream_graph.specs.Kinds.{is_offset}
 use Rattle.stream_graph.proofs.NodeLemmas.{orderly}
 use Rattle.stream_graph.proofs.Reading.{view_read, operands_read}
-use Rattle.offset_edges.proofs.SourceLemmas.{source_past, source_known}
+use Rattle.offset_edges.proofs.SourceLemmas.{kind_cases, source_past, source_here, source_known}
 use Rattle.offset_edges.proofs.source.source_at.Goals as goal
 
 pub bounds-operands-0 : goal.bounds-operands-0
@@ -119,3 +120,16 @@ returns c =
     let s = b.size in
     let e = c.from.ensures in
     joined _ _ _ _ b.past (omega (arith, ints))
+
+-- a node that is no offset is read as itself
+pub returns-in_default : goal.returns-in_default
+returns-in_default c =
+    let nodes = c.args.kernel.now.nodes in
+    let v = view_read nodes c.new-id.result c.args.number c.node.result c.new-id.ensures
+    c.node.ensures in
+    ⊎_elim
+    (λ (p : (ticks : ℤ) × (kind_at nodes c.args.number ≡ K.Offset ticks)).
+    absurd (c.in_default.not-Offset p.0 (ap (λ w. w.kind) v ∙ p.1)))
+    (λ (h : is_offset (kind_at nodes c.args.number) ≡ false).
+    sym (source_here nodes (orderly nodes c.args.kernel.now.made) c.args.number c.requires.node h))
+    (kind_cases (kind_at nodes c.args.number))

@@ -60,6 +60,7 @@ invariant_of-result c =
     let n = as_many c.args.self c.in_ok-nodes.nodes.items c.in_ok-nodes.ensures in
     let r = ap length c.from_vec.ensures in
     record {
+      named = c.requires.name;
       few = omega arith;
       made = ∣ (
         received c.args.self,
