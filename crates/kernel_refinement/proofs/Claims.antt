@@ -71,7 +71,7 @@ use Rattle.stream_equations.specs.Equations.{
 }
 use Rattle.stream_equations.specs.Words.{IsGuarded}
 use Rattle.rtl_ir.specs.Run.{Same}
-use Rattle.rtl_delays.specs.Delays.{IsWord, IsDelay, IsTap, Shows}
+use Rattle.rtl_delays.specs.Delays.{IsWord, IsDelay, IsTap, Shows as NetShows}
 use Rattle.kernel_control.specs.Ports.{ModuleNets, scalars_of}
 use Rattle.kernel_control.specs.Refines.{is_active, last_time}
 use Rattle.kernel_refinement.specs.States.{IsCounter, kept}
@@ -247,7 +247,7 @@ module _ (m : Module) (nodes : List Node) (ticks times : ℕ → ℕ) (q : Modul
         → IsWord (val o (pos (p - times v))) (f a)
     tap_word s v o a tap le earlier = by_follow (followed nodes r val s.eqs o o (pos (p - times v)))
       where
-        by_shows : ((is_steady (kind_at nodes (source_of nodes o).node) ≡ true) × Shows m (l.word (source_of nodes o).node) a)
+        by_shows : ((is_steady (kind_at nodes (source_of nodes o).node) ≡ true) × NetShows m (l.word (source_of nodes o).node) a)
             ⊎ IsBehind m ticks times run q.reset l (edge_from nodes v o) a
             → IsWord (val (source_of nodes o).node (pos (p - times v) +ℤ (source_of nodes o).offset)) (f a)
         by_shows (inl h) =

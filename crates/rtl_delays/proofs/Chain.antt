@@ -4,6 +4,7 @@ use Rattle.std.proofs.lemmas.Bool.{leb-true, le-leb}
 use Rattle.rtl_ir.specs.declared.design.Module.{Module}
 use Rattle.rtl_ir.specs.Value.{Family, Contents}
 use Rattle.rtl_ir.specs.Grow.{Grows}
+use Rattle.rtl_ir.proofs.Grow.{holds_before}
 use Rattle.rtl_delays.specs.Delays.{IsWord}
 use Rattle.rtl_delays.specs.Steps.{IsSound, Steps}
 use Rattle.rtl_delays.specs.Delays.{Delays, IsDelay, IsTap, Shows, of_net}
@@ -12,6 +13,11 @@ use Rattle.rtl_delays.proofs.Moves.{steps_before}
 -- a delay stays one
 pub delay_kept : (m n : Module) (run reset : ℕ) (from : Family → ℕ) (to d : ℕ) → Grows m n → IsSound m → IsDelay m run reset from to d → IsDelay n run reset from to d
 delay_kept m n run reset from to d g s h f c v vs e = h f c v vs (steps_before m n g s c (v ∷ vs) e)
+
+-- so does a net that shows a value, as it stands or later
+pub tap_kept : (m n : Module) (run reset : ℕ) (from : Family → ℕ) (to d : ℕ) → Grows m n → IsSound m → IsTap m run reset from to d → IsTap n run reset from to d
+tap_kept m n run reset from to zero g s h = λ c v k. h c v (holds_before m n g s.range c v k)
+tap_kept m n run reset from to (suc d) g s h = delay_kept m n run reset from to (suc d) g s h
 
 -- the words of a net that is d behind
 abbrev pub behind : (ℕ → Option ℕ) → ℕ → ℕ → Option ℕ
@@ -56,5 +62,5 @@ delay_shown m run reset a b c d s h f w v vs t e none = shown_runs m run a b c f
 -- a delay after a net that shows a value, as it stands or later
 pub tap_on : (m : Module) (run reset : ℕ) (a : Family → ℕ) (b c d e : ℕ) → IsTap m run reset a b d → IsDelay m run reset (of_net b) c e
     → IsDelay m run reset a c (d + e)
-tap_on m run reset a b c zero e t h = delay_shown m run reset a b c e t h
+tap_on m run reset a b c zero e t h = let q : e ≡ 0 + e = omega arith in subst (IsDelay m run reset a c) q (delay_shown m run reset a b c e t h)
 tap_on m run reset a b c (suc d) e t h = delay_on m run reset a b c (suc d) e t h
