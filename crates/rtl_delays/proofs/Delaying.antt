@@ -117,8 +117,8 @@ ring_delays m run reset from to at k words r f c v vs s e none =
         let within : v at < depth_of m k = subst (λ w. v at < w) (sym r.depth) in' in
         let cells : (i : ℕ) → s.0.cells k i ≡ cond (on && eqb i (c.regs at)) (v from) (c.cells k i) =
         λ i. update_moves m c v s.0 (record { enable = run; target = Cell k at; value = from }) r.writes s.1.0 i
-            ∙ ap (λ b. cond (on && (b && eqb i (v at))) (v from) (c.cells k i)) (lt-ltb (v at) (depth_of m k) within)
-            ∙ ap (λ a. cond (on && eqb i a) (v from) (c.cells k i)) here in
+        ∙ ap (λ b. cond (on && (b && eqb i (v at))) (v from) (c.cells k i)) (lt-ltb (v at) (depth_of m k) within)
+        ∙ ap (λ a. cond (on && eqb i a) (v from) (c.cells k i)) here in
         let P : ℕ → Type 0 = λ i. IsWord (f (p - words)) (c.cells k i) in (
           (λ le. subst (IsWord (f (p - words))) (sym shown) (subst P (back_all words (c.regs at) lt) (h words r.some (omega arith) le))),
           λ known.

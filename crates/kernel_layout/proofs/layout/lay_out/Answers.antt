@@ -14,14 +14,16 @@ all_reads-requires-clause-times c =
     times_from c.args.kernel.now.nodes (slice_index c.args.latencies.now) (numbers_of c.args.times.now) c.requires.begin c.requires.most c.requires.legal
 
 pub all_waits-requires : goal.all_waits-requires
-all_waits-requires c = record { producers = λ k d h.
-    let nodes = c.args.kernel.now.nodes in
-    let ticks = slice_index c.args.latencies.now in
-    let s = numbers_of c.args.times.now in
-    let t = times_from nodes ticks s c.requires.begin c.requires.most c.requires.legal in
-    let e = edges_small nodes (orderly nodes c.args.kernel.now.made) c.args.kernel.now.few in
-    subst (λ n. (slice_index_or c.args.chains.now k d).producer < n) (sym c.requires.latencies)
-    (producers_below nodes ticks s t c.requires.legal e c.args.chains.now c.requires.chains k d h) }
+all_waits-requires c = record {
+  producers = λ k d h.
+      let nodes = c.args.kernel.now.nodes in
+      let ticks = slice_index c.args.latencies.now in
+      let s = numbers_of c.args.times.now in
+      let t = times_from nodes ticks s c.requires.begin c.requires.most c.requires.legal in
+      let e = edges_small nodes (orderly nodes c.args.kernel.now.made) c.args.kernel.now.few in
+      subst (λ n. (slice_index_or c.args.chains.now k d).producer < n) (sym c.requires.latencies)
+      (producers_below nodes ticks s t c.requires.legal e c.args.chains.now c.requires.chains k d h);
+}
 
 pub order-requires-clause-loops : goal.order-requires-clause-loops
 order-requires-clause-loops c =

@@ -16,11 +16,11 @@ loop-wait-init c =
     ap (λ (es : List Element). slice_get es (length es - 1)) (sym c.as_slice.ensures) ∙ sym c.last.ensures.value in
     let signals : c.match-last.signals ≡ end_of pipeline = elim c.match-last.branch [
       | in-Some+in_ok-push w ↦ (
-        let last = w.in-Some.last.now in
-        let is : slice_get pipeline (length pipeline - 1) ≡ Some last = at ∙ ap option_copied w.in-Some.is in
-        w.signals-is ∙ w.in_ok-push.ensures.ok
-        ∙ ap (λ (l : List Signal). l ++ w.shown.result ∷ []) c.new-signals.ensures
-        ∙ ap (λ (s : Signal). s ∷ []) w.shown.ensures ∙ sym (end_is pipeline last is))
+          let last = w.in-Some.last.now in
+          let is : slice_get pipeline (length pipeline - 1) ≡ Some last = at ∙ ap option_copied w.in-Some.is in
+          w.signals-is ∙ w.in_ok-push.ensures.ok
+          ∙ ap (λ (l : List Signal). l ++ w.shown.result ∷ []) c.new-signals.ensures
+          ∙ ap (λ (s : Signal). s ∷ []) w.shown.ensures ∙ sym (end_is pipeline last is))
       | in_default w ↦ (w.signals-is ∙ c.new-signals.ensures ∙ sym (no_end pipeline (at ∙ ap option_copied w.in_default.is)))
     ] in
     record { told = ap (λ l. l ++ map shown c.as_slice-wait-items.result.now) signals }
