@@ -206,15 +206,7 @@ module _ (m : Module) (nodes : List Node) (ticks times : ℕ → ℕ) (q : Modul
         by_place (inl (n, (at, below))) =
             as_word (l.word u f) (ap (val u) at ∙ s.eqs.inside u n lt below ∙ ap (right_side nodes r val u n) e) (built c f s.holds)
         by_place (inr out) = none_word (l.word u f) (s.eqs.outside u t out)
-    steady s u K.Input t lt e h built = absurd (false≢true h)
-    steady s u K.Output t lt e h built = absurd (false≢true h)
-    steady s u (K.Operation op mode amount) t lt e h built = absurd (false≢true h)
-    steady s u (K.Offset j) t lt e h built = absurd (false≢true h)
-    steady s u K.Feed t lt e h built = absurd (false≢true h)
-    steady s u K.Hold t lt e h built = absurd (false≢true h)
-    steady s u K.Counter t lt e h built = absurd (false≢true h)
-    steady s u K.Chain t lt e h built = absurd (false≢true h)
-    steady s u (K.Part place) t lt e h built = absurd (false≢true h)
+    steady s u _ t lt e h built = absurd (false≢true h)
 
     -- a net behind a producer's
     behind_word : Scene → (v o a : ℕ) → (source_of nodes o).node < length nodes → is_offset (kind_at nodes (source_of nodes o).node) ≡ false
@@ -283,14 +275,7 @@ module _ (m : Module) (nodes : List Node) (ticks times : ℕ → ℕ) (q : Modul
         by_kind K.Input guard reads = let_at val f (p - times v) (operands_at nodes v) (l.taps v) 0 (reads refl) guard
         by_kind K.Output guard reads = let_at val f (p - times v) (operands_at nodes v) (l.taps v) 1 (reads refl) guard
         by_kind K.Hold guard reads = let_at val f (p - times v) (operands_at nodes v) (l.taps v) 1 (reads refl) guard
-        by_kind K.Scalar guard reads = refl
-        by_kind (K.Constant w) guard reads = refl
-        by_kind (K.Operation op mode amount) guard reads = refl
-        by_kind (K.Offset j) guard reads = refl
-        by_kind K.Feed guard reads = refl
-        by_kind K.Counter guard reads = refl
-        by_kind K.Chain guard reads = refl
-        by_kind (K.Part place) guard reads = refl
+        by_kind _ guard reads = refl
 
     -- so it is shown as due where it is
     shown_is : Scene → (v : ℕ) → v < length nodes → (has_taps (kind_at nodes v) ≡ true → times v ≤ p → Reads v)

@@ -126,16 +126,7 @@ module _ (nodes : List Node) (r : GivenRun) (val : Values) (eqs : StreamEquation
           (past k o (source_within more nodes (operand_at nodes o 0))).offset
       by_kind (K.Offset j) e behind =
           over_offset o j (source_within more nodes (operand_at nodes o 0)).node (source_within more nodes (operand_at nodes o 0)).offset e behind
-      by_kind K.Input e behind = itself val o
-      by_kind K.Output e behind = itself val o
-      by_kind K.Scalar e behind = itself val o
-      by_kind (K.Constant word) e behind = itself val o
-      by_kind (K.Operation op mode amount) e behind = itself val o
-      by_kind K.Feed e behind = itself val o
-      by_kind K.Hold e behind = itself val o
-      by_kind K.Counter e behind = itself val o
-      by_kind K.Chain e behind = itself val o
-      by_kind (K.Part place) e behind = itself val o
+      by_kind _ e behind = itself val o
 
 -- ---- under operations
 
