@@ -33,8 +33,8 @@ IsReadBehind nodes s u behind =
     (j : ℕ) × (j < length (edges_of nodes)) × ((edge_at (edges_of nodes) j).from ≡ u)
     × (behind_of s (edge_at (edges_of nodes) j) ≡ pos behind)
 
--- The waits of node u, in rising order: one for each number of advances, above 0, for which its word
--- waits behind its latency. No word is read before its latency.
+-- The waits of node u, in rising order: one for each number of advances, above 0, for which its
+-- word waits behind its latency. No word is read before its latency.
 pub record AreWaits (nodes : List Node) (ticks : ℕ → ℕ) (s : Numbers) (u : ℕ) (waits : List ℕ) :
     Type 0
   where

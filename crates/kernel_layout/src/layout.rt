@@ -18,9 +18,9 @@ use std::alloc::Global;
 use stream_graph::Kernel;
 
 /// Where the words of a kernel's nodes stand, in node order: how each node reads its operands, an
-/// offset none; the advances that its pipeline takes, which are its latency; the numbers of advances
-/// for which its word waits behind that, in rising order; and the nodes in an order in which each
-/// comes after those whose words it reads as they are computed.
+/// offset none; the advances that its pipeline takes, which are its latency; the numbers of
+/// advances for which its word waits behind that, in rising order; and the nodes in an order in
+/// which each comes after those whose words it reads as they are computed.
 #[derive(Debug, Drop)]
 pub struct Layout {
     pub reads: List<List<Read>>,

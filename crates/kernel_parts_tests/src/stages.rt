@@ -10,7 +10,7 @@ use rtl_build::{Netlist, Signal};
 use rtl_ir::Module;
 use std::alloc::Global;
 
-// The module, and the signals that show words later: two of the first node and one of the other one.
+// The module, and the signals that show words later: two of the first node and one of the other.
 #[derive(Drop)]
 pub(crate) struct ShownStages {
     pub(crate) module: Module,

@@ -23,8 +23,8 @@ const MOST_BITS: i128 = 1 << 28;
 
 /// The layout of a kernel's module at its least schedule by some table of latencies, whose times
 /// are at most 2^46, with the bits of the schedule's FIFOs: the words that wait by the layout are
-/// those of these FIFOs, and its pipelines have a register for each advance of a latency, at most 64
-/// for a node. There is at most one wait for an operand. Errors: `TooManyBits`, with the bits,
+/// those of these FIFOs, and its pipelines have a register for each advance of a latency, at most
+/// 64 for a node. There is at most one wait for an operand. Errors: `TooManyBits`, with the bits,
 /// exactly where the FIFOs hold more than 2^28 bits; else want of memory.
 pub fn plan(alloc: Global, kernel: &Kernel, schedule: &Schedule) -> Result<Plan, PlanError>
     requires least { IsScheduled kernel.now.nodes schedule.now }

@@ -247,7 +247,8 @@ waiting to from offset delay ticks behind b d h = record {
 
 -- the word of a read is kept so late as it is read
 pub kept_stage : (nodes : List Node) (ticks : ℕ → ℕ) (times : Numbers) (layout : Layout) → IsOrderly nodes
-    → AreLatencies ticks (length nodes) layout.pipeline → AreAllWaits nodes ticks times (length nodes) layout.waits → (n i : ℕ) (read : Read) → n < length nodes → is_offset (kind_at nodes n) ≡ false
+    → AreLatencies ticks (length nodes) layout.pipeline → AreAllWaits nodes ticks times (length nodes) layout.waits
+    → (n i : ℕ) (read : Read) → n < length nodes → is_offset (kind_at nodes n) ≡ false
     → i < length (operands_at nodes n) → IsRead nodes times n (operand_at nodes n i) read → (read.behind ≡ 0 → ⊥)
     → Contains (stages_at layout read.source) read.behind
 kept_stage nodes ticks times layout orderly same all n i read ln f li r waits =

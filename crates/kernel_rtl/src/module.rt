@@ -121,8 +121,8 @@ fn add_kernel(
 /// The module of a kernel at these times, by a layout at them: it refines the kernel, its ports are
 /// its first nets, in their order, and it stores the 48 bits of its position, the states of its
 /// holds, counters and chains, the registers of its nodes' pipelines, the words that wait behind
-/// these, and the pointers of those that are kept in memories. Its nets are at most `most_nets`, named by their numbers past its
-/// ports (`IsPartial`), and it has a memory for each ring.
+/// these, and the pointers of those that are kept in memories. Its nets are at most `most_nets`,
+/// named by their numbers past its ports (`IsPartial`), and it has a memory for each ring.
 ///
 /// The kernel's name is a letter and then letters, digits and `_`. Times are in advances, from 0 to
 /// 2^46, in node order. The only error is `NoMemory`, also where the module has 2^32 nets.

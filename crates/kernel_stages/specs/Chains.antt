@@ -1,6 +1,6 @@
--- The delays of nodes, two chains for each node: the first delay of its pipeline follows the word of
--- the node, the first one of its waits the end of the pipeline, and each other one the delay before
--- it.
+-- The delays of nodes, two chains for each node: the first delay of its pipeline follows the word
+-- of the node, the first one of its waits the end of the pipeline, and each other one the delay
+-- before it.
 use Rattle.std.specs.Prelude.{
   ◌≡◌,
   ℕ,

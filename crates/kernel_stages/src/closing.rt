@@ -85,9 +85,9 @@ fn close_node(
 
 /// Lets the pipeline of each node follow the node's word, and each of its waits the one before it,
 /// the first one the end of the pipeline. The delays are those of `start_stages`, or others that
-/// nothing writes yet. They advance where `run`, of one bit, is 1; a reset edge begins them anew. So
-/// the end of a pipeline shows the word that its node had its latency ago, and each wait what the
-/// end of the pipeline showed so many advances ago. The only error is want of memory.
+/// nothing writes yet. They advance where `run`, of one bit, is 1; a reset edge begins them anew.
+/// So the end of a pipeline shows the word that its node had its latency ago, and each wait what
+/// the end of the pipeline showed so many advances ago. The only error is want of memory.
 pub fn close_stages(
     netlist: &mut Netlist,
     run: Signal,

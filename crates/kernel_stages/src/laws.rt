@@ -38,7 +38,8 @@ pub fn followed_words()
 {}
 
 /// After `close_stages`, the end of a node's pipeline shows the word that the node had its latency
-/// ago, and each of its waits, so many advances later, whatever value the end of the pipeline shows.
+/// ago, and each of its waits, so many advances later, whatever value the end of the pipeline
+/// shows.
 pub fn kept_words()
     ensures word { (m : Module) (run reset : ℕ) (words : List Signal) (delays : List NodeDelays)
         → AreDelays m run reset words delays

@@ -1,5 +1,5 @@
 -- The signals of stages.
-use Rattle.std.proofs.Common.{◌≡◌, ◌∙◌, ℕ, zero, suc, ◌+◌, ◌<◌, ◌≤◌, true, false, cond, eqb, List, [], ◌∷◌, map, length, drop, get_or, refl, ap, sym, arith, ⊎_elim}
+use Rattle.std.proofs.Common.{◌≡◌, ◌∙◌, ℕ, zero, suc, ◌+◌, ◌-◌, ◌<◌, ◌≤◌, true, false, cond, eqb, List, [], ◌∷◌, map, length, take, drop, take_all, get_or, refl, ap, sym, arith, ⊎_elim}
 use Rattle.std.proofs.lemmas.Bool.{cases_Bool, cases_eq}
 use Rattle.std.specs.Prelude.{Contains}
 use Rattle.rtl_build.specs.declared.signal.Signal.{Signal}
@@ -119,3 +119,8 @@ module _ (latency : ℕ) (waits : List ℕ) (behind : ℕ) where
       by_latency (suc l) (s ∷ signals) some sum more same =
           let t : eqb (suc l) behind ≡ false = not_equal (suc l) behind (λ e. more (omega (arith, sum, e))) in
           ap (λ b. cond b s (late_of (map (λ w. suc l + w) waits) signals behind)) t ∙ late_behind (suc l) behind wait waits signals sum
+
+-- all signals but the first one
+pub rest_is : (signals : List Signal) → take (length signals - 1) (drop 1 signals) ≡ drop 1 signals
+rest_is [] = take_all 0 [] (omega arith)
+rest_is (s ∷ signals) = take_all (length (s ∷ signals) - 1) signals (omega arith)

@@ -1,5 +1,6 @@
-use Rattle.std.proofs.Common.{◌≡◌, ◌+◌, ◌-◌, ◌≤◌, sym, ◌∙◌, arith}
-use Rattle.kernel_wiring.proofs.Stages.{stage_least, wait_among, late_ready, late_rest}
+use Rattle.std.proofs.Common.{◌≡◌, ◌+◌, ◌-◌, ◌≤◌, sym, ap, ◌∙◌, arith}
+use Rattle.kernel_wiring.proofs.Stages.{stage_least, wait_among, late_ready, late_rest, rest_is}
+use Rattle.kernel_wiring.specs.Words.{late_of}
 use Rattle.kernel_wiring.proofs.taps.late_signal.Goals as goal
 
 pub overflow_sub-wait : goal.overflow_sub-wait
@@ -26,6 +27,8 @@ pub returns : goal.returns
 returns c =
     let least = stage_least c.args.latency c.args.waits.now c.args.behind c.if-latency-eq0.false c.requires.kept in
     let same = c.from.ensures in
+    let wait = c.args.behind - c.from.result in
     c.waiting_signal-2.ensures
+    ∙ ap (λ signals. late_of c.args.waits.now signals wait) (rest_is c.args.signals.now)
     ∙ sym (late_rest c.args.latency c.args.waits.now c.args.behind (c.args.behind - c.from.result) c.args.signals.now c.if-latency-eq0.false
     (omega (arith, least, same)) c.if-wait-eq0.false c.requires.same)
