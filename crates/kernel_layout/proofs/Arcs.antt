@@ -11,7 +11,7 @@ use Rattle.offset_edges.specs.Edges.{edges_of, edge_at}
 use Rattle.offset_edges.specs.Problems.{arcs_over, problem_over}
 use Rattle.fifo_sharing.specs.Chains.{producer_of, consumer_of, delay_of, IsDelayOf}
 use Rattle.kernel_layout.specs.Reads.{behind_of}
-use Rattle.kernel_layout.specs.Stages.{IsReadBehind}
+use Rattle.kernel_layout.specs.Waits.{IsReadBehind}
 
 -- the arc from an edge's producer to its consumer
 abbrev arc_over : (ℕ → ℕ) → Edge → Arc

@@ -1,3 +1,3 @@
 pub mod Reads
-pub mod Stages
+pub mod Waits
 pub mod Layouts

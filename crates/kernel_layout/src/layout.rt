@@ -11,20 +11,21 @@ ghost use Rattle.kernel_layout.specs.Layouts.{IsLayout};
 use crate::Read;
 use crate::order::order;
 use crate::reads::all_reads;
-use crate::stages::all_stages;
+use crate::waits::all_waits;
 use fifo_sharing::Chain;
 use mx_base::{List, NoMemory};
 use std::alloc::Global;
 use stream_graph::Kernel;
 
 /// Where the words of a kernel's nodes stand, in node order: how each node reads its operands, an
-/// offset none; the stages at which a node's word is kept, each a number of advances after it was
-/// computed, in rising order; and the nodes in an order in which each comes after those whose words
-/// it reads as they are computed.
+/// offset none; the advances that its pipeline takes, which are its latency; the numbers of
+/// advances for which its word waits behind that, in rising order; and the nodes in an order in
+/// which each comes after those whose words it reads as they are computed.
 #[derive(Debug, Drop)]
 pub struct Layout {
     pub reads: List<List<Read>>,
-    pub stages: List<List<u64>>,
+    pub pipeline: List<u32>,
+    pub waits: List<List<u64>>,
     pub order: List<u32>,
 }
 
@@ -52,11 +53,12 @@ pub fn lay_out(
         (numbers_of times.now)) }
 {
     let reads = all_reads(alloc, kernel, times)?;
-    let stages = all_stages(alloc, latencies, chains)?;
+    let waits = all_waits(alloc, latencies.len(), chains)?;
     let order = order(alloc, reads.as_slice())?;
     Ok(Layout {
         reads: List::from_vec(reads),
-        stages: List::from_vec(stages),
+        pipeline: List::from_vec(latencies.to_vec(alloc)?),
+        waits: List::from_vec(waits),
         order,
     })
 }

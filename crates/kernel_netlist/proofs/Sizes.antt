@@ -7,7 +7,7 @@ use Rattle.stream_graph.specs.declared.kernel.Kernel.{Kernel}
 use Rattle.stream_graph.specs.Kinds.{is_input, is_output, is_scalar}
 use Rattle.stream_graph.proofs.NodeLemmas.{short_names}
 use Rattle.kernel_layout.specs.declared.layout.Layout.{Layout}
-use Rattle.kernel_stages.specs.Numbers.{stage_count, ring_count}
+use Rattle.kernel_stages.specs.Numbers.{register_count, wait_count, ring_count}
 use Rattle.kernel_wiring.specs.OneNode.{operand_count}
 use Rattle.kernel_wiring.proofs.Costs.{numbers_counted, nets_parted}
 use Rattle.kernel_netlist.specs.Modules.{IsModuleOf}
@@ -18,10 +18,11 @@ use Rattle.kernel_netlist.proofs.Ports.{ports_counted}
 
 pub module_small : (kernel : Kernel) (times : List ℤ) (layout : Layout) (m : Module)
     → IsModuleOf kernel times layout m
-    → stage_count layout.stages ≤ 64 * length kernel.nodes + operand_count kernel.nodes
-    → ring_count layout.stages ≤ operand_count kernel.nodes
+    → register_count layout.pipeline ≤ 64 * length kernel.nodes
+    → wait_count layout.waits ≤ operand_count kernel.nodes
+    → ring_count layout.waits ≤ operand_count kernel.nodes
     → IsSmall kernel.nodes m
-module_small kernel times layout m is stages rings =
+module_small kernel times layout m is registers waits rings =
     let nodes = kernel.nodes in
     let scalars = numbers_counted is_scalar 0 nodes in
     let inputs = numbers_counted is_input 0 nodes in
@@ -34,7 +35,7 @@ module_small kernel times layout m is stages rings =
     let ports = ports_counted nodes in
     record {
       ports = omega (arith, views, ports);
-      nets = omega (arith, nets, scalars, inputs, outputs, parted, stages, rings);
+      nets = omega (arith, nets, scalars, inputs, outputs, parted, registers, waits, rings);
       mems = omega (arith, mems, rings);
       net_names =
           nets_short nodes m is.partial is.refines.ports (short_names nodes kernel.made)

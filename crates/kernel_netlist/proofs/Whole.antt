@@ -17,7 +17,7 @@ use Rattle.kernel_report.specs.Judging.{IsShown}
 use Rattle.kernel_report.specs.Parts.{IsPartOf}
 use Rattle.kernel_layout.specs.declared.layout.Layout.{Layout}
 use Rattle.kernel_layout.specs.Layouts.{IsLayout}
-use Rattle.kernel_stages.specs.Numbers.{stage_count, ring_count, all_word_bits}
+use Rattle.kernel_stages.specs.Numbers.{register_count, wait_count, ring_count, pipeline_bits, all_word_bits}
 use Rattle.kernel_rtl.specs.Planned.{widths_of}
 use Rattle.kernel_plan.specs.Planned.{IsScheduled}
 use Rattle.kernel_plan.specs.declared.error.PlanError.{PlanError}
@@ -110,10 +110,12 @@ module _ (table : Table) (kernel : Kernel) (schedule : Schedule)
   -- the module, and what a report says of the schedule
   pub netlist_is : (bits : ℕ) (layout : Layout) → pos bits ≡ bits_in nodes schedule → bits ≤ 2 ^ 28
       → IsLayout nodes (slice_index schedule.latencies) (numbers_of schedule.answer.times) layout
-      → all_word_bits (widths_of nodes) layout.stages
-      ≡ bits + latency_bits (slice_index schedule.latencies) nodes
-      → stage_count layout.stages ≤ 64 * length nodes + operand_count nodes
-      → ring_count layout.stages ≤ operand_count nodes
+      → all_word_bits (widths_of nodes) layout.waits ≡ bits
+      → pipeline_bits (widths_of nodes) layout.pipeline
+      ≡ latency_bits (slice_index schedule.latencies) nodes
+      → register_count layout.pipeline ≤ 64 * length nodes
+      → wait_count layout.waits ≤ operand_count nodes
+      → ring_count layout.waits ≤ operand_count nodes
       → (made : KernelNetlist)
       → IsModuleOf kernel schedule.answer.times layout made.inner
       → IsPartOf kernel schedule made.part → IsShown table kernel made.part
@@ -122,7 +124,7 @@ module _ (table : Table) (kernel : Kernel) (schedule : Schedule)
       → BeginsAtZero (edges_of nodes) (length nodes) (numbers_of made.part.times)
       → IsNetlistOf table kernel schedule.answer.times made
   unfolding same by_table
-  netlist_is bits layout are few laid words stages rings made is part shown times begins =
+  netlist_is bits layout are few laid words piped registers waits rings made is part shown times begins =
       let cost = bits_cost table nodes schedule best in
       let own = part.bits in
       let same_bits : made.part.bits ≡ bits = omega (arith, ints, are, cost, own) in
@@ -147,8 +149,8 @@ module _ (table : Table) (kernel : Kernel) (schedule : Schedule)
         ports_first = is.ports_first;
         layout = layout;
         laid = subst (λ t. IsLayout nodes t (numbers_of schedule.answer.times) layout) ticks laid;
-        stored = omega (arith, stored, words, latencies, same_bits);
-        small = module_small kernel schedule.answer.times layout made.inner is stages rings;
+        stored = omega (arith, stored, words, piped, latencies, same_bits);
+        small = module_small kernel schedule.answer.times layout made.inner is registers waits rings;
         names =
             names_text kernel _ made.inner is.partial is.refines is.few_nets is.few_mems;
       }

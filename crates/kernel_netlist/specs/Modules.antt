@@ -6,7 +6,12 @@ use Rattle.stream_graph.specs.declared.kernel.Kernel.{Kernel}
 use Rattle.rtl_delays.specs.Partial.{IsPartial}
 use Rattle.rtl_delays.specs.Stored.{stored_bits}
 use Rattle.kernel_layout.specs.declared.layout.Layout.{Layout}
-use Rattle.kernel_stages.specs.Numbers.{ring_count, all_word_bits, all_pointer_bits}
+use Rattle.kernel_stages.specs.Numbers.{
+  ring_count,
+  pipeline_bits,
+  all_word_bits,
+  all_pointer_bits,
+}
 use Rattle.kernel_states.specs.States.{state_bits}
 use Rattle.kernel_control.specs.Refines.{Refines}
 use Rattle.kernel_rtl.specs.Planned.{times_of, widths_of, most_nets}
@@ -18,10 +23,12 @@ pub record IsModuleOf (kernel : Kernel) (times : List ℤ) (layout : Layout) (m 
     pub ports_first : IsPortsFirst m
     pub stored :
         stored_bits m
-        ≡ 48 + state_bits kernel.nodes + all_word_bits (widths_of kernel.nodes) layout.stages
-        + all_pointer_bits layout.stages
-    pub nets : length m.nets ≤ most_nets kernel.nodes layout.stages
-    pub mems : length m.mems ≤ ring_count layout.stages
+        ≡ 48 + state_bits kernel.nodes
+        + pipeline_bits (widths_of kernel.nodes) layout.pipeline
+        + all_word_bits (widths_of kernel.nodes) layout.waits
+        + all_pointer_bits layout.waits
+    pub nets : length m.nets ≤ most_nets kernel.nodes layout
+    pub mems : length m.mems ≤ ring_count layout.waits
     pub partial : IsPartial m
     pub few_nets : length m.nets < 2 ^ 64
     pub few_mems : length m.mems < 2 ^ 64

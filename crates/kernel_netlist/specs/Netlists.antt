@@ -83,6 +83,6 @@ pub record IsNetlistOf (table : Table) (kernel : Kernel) (times : List ℤ) (mad
         stored_bits made.inner
         ≡ made.part.bits + latency_bits (ticks_of table kernel.nodes) kernel.nodes + 48
         + state_bits kernel.nodes
-        + all_pointer_bits layout.stages
+        + all_pointer_bits layout.waits
     pub small : IsSmall kernel.nodes made.inner
     pub names : HasTextNames made.inner

@@ -5,6 +5,7 @@ use Rattle.std.proofs.Common.{
   zero,
   suc,
   ◌+◌,
+  ◌-◌,
   ◌<◌,
   ◌≤◌,
   ◌^◌,
@@ -43,7 +44,7 @@ use Rattle.rtl_delays.specs.Elements.{shown, HasElement}
 use Rattle.rtl_delays.proofs.Extends.{register_extends}
 use Rattle.rtl_delays.proofs.Begun.{port_alone, no_position}
 use Rattle.kernel_stages.specs.Numbers.{AreRising, IsWidth}
-use Rattle.kernel_stages.specs.Chains.{AreWide}
+use Rattle.kernel_stages.specs.declared.node.NodeDelays.{NodeDelays}
 use Rattle.kernel_stages.specs.Closing.{AreWords}
 use Rattle.kernel_control.specs.declared.handshakes.Handshake.{Handshake}
 use Rattle.kernel_control.specs.Nets.{HasWidth, HasBitOutput, MayEnable, IsHandshake}
@@ -129,39 +130,29 @@ shown_signal m (Ring r) h = h.word
 
 -- ---- stages
 
-pub rising_two : AreRising (1 ∷ 6 ∷ [])
-rising_two = record {
-  rising = rises;
-  positive = all_two (λ s. 0 < s) 1 6 (omega arith) (omega arith);
-  near = all_two (λ d. d ≤ 2 ^ 28) 1 5 (omega arith) (omega arith);
-}
-  where
-    rises : IsStrictlyIncreasing (1 ∷ 6 ∷ [])
-    rises zero lt = omega arith
-    rises (suc k) lt = absurd (omega (arith, lt))
-
 all_one : {A : Type 0} (P : A → Type 0) (a : A) → P a → All P (a ∷ [])
 all_one P a p zero d lt = p
 all_one P a p (suc i) d lt = absurd (omega (arith, lt))
 
-pub rising_one : AreRising (3 ∷ [])
-rising_one = record {
+rising_one : (wait : ℕ) → 0 < wait → wait ≤ 2 ^ 28 → AreRising (wait ∷ [])
+rising_one wait some few = record {
   rising = λ k lt. absurd (omega (arith, lt));
-  positive = all_one (λ s. 0 < s) 3 (omega arith);
-  near = all_one (λ d. d ≤ 2 ^ 28) 3 (omega arith);
+  positive = all_one (λ s. 0 < s) wait some;
+  near = all_one (λ d. d ≤ 2 ^ 28) (wait - 0) (omega (arith, few));
 }
 
-pub all_rising : All AreRising ((1 ∷ 6 ∷ []) ∷ (3 ∷ []) ∷ [])
-all_rising = all_two AreRising (1 ∷ 6 ∷ []) (3 ∷ []) rising_two rising_one
+pub all_rising : All AreRising ((5 ∷ []) ∷ (3 ∷ []) ∷ [])
+all_rising = all_two AreRising (5 ∷ []) (3 ∷ []) (rising_one 5 (omega arith) (omega arith)) (rising_one 3 (omega arith) (omega arith))
 
 pub all_widths : All IsWidth (8 ∷ 16 ∷ [])
 all_widths = all_two IsWidth 8 16 (record { some = omega arith; at_most = omega arith }) (record { some = omega arith; at_most = omega arith })
 
 -- the words of two nodes
-pub two_words : (m : Module) (a b : Signal) (chains : List (List Element)) → AreWide (8 ∷ 16 ∷ []) chains → HasWidth m 8 a → HasWidth m 16 b → AreWords m (8 ∷ 16 ∷ []) (a ∷ b ∷ []) chains
-two_words m a b [] h x y u lt = absurd h
-two_words m a b (c ∷ []) h x y u lt = absurd h.1
-two_words m a b (c ∷ d ∷ []) h x y zero lt = (x.signal, x.width)
-two_words m a b (c ∷ d ∷ []) h x y (suc zero) lt = (y.signal, y.width)
-two_words m a b (c ∷ d ∷ []) h x y (suc (suc u)) lt = absurd (omega (arith, lt))
-two_words m a b (c ∷ d ∷ e ∷ es) h x y u lt = absurd h.1.1
+pub two_words : (m : Module) (a b : Signal) (delays : List NodeDelays) → length delays ≡ 2 → HasWidth m 8 a → HasWidth m 16 b
+    → AreWords m (8 ∷ 16 ∷ []) (a ∷ b ∷ []) delays
+two_words m a b [] size x y u lt = absurd (omega (arith, size))
+two_words m a b (c ∷ ds) size x y zero lt = (x.signal, x.width)
+two_words m a b (c ∷ ds) size x y (suc zero) lt = (y.signal, y.width)
+two_words m a b (c ∷ []) size x y (suc (suc u)) lt = absurd (omega (arith, size))
+two_words m a b (c ∷ d ∷ []) size x y (suc (suc u)) lt = absurd (omega (arith, lt))
+two_words m a b (c ∷ d ∷ e ∷ es) size x y (suc (suc u)) lt = absurd (omega (arith, size))

@@ -81,9 +81,9 @@ fn elements_are_registers_and_rings(rt: HostRuntime) -> Result<(), Fail> {
     Ok(())
 }
 
-// Advances 1, 5 more and 3: a register, a ring of 5 words and one of 3.
+// A latency of 1, 5 advances behind it, and 3: a register, a ring of 5 words and one of 3.
 #[test]
-fn stages_share_the_delays_before_them(rt: HostRuntime) -> Result<(), Fail> {
+fn words_wait_behind_their_pipelines(rt: HostRuntime) -> Result<(), Fail> {
     let made = stages_module(rt.alloc())?;
     let module = &made.module;
     assert!(rt; stores(module) == [2, 5]);
@@ -93,7 +93,9 @@ fn stages_share_the_delays_before_them(rt: HostRuntime) -> Result<(), Fail> {
     assert!(rt; is_memory(module, 0, b"m0", 8, 5));
     assert!(rt; is_memory(module, 1, b"m1", 16, 3));
     assert!(rt; stored_bits(module) == 8 + 40 + 3 + 48 + 2);
-    let [one, six, three] = made.shown;
+    let [first, second] = made.shown;
+    assert!(rt; first.len() == 2 && second.len() == 1);
+    let (one, six, three) = (*first.at(0), *first.at(1), *second.at(0));
     assert!(rt; [one.net().index(), six.net().index(), three.net().index()] == [5, 7, 9]);
     assert!(rt; [one.width, six.width, three.width] == [8, 8, 16]);
     Ok(())

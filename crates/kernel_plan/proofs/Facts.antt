@@ -29,7 +29,7 @@ use Rattle.offset_edges.proofs.SourceLemmas.{kind_cases}
 use Rattle.kernel_schedule.specs.declared.schedule.Schedule.{Schedule}
 use Rattle.kernel_layout.specs.declared.layout.Layout.{Layout}
 use Rattle.kernel_layout.specs.Layouts.{IsLayout}
-use Rattle.kernel_layout.specs.Stages.{IsReadBehind}
+use Rattle.kernel_layout.specs.Waits.{IsReadBehind}
 use Rattle.kernel_stages.specs.Numbers.{AreRising}
 use Rattle.std.specs.Prelude.{Result, Ok, Err, IfErr}
 use Rattle.std.specs.Result.{IsErrAnd}
@@ -225,9 +225,7 @@ module _ (nodes : List Node) (schedule : Schedule) (scheduled : IsScheduled node
       legal = legal;
       laid = laid;
       near = λ k d h.
-          let counted = laid.stages.counted in
-          let a = laid.stages.each k (omega (arith, h, counted)) in
-          let few_ticks = scheduled.least.latencies.at_most k in
-          (subst AreRising (get_or_default layout.stages k [] d h)
-          (rising nodes ticks x k (get_or layout.stages k []) a (omega (arith, few_ticks)) (late k))).near;
+          let counted = laid.waits.counted in
+          let a = laid.waits.each k (omega (arith, h, counted)) in
+          (subst AreRising (get_or_default layout.waits k [] d h) (rising nodes ticks x k (get_or layout.waits k []) a (late k))).near;
     }

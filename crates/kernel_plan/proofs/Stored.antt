@@ -1,10 +1,9 @@
--- What the stages of a node keep: its latency and its FIFO.
+-- What the words of a node that wait keep: its FIFO. What its pipeline keeps: its latency.
 use Rattle.std.proofs.Common.{◌≡◌, ◌∙◌, ◌⊎◌, ⊎_elim, inl, inr, ℕ, zero, suc, ◌+◌, ◌*◌, ◌<◌, ◌≤◌, Bool, true, false, List, [], ◌∷◌, length, get_or, refl, ap, sym, arith}
 use Rattle.std.specs.Prelude.{Contains, ℤ, pos, ◌+ℤ◌, ◌*ℤ◌, ◌≤ℤ◌, ◌==◌, Option, Some, None, if◌then◌else◌, unsigned_abs, int_lt}
 use Rattle.std.specs.Int.{int_max}
 use Rattle.std.specs.List.Sorted.{IsStrictlyIncreasing}
 use Rattle.std.proofs.Math.IntN.{pos-*ℤ-pos}
-use Rattle.std.proofs.Math.Nat.{mul-add}
 use Rattle.std.proofs.lemmas.Int.{ints}
 use Rattle.std.proofs.lemmas.Bool.{cases_cond, cases_lt, eqb-true}
 use Rattle.cycle_find.specs.Constraints.{Numbers}
@@ -13,9 +12,9 @@ use Rattle.offset_edges.specs.declared.edge.Edge.{Edge}
 use Rattle.offset_edges.specs.Edges.{edges_of, edge_at}
 use Rattle.stream_graph.specs.LookUps.{width_at}
 use Rattle.offset_edges.specs.Schedules.{delay_of, IsLegal, greater, greatest_delay, bits_of, bits_below, fifo_bits}
-use Rattle.kernel_layout.specs.Stages.{AreStages, IsReadBehind}
-use Rattle.kernel_layout.specs.Layouts.{AreAllStages}
-use Rattle.kernel_stages.specs.Numbers.{last_from, all_word_bits}
+use Rattle.kernel_layout.specs.Waits.{AreWaits, IsReadBehind}
+use Rattle.kernel_layout.specs.Layouts.{AreLatencies, AreAllWaits}
+use Rattle.kernel_stages.specs.Numbers.{last_from, pipeline_bits, all_word_bits}
 use Rattle.kernel_rtl.specs.Planned.{widths_of}
 use Rattle.kernel_plan.specs.Stored.{latency_bits_below, latency_bits}
 use Rattle.kernel_wiring.proofs.Sums.{sum_below, sum_front}
@@ -120,79 +119,96 @@ module _ (nodes : List Node) (ticks : ℕ → ℕ) (s : Numbers) (legal : IsLega
       let latency = ap ticks from in
       omega (arith, ints, above, waits, same, latency, behind)
 
-  -- where there is a delay or a latency, a stage is so late
-  reached : (u : ℕ) (o : Option ℤ) → greatest u ≡ o → (stages : List ℕ)
-      → AreStages nodes ticks s u stages → 0 < ticks u + wait_of o
-      → Contains stages (ticks u + wait_of o)
-  reached u None e stages a some = (a.each (ticks u + 0)).1 (some, inl (omega arith))
-  reached u (Some d) e stages a some =
+  -- where there is a delay, there is such a wait
+  reached : (u : ℕ) (o : Option ℤ) → greatest u ≡ o → (waits : List ℕ)
+      → AreWaits nodes ticks s u waits → 0 < wait_of o → Contains waits (wait_of o)
+  reached u None e waits a some = absurd (omega (arith, some))
+  reached u (Some d) e waits a some =
       let h = greatest_among ticks s (edges_of nodes) u d e in
       let start = none_below ticks s (edges_of nodes) u d legal e in
       let latency = ap ticks h.from in
       let is = h.is in
-      (a.each (ticks u + unsigned_abs d)).1
-      (some, inr (h.number, h.within, h.from, omega (arith, ints, start, latency, is)))
+      (a.each (unsigned_abs d)).1
+      (some, (h.number, h.within, h.from, omega (arith, ints, start, latency, is)))
 
-  -- so the last stage comes the greatest delay behind the latency
-  last_stage : (u : ℕ) (stages : List ℕ) → AreStages nodes ticks s u stages
-      → last_from 0 stages ≡ ticks u + wait_of (greatest u)
-  last_stage u stages a =
-      last_is stages (ticks u + wait_of (greatest u)) a.rising
-      (λ x c.
-      ⊎_elim
-      (λ (l : x ≤ ticks u). omega (arith, l))
-      (λ (r : IsReadBehind nodes s u x). read_in_time u x r)
-      ((a.each x).0 c).1)
-      (reached u (greatest u) refl stages a)
+  -- so the last wait is the greatest delay
+  last_wait : (u : ℕ) (waits : List ℕ) → AreWaits nodes ticks s u waits
+      → last_from 0 waits ≡ wait_of (greatest u)
+  last_wait u waits a =
+      last_is waits (wait_of (greatest u)) a.rising
+      (λ x c. let q = read_in_time u (ticks u + x) ((a.each x).0 c).1 in omega (arith, q))
+      (reached u (greatest u) refl waits a)
 
 -- ---- the bits of a node
 
-product_is : (width latency : ℕ) (d : ℤ) → pos 0 ≤ℤ d
-    → pos (width * (latency + unsigned_abs d)) ≡ (pos width *ℤ d) +ℤ pos (width * latency)
-product_is width latency d start =
+product_is : (width : ℕ) (d : ℤ) → pos 0 ≤ℤ d → pos (width * unsigned_abs d) ≡ pos width *ℤ d
+product_is width d start =
     let is : d ≡ pos (unsigned_abs d) = omega (arith, ints, start) in
-    let whole = ap (λ z. pos width *ℤ z) is ∙ pos-*ℤ-pos width (unsigned_abs d) in
-    let parts = mul-add width latency (unsigned_abs d) in
-    omega (arith, ints, whole, parts)
+    sym (ap (λ z. pos width *ℤ z) is ∙ pos-*ℤ-pos width (unsigned_abs d))
 
-node_bits : (nodes : List Node) (u latency : ℕ) (o : Option ℤ)
-    → ((d : ℤ) → o ≡ Some d → pos 0 ≤ℤ d)
-    → pos (width_at nodes u * (latency + wait_of o))
-    ≡ bits_of nodes u o +ℤ pos (width_at nodes u * latency)
-node_bits nodes u latency None start = omega (arith, ints, mul-add (width_at nodes u) latency 0)
-node_bits nodes u latency (Some d) start = product_is (width_at nodes u) latency d (start d refl)
+node_bits : (nodes : List Node) (u : ℕ) (o : Option ℤ) → ((d : ℤ) → o ≡ Some d → pos 0 ≤ℤ d)
+    → pos (width_at nodes u * wait_of o) ≡ bits_of nodes u o
+node_bits nodes u None start = omega (arith, ints)
+node_bits nodes u (Some d) start = product_is (width_at nodes u) d (start d refl)
 
 -- ---- sums
 
--- the bits of the words that are kept of a node
+-- the bits of the words that wait of a node
 abbrev kept_at : List Node → List (List ℕ) → ℕ → ℕ
-kept_at nodes stages u = width_at nodes u * last_from 0 (get_or stages u [])
+kept_at nodes waits u = width_at nodes u * last_from 0 (get_or waits u [])
 
-all_kept : (nodes : List Node) (stages : List (List ℕ)) → length stages ≡ length nodes
-    → all_word_bits (widths_of nodes) stages ≡ sum_below (kept_at nodes stages) (length nodes)
-all_kept [] stages counted = refl
+all_kept : (nodes : List Node) (waits : List (List ℕ)) → length waits ≡ length nodes
+    → all_word_bits (widths_of nodes) waits ≡ sum_below (kept_at nodes waits) (length nodes)
+all_kept [] waits counted = refl
 all_kept (node ∷ nodes) [] counted = absurd (omega (arith, counted))
 all_kept (node ∷ nodes) (ss ∷ rest) counted =
     let behind = all_kept nodes rest (omega (arith, counted)) in
     let front = sum_front (kept_at (node ∷ nodes) (ss ∷ rest)) (length nodes) in
     omega (arith, behind, front)
 
-module _ (nodes : List Node) (ticks : ℕ → ℕ) (s : Numbers) (legal : IsLegal ticks (edges_of nodes) s) (stages : List (List ℕ)) (all : AreAllStages nodes ticks s (length nodes) stages) where
+module _ (nodes : List Node) (ticks : ℕ → ℕ) (s : Numbers) (legal : IsLegal ticks (edges_of nodes) s) (waits : List (List ℕ)) (all : AreAllWaits nodes ticks s (length nodes) waits) where
   kept_below : (n : ℕ) → n ≤ length nodes
-      → pos (sum_below (kept_at nodes stages) n)
-      ≡ bits_below ticks nodes (edges_of nodes) s n +ℤ pos (latency_bits_below ticks nodes n)
-  kept_below zero h = omega (arith, ints)
+      → pos (sum_below (kept_at nodes waits) n) ≡ bits_below ticks nodes (edges_of nodes) s n
+  kept_below zero h = refl
   kept_below (suc n) h =
       let o : Option ℤ = greatest_delay ticks s (edges_of nodes) n in
       let before = kept_below n (omega (arith, h)) in
-      let last = ap (λ x. width_at nodes n * x) (last_stage nodes ticks s legal n (get_or stages n []) (all.each n (omega (arith, h)))) in
-      let here = node_bits nodes n (ticks n) o (λ d e. none_below ticks s (edges_of nodes) n d legal e) in
+      let last = ap (λ x. width_at nodes n * x) (last_wait nodes ticks s legal n (get_or waits n []) (all.each n (omega (arith, h)))) in
+      let here = node_bits nodes n o (λ d e. none_below ticks s (edges_of nodes) n d legal e) in
       omega (arith, ints, before, last, here)
 
-  -- the words that are kept have the bits of the FIFOs and those of the registers behind the nodes
+  -- the words that wait have the bits of the FIFOs
   pub stored : (bits : ℕ) → pos bits ≡ fifo_bits ticks nodes (edges_of nodes) s
-      → all_word_bits (widths_of nodes) stages ≡ bits + latency_bits ticks nodes
+      → all_word_bits (widths_of nodes) waits ≡ bits
   stored bits is =
-      let counted = all_kept nodes stages all.counted in
+      let counted = all_kept nodes waits all.counted in
       let sum = kept_below (length nodes) (omega arith) in
       omega (arith, ints, is, counted, sum)
+
+-- ---- pipelines
+
+-- the bits of the pipeline of a node
+abbrev piped_at : List Node → List ℕ → ℕ → ℕ
+piped_at nodes latencies u = width_at nodes u * get_or latencies u 0
+
+all_piped : (nodes : List Node) (latencies : List ℕ) → length latencies ≡ length nodes
+    → pipeline_bits (widths_of nodes) latencies ≡ sum_below (piped_at nodes latencies) (length nodes)
+all_piped [] latencies counted = refl
+all_piped (node ∷ nodes) [] counted = absurd (omega (arith, counted))
+all_piped (node ∷ nodes) (l ∷ rest) counted =
+    let behind = all_piped nodes rest (omega (arith, counted)) in
+    let front = sum_front (piped_at (node ∷ nodes) (l ∷ rest)) (length nodes) in
+    omega (arith, behind, front)
+
+piped_below : (nodes : List Node) (ticks : ℕ → ℕ) (latencies : List ℕ) → AreLatencies ticks (length nodes) latencies → (n : ℕ)
+    → n ≤ length nodes → sum_below (piped_at nodes latencies) n ≡ latency_bits_below ticks nodes n
+piped_below nodes ticks latencies all zero h = refl
+piped_below nodes ticks latencies all (suc n) h =
+    let before = piped_below nodes ticks latencies all n (omega (arith, h)) in
+    let here = ap (λ x. width_at nodes n * x) (all.each n (omega (arith, h))) in
+    omega (arith, before, here)
+
+-- the pipelines have the bits of the registers behind the nodes
+pub piped : (nodes : List Node) (ticks : ℕ → ℕ) (latencies : List ℕ) → AreLatencies ticks (length nodes) latencies
+    → pipeline_bits (widths_of nodes) latencies ≡ latency_bits ticks nodes
+piped nodes ticks latencies all = all_piped nodes latencies all.counted ∙ piped_below nodes ticks latencies all (length nodes) (omega arith)

@@ -53,15 +53,15 @@ use Rattle.kernel_control.specs.Nets.{HasWidth, HasBitOutput, MayEnable, IsHands
 use Rattle.kernel_control.specs.Outputs.{AreUndriven, is_one_of}
 use Rattle.kernel_control.proofs.Built.{nodes_channels}
 use Rattle.kernel_layout.specs.declared.layout.Layout.{Layout}
-use Rattle.kernel_layout.specs.Stages.{IsReadBehind}
+use Rattle.kernel_layout.specs.Waits.{IsReadBehind, AreWaits}
 use Rattle.kernel_ports.specs.declared.signals.NodeSignal.{NodeSignal}
 use Rattle.kernel_ports.specs.declared.signals.StreamSignals.{StreamSignals}
 use Rattle.kernel_ports.specs.declared.signals.KernelSignals.{KernelSignals}
 use Rattle.kernel_ports.specs.HasKernelPorts.{channel_of, IsScalarPort, IsInputPort, IsOutputPort, HasKernelPorts}
-use Rattle.kernel_stages.specs.Numbers.{stages_at}
-use Rattle.kernel_stages.specs.Chains.{joined, word_at, AreChains, AreWide, AreFreeIn}
+use Rattle.kernel_stages.specs.Numbers.{waits_at}
+use Rattle.kernel_stages.specs.Chains.{joined, word_at, delays_at, AreChains, AreWide, AreFreeIn}
 use Rattle.kernel_stages.specs.Closing.{MayFollowWords, LeavesOthers}
-use Rattle.kernel_stages.proofs.Chaining.{chains_length}
+use Rattle.kernel_stages.proofs.Chaining.{node_length}
 use Rattle.kernel_states.specs.States.{AreFree as AreFreeStates}
 use Rattle.kernel_states.specs.declared.registers.AdvanceNets.{AdvanceNets}
 use Rattle.kernel_states.specs.Closing.{AreAdvanceNets, HaveWords, ClosesStates}
@@ -75,9 +75,8 @@ use Rattle.kernel_rtl.specs.Storage.{AddsStorage}
 use Rattle.kernel_rtl.specs.Words.{late_signals, data_nets, HasStreams, AddsWords}
 use Rattle.kernel_rtl.specs.Handshakes.{IsTimed, enable_at, input_handshake, output_handshake, handshakes_of, control_nets, AddsControl}
 use Rattle.kernel_rtl.proofs.Numbers.{all_mapped, all_unmapped, all_weaker, all_both, IsNodeOf, inputs_are, outputs_are}
-use Rattle.kernel_rtl.proofs.Taps.{stage_length}
 use Rattle.kernel_rtl.proofs.Running.{small_time}
-use Rattle.kernel_rtl.proofs.Wording.{wide_at, width_is}
+use Rattle.kernel_rtl.proofs.Wording.{width_is}
 use Rattle.kernel_rtl.proofs.Starting.{states_end, states_left, early_register}
 use Rattle.kernel_rtl.proofs.Places.{AreNumbered, unequal, rise_under, undriven_from, ended_is, data_rise, told_rise, ended_other, told_other, ended_untold}
 
@@ -169,8 +168,8 @@ free_later : (m n : Module) → KeepsUndriven m n → m.assigns ≡ [] → (ns :
     → All (λ k. is_driven k n.assigns ≡ false) ns
 free_later m n keeps e ns h = all_weaker (λ k. k < length m.nets) (λ k. is_driven k n.assigns ≡ false) ns h (λ k lt. keeps k lt (none_driven m k e))
 
-module _ (kernel : Kernel) (a b : Module) (ports : KernelSignals) (p : HasKernelPorts kernel a ports) (stages : List (List ℕ)) (storage : Storage)
-    (s : AddsStorage a b kernel.nodes stages storage) where
+module _ (kernel : Kernel) (a b : Module) (ports : KernelSignals) (p : HasKernelPorts kernel a ports) (plan : Layout) (storage : Storage)
+    (s : AddsStorage a b kernel.nodes plan storage) where
   nodes : List Node
   nodes = kernel.nodes
 
@@ -348,41 +347,43 @@ word_there K.Counter h = refl
 word_there K.Chain h = refl
 word_there (K.Part place) h = refl
 
-first_item : (xs : List ℕ) (j : ℕ) → j < length xs → Contains xs (get_or xs 0 0)
-first_item [] j lt = absurd (omega arith)
-first_item (x ∷ xs) j lt = (0, omega arith, refl)
-
--- a node whose word is kept is no offset
-kept_node : (nodes : List Node) (ticks : ℕ → ℕ) (times : Numbers) (u behind : ℕ) → All (IsEdge nodes) (edges_of nodes)
-    → (is_offset (kind_at nodes u) ≡ true → ticks u ≡ 0)
-    → 0 < behind → (behind ≤ ticks u) ⊎ IsReadBehind nodes times u behind → is_offset (kind_at nodes u) ≡ false
-kept_node nodes ticks times u behind edges none some (inl le) =
+-- a node with a latency, or whose word waits, is no offset
+late_node : (nodes : List Node) (ticks : ℕ → ℕ) (times : Numbers) (u : ℕ) → All (IsEdge nodes) (edges_of nodes)
+    → (is_offset (kind_at nodes u) ≡ true → ticks u ≡ 0) → (0 < ticks u) ⊎ ((behind : ℕ) × IsReadBehind nodes times u behind)
+    → is_offset (kind_at nodes u) ≡ false
+late_node nodes ticks times u edges none (inl some) =
     ⊎_elim
-    (λ (t : is_offset (kind_at nodes u) ≡ true). let z = none t in absurd (omega (arith, le, some, z)))
+    (λ (t : is_offset (kind_at nodes u) ≡ true). let z = none t in absurd (omega (arith, some, z)))
     (λ (f : is_offset (kind_at nodes u) ≡ false). f)
     (cases_Bool (is_offset (kind_at nodes u)))
-kept_node nodes ticks times u behind edges none some (inr read) =
+late_node nodes ticks times u edges none (inr (behind, read)) =
     let edge = edges read.0 (record { from = 0; to = 0; offset = pos 0 }) read.1 in
     ap (λ v. is_offset (kind_at nodes v)) (sym read.2) ∙ edge.source
+
+-- so is a node that has delays
+kept_node : (nodes : List Node) (ticks : ℕ → ℕ) (times : Numbers) (u latency : ℕ) (waits : List ℕ) → AreWaits nodes ticks times u waits
+    → latency ≡ ticks u → 0 < latency + length waits → (0 < ticks u) ⊎ ((behind : ℕ) × IsReadBehind nodes times u behind)
+kept_node nodes ticks times u latency [] a same some = inl (omega (arith, same, some))
+kept_node nodes ticks times u latency (wait ∷ waits) a same some = inr (ticks u + wait, ((a.each wait).0 (0, omega arith, refl)).1)
 
 -- the words may be followed by the delays
 pub words_follow : (nodes : List Node) (times : Numbers) (layout : Layout) (ports : KernelSignals) (storage : Storage) (timing : Timing)
     (words : List Signal) (b c d : Module) → IsPlanned nodes times layout → All (IsEdge nodes) (edges_of nodes)
-    → AreChains layout.stages storage.delays → AreWide (widths_of nodes) storage.delays
+    → AreChains layout.pipeline layout.waits storage.delays → AreWide (widths_of nodes) storage.delays
     → AddsWords b c nodes layout ports storage timing words → Extends c d → MayFollowWords d words storage.delays
 words_follow nodes times layout ports storage timing words b c d planned edges late wide w e u lu j dd lj =
-    let long = chains_length layout.stages storage.delays late in
-    let counted = planned.laid.stages.counted in
+    let long = late.counted in
+    let counted = planned.laid.waits.counted in
     let lt : u < length nodes = omega (arith, lu, long, counted) in
-    let len = stage_length layout.stages storage.delays u late lu in
-    let stages = stages_at layout.stages u in
-    let has = first_item stages j (omega (arith, lj, len)) in
-    let q = ((planned.laid.stages.each u lt).each (get_or stages 0 0)).0 has in
-    let f = kept_node nodes planned.ticks times u (get_or stages 0 0) edges (planned.offsets u lt) q.0 q.1 in
+    let latency = get_or layout.pipeline u 0 in
+    let waits = waits_at layout.waits u in
+    let len = node_length latency waits (delays_at storage.delays u) (late.each u lu) in
+    let q = kept_node nodes planned.ticks times u latency waits (planned.laid.waits.each u lt) (planned.laid.pipeline.each u lt) (omega (arith, lj, len)) in
+    let f = late_node nodes planned.ticks times u edges (planned.offsets u lt) q in
     let word = w.stand u lt (word_there (kind_at nodes u) f) in
     record {
       signal = e.keeps (word_at words u) word.signal;
-      width = word.bits ∙ sym (width_is nodes u lt) ∙ sym (wide_at (widths_of nodes) storage.delays u wide lu j dd lj);
+      width = word.bits ∙ sym (width_is nodes u lt) ∙ sym (wide u lu j dd lj);
     }
 
 -- the words of holds may be taken by their registers

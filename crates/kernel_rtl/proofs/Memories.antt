@@ -40,6 +40,7 @@ use Rattle.rtl_delays.specs.Stored.{net_bits, mem_bits, stored_bits}
 use Rattle.rtl_delays.proofs.Added.{item_at}
 use Rattle.rtl_delays.proofs.Grown.{parted}
 use Rattle.stream_graph.specs.declared.node.Node.{Node}
+use Rattle.kernel_layout.specs.declared.layout.Layout.{Layout}
 use Rattle.kernel_stages.specs.Numbers.{ring_count}
 use Rattle.kernel_rtl.specs.declared.storage.Storage.{Storage}
 use Rattle.kernel_rtl.specs.Storage.{AddsPosition, AddsStorage}
@@ -124,11 +125,11 @@ position_mems l m s alone p =
         by_item x.0 x.1 (parted l.nets g.more_nets s.net x.0 (ap (λ q. slice_get q s.net) (sym g.nets) ∙ x.1))
 
 -- the memories after each step together
-pub mem_count : (a b c d e f : Module) (nodes : List Node) (stages : List (List ℕ)) (storage : Storage) → HasPortsAlone a
-    → AddsStorage a b nodes stages storage → Extends b c → Extends c d → Extends d e
+pub mem_count : (a b c d e f : Module) (nodes : List Node) (plan : Layout) (storage : Storage) → HasPortsAlone a
+    → AddsStorage a b nodes plan storage → Extends b c → Extends c d → Extends d e
     → stored_bits c ≡ stored_bits b → stored_bits d ≡ stored_bits c → stored_bits e ≡ stored_bits d → f.mems ≡ e.mems
-    → length f.mems ≤ ring_count stages
-mem_count a b c d e f nodes stages storage alone s x y z p q r same =
+    → length f.mems ≤ ring_count plan.waits
+mem_count a b c d e f nodes plan storage alone s x y z p q r same =
     let at_c : IsPartial c = x.partial (s.extends.partial alone.partial) in
     let at_d : IsPartial d = y.partial at_c in
     let none : length a.mems ≡ 0 = ap length alone.mems in

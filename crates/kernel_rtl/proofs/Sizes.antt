@@ -56,12 +56,12 @@ handshake_count kernel times enables m ports p =
 
 -- the nets after each step together
 pub net_count : (kernel : Kernel) (times : ℕ → ℕ) (enables : ℕ → Option Signal) (layout : Layout) (a b c d e f : Module) (ports : KernelSignals)
-    (storage : Storage) → HasKernelPorts kernel a ports → AddsStorage a b kernel.nodes layout.stages storage
+    (storage : Storage) → HasKernelPorts kernel a ports → AddsStorage a b kernel.nodes layout storage
     → length c.nets ≤ length b.nets + word_nets kernel.nodes
     → length d.nets ≤ length c.nets + 11 * length (handshakes_of times enables ports) + 12
     → length e.nets ≤ length d.nets + 8 * ring_delays (joined storage.delays)
     → length f.nets ≤ length e.nets + step_nets kernel.nodes
-    → length f.nets ≤ most_nets kernel.nodes layout.stages
+    → length f.nets ≤ most_nets kernel.nodes layout
 net_count kernel times enables layout a b c d e f ports storage p s w t z y =
     let own = p.alone.nets in
     let views = map_length (port_view a) a.ports in
@@ -69,6 +69,6 @@ net_count kernel times enables layout a b c d e f ports storage p s w t z y =
     let count = ports_count kernel.nodes in
     let first = s.nets in
     let stand = all_stand b s.between s.memory (joined storage.delays) (length b.nets) (length b.mems) s.free in
-    let rings = joined_rings b layout.stages storage.delays s.late stand in
+    let rings = joined_rings b layout.pipeline layout.waits storage.delays s.late stand in
     let shakes = handshake_count kernel times enables a ports p in
     omega (arith, own, views, named, count, first, rings, shakes, w, t, z, y)

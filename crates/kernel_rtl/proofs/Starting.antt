@@ -59,7 +59,7 @@ use Rattle.stream_graph.specs.declared.node.NodeView.{NodeView}
 use Rattle.stream_graph.specs.LookUps.{no_node, width_at}
 use Rattle.kernel_ports.proofs.Looping.{field_at, wide}
 use Rattle.kernel_layout.specs.declared.layout.Layout.{Layout}
-use Rattle.kernel_layout.specs.Stages.{AreStages}
+use Rattle.kernel_layout.specs.Waits.{AreWaits}
 use Rattle.kernel_stages.specs.Numbers.{AreRising, IsWidth}
 use Rattle.kernel_stages.proofs.Lists.{drop_front, drop_all}
 use Rattle.kernel_stages.specs.Chains.{is_register_of}
@@ -121,11 +121,11 @@ starts m a b states nets e h = subst (λ x. AreFreeStates m x states nets) e h
 
 -- ---- all that is stored
 
-pub storage_added : (l m k n : Module) (nodes : List Node) (widths : List ℕ) (stages : List (List ℕ)) (s : Storage) → HasPortsAlone l
-    → widths ≡ widths_of nodes → AddsPosition l m s.position → AddsStates m k nodes s.states → AddsChains k n widths stages s.delays
-    → AddsStorage l n nodes stages s
-storage_added l m k n nodes widths stages s alone same p a h =
-    let c = subst (λ ws. AddsChains k n ws stages s.delays) same h in
+pub storage_added : (l m k n : Module) (nodes : List Node) (widths : List ℕ) (plan : Layout) (s : Storage) → HasPortsAlone l
+    → widths ≡ widths_of nodes → AddsPosition l m s.position → AddsStates m k nodes s.states → AddsChains k n widths plan.pipeline plan.waits s.delays
+    → AddsStorage l n nodes plan s
+storage_added l m k n nodes widths plan s alone same p a h =
+    let c = subst (λ ws. AddsChains k n ws plan.pipeline plan.waits s.delays) same h in
     let e = extends_on a.extends c.extends in
     record {
       extends = extends_on p.extends e;
@@ -169,22 +169,22 @@ early_register m a b (e ∷ es) nets mems h r lt =
     above : (n k : ℕ) → k < n → eqb n k ≡ false
     above n k q = grind (arith, q)
 
--- ---- the stages of nodes
+-- ---- the waits of nodes
 
-rising : (nodes : List Node) (ticks : ℕ → ℕ) (times : Numbers) (u : ℕ) (stages : List ℕ) → AreStages nodes ticks times u stages → AreNear stages
-    → AreRising stages
-rising nodes ticks times u stages h near = record {
+rising : (nodes : List Node) (ticks : ℕ → ℕ) (times : Numbers) (u : ℕ) (waits : List ℕ) → AreWaits nodes ticks times u waits → AreNear waits
+    → AreRising waits
+rising nodes ticks times u waits h near = record {
   rising = h.rising;
-  positive = λ k d lt. ((h.each (get_or stages k d)).0 (k, lt, get_or_default stages k (get_or stages k d) d lt)).0;
+  positive = λ k d lt. ((h.each (get_or waits k d)).0 (k, lt, get_or_default waits k (get_or waits k d) d lt)).0;
   near = near;
 }
 
-pub are_rising : (nodes : List Node) (times : Numbers) (layout : Layout) → IsPlanned nodes times layout → All AreRising layout.stages
+pub are_rising : (nodes : List Node) (times : Numbers) (layout : Layout) → IsPlanned nodes times layout → All AreRising layout.waits
 are_rising nodes times layout p k d lt =
-    let counted = p.laid.stages.counted in
-    let same = get_or_default layout.stages k [] d lt in
+    let counted = p.laid.waits.counted in
+    let same = get_or_default layout.waits k [] d lt in
     subst AreRising same
-    (rising nodes p.ticks times k (get_or layout.stages k []) (p.laid.stages.each k (omega (arith, lt, counted))) (p.near k [] lt))
+    (rising nodes p.ticks times k (get_or layout.waits k []) (p.laid.waits.each k (omega (arith, lt, counted))) (p.near k [] lt))
 
 -- ---- the widths of nodes
 

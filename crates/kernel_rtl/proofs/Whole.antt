@@ -48,7 +48,7 @@ use Rattle.rtl_delays.specs.Partial.{IsPartial, HasPortsAlone, HasPortNames, IsF
 use Rattle.rtl_delays.specs.Stored.{net_bits, mem_bits, stored_bits}
 use Rattle.rtl_delays.specs.Steps.{writes_reg, IsSound}
 use Rattle.rtl_delays.proofs.Added.{within}
-use Rattle.rtl_delays.proofs.Chain.{delay_kept}
+use Rattle.rtl_delays.proofs.Chain.{delay_kept, tap_kept}
 use Rattle.rtl_delays.proofs.Extends.{extends_on, still_on}
 use Rattle.rtl_delays.proofs.Grown.{same_name}
 use Rattle.rtl_delays.proofs.Kept.{ports_kept, no_register_on, written_kept}
@@ -72,8 +72,9 @@ use Rattle.kernel_ports.specs.HasKernelPorts.{channel_of, nets_by, HasKernelPort
 use Rattle.kernel_ports.proofs.Whole.{nets_stay}
 use Rattle.kernel_refinement.specs.Built.{control_tap, IsBuilt}
 use Rattle.kernel_refinement.proofs.Runs.{built_runs}
-use Rattle.kernel_stages.specs.Numbers.{stages_at, all_word_bits, all_pointer_bits}
-use Rattle.kernel_stages.specs.Chains.{joined, word_at, chain_at, element_at}
+use Rattle.kernel_stages.specs.declared.node.NodeDelays.{NodeDelays}
+use Rattle.kernel_stages.specs.Numbers.{waits_at, pipeline_bits, all_word_bits, all_pointer_bits}
+use Rattle.kernel_stages.specs.Chains.{joined, word_at, delays_at, end_at, element_at}
 use Rattle.kernel_stages.specs.Closing.{LeavesOthers, AreWritten, AreDelays}
 use Rattle.kernel_stages.proofs.Freeing.{written_on}
 use Rattle.kernel_states.specs.States.{state_bits}
@@ -99,7 +100,7 @@ use Rattle.kernel_rtl.proofs.Joining.{nodes_by, inputs_at, outputs_at, input_nod
 
 -- Each delay of each node follows the one before it, and the first one the node's word.
 pub record ClosesDelays (old new : Module) (run reset : ℕ) (words : List Signal)
-    (delays : List (List Element)) : Type 0
+    (delays : List NodeDelays) : Type 0
   where
     pub extends : Extends old new
     pub still : KeepsStill old new run reset
@@ -133,23 +134,23 @@ handshakes_are times now enables controls (x ∷ xs) ys h g =
     )
 
 -- the net of a read's signal is the net that is read
-net_get : (stages : List (List ℕ)) (late : List (List Signal)) (words : List Signal) (reads : List Read) (i : ℕ)
-    → net_of (slice_get (map (read_signal stages late words) reads) i) ≡ slice_get (map (read_net stages late words) reads) i
-net_get stages late words [] i = refl
-net_get stages late words (r ∷ rs) zero = refl
-net_get stages late words (r ∷ rs) (suc i) = net_get stages late words rs i
+net_get : (layout : Layout) (late : List (List Signal)) (words : List Signal) (reads : List Read) (i : ℕ)
+    → net_of (slice_get (map (read_signal layout late words) reads) i) ≡ slice_get (map (read_net layout late words) reads) i
+net_get layout late words [] i = refl
+net_get layout late words (r ∷ rs) zero = refl
+net_get layout late words (r ∷ rs) (suc i) = net_get layout late words rs i
 
 -- the net of a port's control
-enable_net : (nodes : List Node) (layout : Layout) (delays : List (List Element)) (words : List Signal) (rank : List ℕ) (v : ℕ)
+enable_net : (nodes : List Node) (layout : Layout) (delays : List NodeDelays) (words : List Signal) (rank : List ℕ) (v : ℕ)
     → (kind_at nodes v ≡ K.Input) ⊎ (kind_at nodes v ≡ K.Output)
     → net_of (control_at nodes layout (late_signals delays) words v) ≡ control_tap nodes (standing layout delays words rank) v
 enable_net nodes layout delays words rank v (inl kind) =
     ap (λ k. net_of (control_among k (signals_at layout (late_signals delays) words v))) kind
-    ∙ net_get layout.stages (late_signals delays) words (reads_at layout v) 0
+    ∙ net_get layout (late_signals delays) words (reads_at layout v) 0
     ∙ sym (ap (λ k. control_in k (taps_at layout (late_signals delays) words v)) kind)
 enable_net nodes layout delays words rank v (inr kind) =
     ap (λ k. net_of (control_among k (signals_at layout (late_signals delays) words v))) kind
-    ∙ net_get layout.stages (late_signals delays) words (reads_at layout v) 1
+    ∙ net_get layout (late_signals delays) words (reads_at layout v) 1
     ∙ sym (ap (λ k. control_in k (taps_at layout (late_signals delays) words v)) kind)
 
 -- ---- what is stored
@@ -172,32 +173,40 @@ ports_store_nothing m a =
     omega (arith, regs, mems)
 
 -- what is stored
-pub stored : (a b c d e f : Module) (nodes : List Node) (stages : List (List ℕ)) (storage : Storage) → HasPortsAlone a
-    → AddsStorage a b nodes stages storage → stored_bits c ≡ stored_bits b → stored_bits d ≡ stored_bits c → stored_bits e ≡ stored_bits d
+pub stored : (a b c d e f : Module) (nodes : List Node) (plan : Layout) (storage : Storage) → HasPortsAlone a
+    → AddsStorage a b nodes plan storage → stored_bits c ≡ stored_bits b → stored_bits d ≡ stored_bits c → stored_bits e ≡ stored_bits d
     → stored_bits f ≡ stored_bits e
-    → stored_bits f ≡ 48 + state_bits nodes + all_word_bits (widths_of nodes) stages + all_pointer_bits stages
-stored a b c d e f nodes stages storage alone s w t z y =
+    → stored_bits f ≡ 48 + state_bits nodes + pipeline_bits (widths_of nodes) plan.pipeline + all_word_bits (widths_of nodes) plan.waits
+    + all_pointer_bits plan.waits
+stored a b c d e f nodes plan storage alone s w t z y =
     let none = ports_store_nothing a alone in
     let first = s.stored in
     omega (arith, none, first, w, t, z, y)
 
 -- whatever the lists are called
-pub closed_named : (d e : Module) (run reset : ℕ) (words given : List Signal) (delays started : List (List Element)) → given ≡ words → started ≡ delays
+pub closed_named : (d e : Module) (run reset : ℕ) (words given : List Signal) (delays started : List NodeDelays) → given ≡ words → started ≡ delays
     → ClosesDelays d e run reset given started → ClosesDelays d e run reset words delays
 closed_named d e run reset words given delays started f g z = subst (λ ws. ClosesDelays d e run reset ws delays) f
     (subst (ClosesDelays d e run reset given) g z)
 
 -- delays stay what they are where the module grows
-delays_on : (m n : Module) (run reset : ℕ) (words : List Signal) (delays : List (List Element)) → Extends m n → IsSound m
+delays_on : (m n : Module) (run reset : ℕ) (words : List Signal) (delays : List NodeDelays) → Extends m n → IsSound m
     → AreDelays m run reset words delays → AreDelays n run reset words delays
-delays_on m n run reset words delays e sound h stages are u i lu li =
-    delay_kept m n run reset (of_net (word_at words u).net) (shown (element_at (chain_at delays u) i)).net (get_or (stages_at stages u) i 0) e.grows sound
-    (h stages are u i lu li)
+delays_on m n run reset words delays e sound h latencies waits are u lu =
+    let word = word_at words u in
+    let d = delays_at delays u in
+    let end = end_at words delays u in
+    let was = h latencies waits are u lu in
+    record {
+      pipeline = tap_kept m n run reset (of_net word.net) end.net (get_or latencies u 0) e.grows sound was.pipeline;
+      behind = λ i li. delay_kept m n run reset (of_net end.net) (shown (element_at d.waits i)).net (get_or (waits_at waits u) i 0) e.grows sound
+          (was.behind i li);
+    }
 
 module _ (kernel : Kernel) (layout : Layout) (times : List ℤ) (a b c d e f : Module) (ports : KernelSignals) (storage : Storage) (timing : Timing)
     (words : List Signal) (enables : List (Option Signal)) (run : Signal)
     (planned : IsPlanned kernel.nodes (numbers_of times) layout) (orderly : IsOrderly kernel.nodes) (digits : AreCounting kernel.nodes) (places : HavePlaces)
-    (p : HasKernelPorts kernel a ports) (s : AddsStorage a b kernel.nodes layout.stages storage)
+    (p : HasKernelPorts kernel a ports) (s : AddsStorage a b kernel.nodes layout storage)
     (position : timing.position ≡ storage.position) (counted : timing.ticks ≡ ports.ticks)
     (timed : (v : ℕ) → v < length kernel.nodes → time_at timing v ≡ times_of times v)
     (w : AddsWords b c kernel.nodes layout ports storage timing words)
@@ -232,7 +241,8 @@ module _ (kernel : Kernel) (layout : Layout) (times : List ℤ) (a b c d e f : M
     begin = planned.begin;
     legal = planned.legal;
     reads = planned.laid.reads;
-    stages = planned.laid.stages;
+    pipeline = planned.laid.pipeline;
+    waits = planned.laid.waits;
     rising = planned.laid.order.rising;
     chains = s.late;
     late = delays_on e f run.net ports.reset.net words storage.delays y.extends z.extends.sound z.late;

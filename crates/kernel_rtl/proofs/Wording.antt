@@ -29,7 +29,7 @@ use Rattle.std.proofs.Common.{
 }
 use Rattle.std.specs.Prelude.{All}
 use Rattle.std.proofs.lemmas.Bool.{false≢true}
-use Rattle.std.proofs.lemmas.List.Elements.{All-nil, All-cons}
+use Rattle.std.proofs.lemmas.List.Elements.{All-nil, All-cons, All-append}
 use Rattle.std.proofs.lemmas.List.{get_or_default}
 use Rattle.rtl_ir.specs.declared.design.Module.{Module}
 use Rattle.rtl_ir.specs.Value.{Family, Contents}
@@ -56,8 +56,8 @@ use Rattle.kernel_ports.specs.declared.signals.NodeSignal.{NodeSignal}
 use Rattle.kernel_ports.specs.declared.signals.StreamSignals.{StreamSignals}
 use Rattle.kernel_ports.specs.declared.signals.KernelSignals.{KernelSignals}
 use Rattle.kernel_ports.specs.HasKernelPorts.{IsScalarPort, IsInputPort, IsOutputPort}
-use Rattle.kernel_stages.specs.Chains.{joined, chain_at, AreChains, AreWide}
-use Rattle.kernel_stages.proofs.Chaining.{chains_length}
+use Rattle.kernel_stages.specs.declared.node.NodeDelays.{NodeDelays}
+use Rattle.kernel_stages.specs.Chains.{elements_of, delays_at, joined, last_shown, end_of, signals_of, AreChains, AreWide}
 use Rattle.kernel_types.specs.Types.{counts}
 use Rattle.kernel_states.specs.States.{has_state, state_at, IsState, IsStateRegister, AreStates}
 use Rattle.kernel_wiring.specs.declared.timing.Timing.{Timing}
@@ -81,7 +81,7 @@ use Rattle.kernel_rtl.specs.Words.{
   AddsWords,
 }
 use Rattle.kernel_rtl.proofs.Numbers.{map_length, all_mapped, all_unmapped, all_weaker, all_both, item_at, IsNodeOf, scalars_are, inputs_are, outputs_are}
-use Rattle.kernel_rtl.proofs.Taps.{late_chain, stage_length, kept_stage}
+use Rattle.kernel_rtl.proofs.Taps.{late_node, signals_length, kept_stage}
 
 -- ---- delays
 
@@ -94,17 +94,26 @@ rest_of P [] ys h = h
 rest_of P (x ∷ xs) ys h = rest_of P xs ys (λ i d lt. h (suc i) d (omega arith))
 
 -- what holds of all delays holds of those of a node
-pub of_joined : (P : Element → Type 0) (chains : List (List Element)) (u : ℕ) → All P (joined chains) → All P (chain_at chains u)
+pub of_joined : (P : Element → Type 0) (ds : List NodeDelays) (u : ℕ) → All P (joined ds) → All P (elements_of (delays_at ds u))
 of_joined P [] u h = All-nil P
-of_joined P (c ∷ cs) zero h = first_of P c (joined cs) h
-of_joined P (c ∷ cs) (suc u) h = of_joined P cs u (rest_of P c (joined cs) h)
+of_joined P (d ∷ ds) zero h = first_of P (elements_of d) (joined ds) h
+of_joined P (d ∷ ds) (suc u) h = of_joined P ds u (rest_of P (elements_of d) (joined ds) h)
 
-pub wide_at : (ws : List ℕ) (cs : List (List Element)) (u : ℕ) → AreWide ws cs → u < length cs → All (λ e. (shown e).width ≡ get_or ws u 0) (chain_at cs u)
-wide_at [] [] u h lt = absurd (omega arith)
-wide_at [] (c ∷ cs) u h lt = absurd h
-wide_at (w ∷ ws) [] u h lt = absurd h
-wide_at (w ∷ ws) (c ∷ cs) zero h lt = h.0
-wide_at (w ∷ ws) (c ∷ cs) (suc u) h lt = wide_at ws cs u h.1 (omega arith)
+-- what holds of what delays show holds of the end of a chain
+end_holds : (P : Signal → Type 0) (s : Signal) (es : List Element) → P s → All (λ e. P (shown e)) es → P (last_shown s es)
+end_holds P s [] h all = h
+end_holds P s (e ∷ es) h all = end_holds P (shown e) es (all 0 e (omega arith)) (λ i d lt. all (suc i) d (omega (arith, lt)))
+
+ends_hold : (P : Signal → Type 0) (es : List Element) → All (λ e. P (shown e)) es → All P (end_of es)
+ends_hold P [] all = All-nil P
+ends_hold P (e ∷ es) all =
+    All-cons P (last_shown (shown e) es) [] (end_holds P (shown e) es (all 0 e (omega arith)) (λ i d lt. all (suc i) d (omega (arith, lt)))) (All-nil P)
+
+-- so it does of the signals that show a node's word later
+signals_hold : (P : Signal → Type 0) (d : NodeDelays) → All (λ e. P (shown e)) (elements_of d) → All P (signals_of d)
+signals_hold P d all =
+    All-append P (end_of d.pipeline) (map shown d.waits) (ends_hold P d.pipeline (first_of (λ e. P (shown e)) d.pipeline d.waits all))
+    (all_mapped shown P d.waits (rest_of (λ e. P (shown e)) d.pipeline d.waits all))
 
 pub width_is : (nodes : List Node) (u : ℕ) → u < length nodes → get_or (widths_of nodes) u 0 ≡ width_at nodes u
 width_is [] u lt = absurd (omega arith)
@@ -112,23 +121,24 @@ width_is (n ∷ ns) zero lt = refl
 width_is (n ∷ ns) (suc u) lt = width_is ns u (omega arith)
 
 -- the signals that the delays show
-pub are_late : (m : Module) (nodes : List Node) (stages : List (List ℕ)) (delays : List (List Element)) → length stages ≡ length nodes
-    → AreChains stages delays
-    → AreWide (widths_of nodes) delays → All (HasElement m) (joined delays) → AreLate m nodes stages (late_signals delays)
-are_late m nodes stages delays counted late wide stand =
-    let long = chains_length stages delays late in record {
-      counted = map_length (λ chain. map shown chain) delays ∙ long ∙ counted;
+pub are_late : (m : Module) (nodes : List Node) (layout : Layout) (delays : List NodeDelays) → length layout.waits ≡ length nodes
+    → AreChains layout.pipeline layout.waits delays
+    → AreWide (widths_of nodes) delays → All (HasElement m) (joined delays) → AreLate m nodes layout (late_signals delays)
+are_late m nodes layout delays counted late wide stand =
+    let long = late.counted in record {
+      counted = map_length signals_of delays ∙ long ∙ counted;
       same = λ n lt.
           let ln : n < length delays = omega (arith, lt, long, counted) in
-          ap length (late_chain delays n ln) ∙ map_length shown (chain_at delays n) ∙ stage_length stages delays n late ln;
+          ap length (late_node delays n ln) ∙ signals_length (get_or layout.pipeline n 0) (get_or layout.waits n []) (delays_at delays n) (late.each n ln);
       each = λ n lt.
           let ln : n < length delays = omega (arith, lt, long, counted) in
-          let both = all_both (HasElement m) (λ e. (shown e).width ≡ get_or (widths_of nodes) n 0) (chain_at delays n)
-          (of_joined (HasElement m) delays n stand) (wide_at (widths_of nodes) delays n wide ln) in
+          let d = delays_at delays n in
+          let both = all_both (HasElement m) (λ e. (shown e).width ≡ get_or (widths_of nodes) n 0) (elements_of d)
+          (of_joined (HasElement m) delays n stand) (wide n ln) in
           let shows = all_weaker (λ e. HasElement m e × ((shown e).width ≡ get_or (widths_of nodes) n 0)) (λ e. IsWordOf m nodes n (shown e))
-          (chain_at delays n) both
+          (elements_of d) both
           (λ e h. record { signal = shown_signal m e h.0; bits = h.1 ∙ width_is nodes n lt }) in
-          subst (All (IsWordOf m nodes n)) (sym (late_chain delays n ln)) (all_mapped shown (IsWordOf m nodes n) (chain_at delays n) shows);
+          subst (All (IsWordOf m nodes n)) (sym (late_node delays n ln)) (signals_hold (IsWordOf m nodes n) d shows);
     }
 
 -- ---- words that are given
@@ -244,7 +254,7 @@ some_count false size i h = (refl, h)
 
 -- the words of all reads are there
 pub are_there : (m : Module) (nodes : List Node) (layout : Layout) (late : List (List Signal)) (words : List Signal) → IsOrderly nodes
-    → IsLaidOut nodes layout → AreLate m nodes layout.stages late → length words ≡ length nodes → AreThere layout late words nodes
+    → IsLaidOut nodes layout → AreLate m nodes layout late → length words ≡ length nodes → AreThere layout late words nodes
 are_there m nodes layout late words o laid shows same n lt i d li =
     let all = laid.is.reads.each n lt in
     let counted = all.counted in
@@ -253,18 +263,20 @@ are_there m nodes layout late words o laid shows same n lt i d li =
     let read = read_at (reads_at layout n) i in
     let r = all.each i below in
     let inside = r.inside in
-    let stages = laid.is.stages.counted in
+    let pipeline = laid.is.pipeline.counted in
+    let behind = laid.is.waits.counted in
     let signals = shows.counted in
-    let here : IsReadIn layout.stages late words read = record {
+    let here : IsReadIn layout late words read = record {
       source = omega (arith, inside, same);
       later = λ waits. record {
-        node = omega (arith, inside, stages);
+        node = omega (arith, inside, pipeline);
+        waits = omega (arith, inside, behind);
         known = omega (arith, inside, signals);
         same = shows.same read.source inside;
-        kept = kept_stage nodes laid.ticks laid.times layout.stages o laid.is.stages n i read lt some.0 some.1 r waits;
+        kept = kept_stage nodes laid.ticks laid.times layout o laid.is.pipeline laid.is.waits n i read lt some.0 some.1 r waits;
       };
     } in
-    subst (IsReadIn layout.stages late words) (get_or_default (reads_at layout n) i no_read d li) here
+    subst (IsReadIn layout late words) (get_or_default (reads_at layout n) i no_read d li) here
 
 -- ---- all of it
 

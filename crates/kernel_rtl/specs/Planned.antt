@@ -28,17 +28,17 @@ use Rattle.offset_edges.specs.Schedules.{IsLegal}
 use Rattle.kernel_control.specs.Ports.{inputs_of, outputs_of, ended_port}
 use Rattle.kernel_layout.specs.declared.layout.Layout.{Layout}
 use Rattle.kernel_layout.specs.Layouts.{IsLayout}
-use Rattle.kernel_stages.specs.Numbers.{differences, stage_count, ring_count}
+use Rattle.kernel_stages.specs.Numbers.{differences, register_count, wait_count, ring_count}
 use Rattle.kernel_states.specs.States.{state_count, step_nets}
 use Rattle.kernel_wiring.specs.Costs.{word_nets}
 
--- each of these stages comes at most 2^28 advances after the one before it
+-- each of these waits is at most 2^28 advances longer than the one before it
 abbrev pub AreNear : List ℕ → Type 0
-AreNear stages = All (λ advances. advances ≤ 2 ^ 28) (differences 0 stages)
+AreNear waits = All (λ advances. advances ≤ 2 ^ 28) (differences 0 waits)
 
 -- The layout is that of a kernel of these nodes with some latencies at these times, which are a
 -- legal schedule of these latencies from 0 to 2^46. Offsets and chains have no latency, and a word
--- is kept at most 2^28 advances after the stage before.
+-- waits at most 2^28 advances more than for the wait before.
 pub record IsPlanned (nodes : List Node) (times : Numbers) (layout : Layout) : Type 0 where
   pub ticks : ℕ → ℕ
   pub begin : (v : ℕ) → v < length nodes → pos 0 ≤ℤ times v
@@ -48,21 +48,21 @@ pub record IsPlanned (nodes : List Node) (times : Numbers) (layout : Layout) : T
   pub chains : (v : ℕ) → v < length nodes → kind_at nodes v ≡ K.Chain → ticks v ≡ 0
   pub legal : IsLegal ticks (edges_of nodes) times
   pub laid : IsLayout nodes ticks times layout
-  pub near : All AreNear layout.stages
+  pub near : All AreNear layout.waits
 
 -- the times of nodes, none of which is below 0, as natural numbers
 abbrev pub times_of : List ℤ → ℕ → ℕ
 times_of times = λ n. unsigned_abs (numbers_of times n)
 
--- The most nets that the module of a kernel with these stages has: those of its ports and of its
+-- The most nets that the module of a kernel with this layout has: those of its ports and of its
 -- position, the wires of its nodes' words, one for a state and the wires by which it steps, one for
--- a stage and 9 more for one whose delay is a ring, and 11 for a port's handshake and 12 beside for
--- the control.
-abbrev pub most_nets : List Node → List (List ℕ) → ℕ
-most_nets nodes stages =
+-- each advance of a pipeline, one for a wait and 9 more for one whose delay is a ring, and 11 for a
+-- port's handshake and 12 beside for the control.
+abbrev pub most_nets : List Node → Layout → ℕ
+most_nets nodes layout =
     (ended_port nodes + 2) + word_nets nodes
     + state_count nodes + step_nets nodes
-    + stage_count stages + 9 * ring_count stages
+    + register_count layout.pipeline + wait_count layout.waits + 9 * ring_count layout.waits
     + 11 * (length (inputs_of nodes) + length (outputs_of nodes))
     + 12
 

@@ -22,10 +22,8 @@ use Rattle.rtl_ir.specs.Grow.{Holds}
 use Rattle.rtl_build.specs.declared.signal.Signal.{Signal}
 use Rattle.rtl_build.specs.Signals.{HasSignal}
 use Rattle.rtl_build.specs.Ports.{HasOutput}
-use Rattle.rtl_delays.specs.declared.elements.Element.{Element}
 use Rattle.rtl_delays.specs.Extends.{Extends, AddsNoRegister}
 use Rattle.rtl_delays.specs.Stored.{stored_bits}
-use Rattle.rtl_delays.specs.Elements.{shown}
 use Rattle.stream_graph.specs.declared.node.Kind.TheVariants as K
 use Rattle.stream_graph.specs.declared.node.Node.{Node}
 use Rattle.stream_graph.specs.LookUps.{kind_at}
@@ -37,6 +35,8 @@ use Rattle.kernel_ports.specs.declared.signals.NodeSignal.{NodeSignal}
 use Rattle.kernel_ports.specs.declared.signals.StreamSignals.{StreamSignals}
 use Rattle.kernel_ports.specs.declared.signals.KernelSignals.{KernelSignals}
 use Rattle.kernel_ports.specs.HasKernelPorts.{IsScalarPort, IsInputPort, IsOutputPort}
+use Rattle.kernel_stages.specs.declared.node.NodeDelays.{NodeDelays}
+use Rattle.kernel_stages.specs.Chains.{signals_of}
 use Rattle.kernel_types.specs.Types.{counts}
 use Rattle.kernel_states.specs.States.{state_at}
 use Rattle.kernel_wiring.specs.declared.timing.Timing.{Timing}
@@ -95,8 +95,8 @@ pub record AreGivenWords (nodes : List Node) (ports : KernelSignals)
 -- ---- delays
 
 -- the signals that the delays of each node show
-abbrev pub late_signals : List (List Element) → List (List Signal)
-late_signals delays = map (λ chain. map shown chain) delays
+abbrev pub late_signals : List NodeDelays → List (List Signal)
+late_signals delays = map signals_of delays
 
 -- ---- outputs
 

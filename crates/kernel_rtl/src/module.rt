@@ -7,7 +7,8 @@ ghost use Rattle.rtl_delays.specs.Stored.{stored_bits};
 ghost use Rattle.rtl_reading.specs.Reads.{IsPortsFirst};
 ghost use Rattle.kernel_control.specs.Refines.{Refines};
 ghost use Rattle.kernel_ports.specs.HasKernelPorts.{HasKernelPorts};
-ghost use Rattle.kernel_stages.specs.Numbers.{ring_count, all_word_bits, all_pointer_bits};
+ghost use Rattle.kernel_stages.specs.Numbers.{ring_count};
+ghost use Rattle.kernel_stages.specs.Numbers.{pipeline_bits, all_word_bits, all_pointer_bits};
 ghost use Rattle.kernel_states.specs.States.{state_bits};
 ghost use Rattle.kernel_wiring.specs.Timing.{time_at};
 ghost use Rattle.kernel_rtl.specs.Planned.{IsPlanned, times_of, widths_of, most_nets};
@@ -86,11 +87,12 @@ fn add_kernel(
     ensures ports_first { OnOk result (IsPortsFirst netlist.new) }
     ensures stored { OnOk result (stored_bits netlist.new
         ≡ 48 + state_bits kernel.now.nodes
-        + all_word_bits (widths_of kernel.now.nodes) layout.now.stages
-        + all_pointer_bits layout.now.stages) }
+        + pipeline_bits (widths_of kernel.now.nodes) layout.now.pipeline
+        + all_word_bits (widths_of kernel.now.nodes) layout.now.waits
+        + all_pointer_bits layout.now.waits) }
     ensures nets { OnOk result (
-        length netlist.new.nets ≤ most_nets kernel.now.nodes layout.now.stages) }
-    ensures mems { OnOk result (length netlist.new.mems ≤ ring_count layout.now.stages) }
+        length netlist.new.nets ≤ most_nets kernel.now.nodes layout.now) }
+    ensures mems { OnOk result (length netlist.new.mems ≤ ring_count layout.now.waits) }
     ensures partial { OnOk result (IsPartial netlist.new) }
 {
     // What counters are, and how the words of chains hold them.
@@ -118,9 +120,9 @@ fn add_kernel(
 
 /// The module of a kernel at these times, by a layout at them: it refines the kernel, its ports are
 /// its first nets, in their order, and it stores the 48 bits of its position, the states of its
-/// holds, counters and chains, the words that its nodes' stages keep, and the pointers of those
-/// that are kept in memories. Its nets are at most `most_nets`, named by their numbers past its
-/// ports (`IsPartial`), and it has a memory for each ring.
+/// holds, counters and chains, the registers of its nodes' pipelines, the words that wait behind
+/// these, and the pointers of those that are kept in memories. Its nets are at most `most_nets`,
+/// named by their numbers past its ports (`IsPartial`), and it has a memory for each ring.
 ///
 /// The kernel's name is a letter and then letters, digits and `_`. Times are in advances, from 0 to
 /// 2^46, in node order. The only error is `NoMemory`, also where the module has 2^32 nets.
@@ -137,11 +139,12 @@ pub fn kernel_module(
     ensures ports_first { IfOk result IsPortsFirst }
     ensures stored { IfOk result (λ built. stored_bits built
         ≡ 48 + state_bits kernel.now.nodes
-        + all_word_bits (widths_of kernel.now.nodes) layout.now.stages
-        + all_pointer_bits layout.now.stages) }
+        + pipeline_bits (widths_of kernel.now.nodes) layout.now.pipeline
+        + all_word_bits (widths_of kernel.now.nodes) layout.now.waits
+        + all_pointer_bits layout.now.waits) }
     ensures nets { IfOk result (λ built.
-        length built.nets ≤ most_nets kernel.now.nodes layout.now.stages) }
-    ensures mems { IfOk result (λ built. length built.mems ≤ ring_count layout.now.stages) }
+        length built.nets ≤ most_nets kernel.now.nodes layout.now) }
+    ensures mems { IfOk result (λ built. length built.mems ≤ ring_count layout.now.waits) }
     ensures partial { IfOk result IsPartial }
 {
     let (mut netlist, ports) = kernel_ports(alloc, kernel)?;

@@ -6,22 +6,21 @@ ghost use Rattle.kernel_rtl.specs.Planned.{widths_of};
 ghost use Rattle.kernel_rtl.specs.Storage.{AddsPosition, AddsStorage};
 
 use kernel_layout::Layout;
-use kernel_stages::start_stages;
+use kernel_stages::{NodeDelays, start_stages};
 use kernel_states::start_states;
 use mx_base::{List, NoMemory, Text};
 use rtl_build::{Netlist, Signal};
-use rtl_delays::Element;
 use std::alloc::Global;
 use stream_graph::{Kernel, NodeId};
 
 /// The position of a kernel's module, a register of 48 bits; for each node, in node order, the
-/// register of its state, if it keeps one; and for each the delays of its word, one for each of its
-/// stages.
+/// register of its state, if it keeps one; and for each its pipeline and the delays of its word
+/// behind that.
 #[derive(Drop)]
 pub(crate) struct Storage {
     pub position: Signal,
     pub states: List<Option<Signal>>,
-    pub delays: List<List<Element>>,
+    pub delays: List<NodeDelays>,
 }
 
 // The bits of the words of each node.
@@ -44,8 +43,8 @@ fn start_position(alloc: Global, netlist: &mut Netlist) -> Result<Signal, NoMemo
     netlist.register(name, 48)
 }
 
-/// Adds the position, a register for each node that keeps a state, and a delay for each stage of
-/// each node of the layout.
+/// Adds the position, a register for each node that keeps a state, and for each node of the layout
+/// its pipeline and a delay for each wait of its word.
 pub(crate) fn start_storage(
     alloc: Global,
     netlist: &mut Netlist,
@@ -53,15 +52,17 @@ pub(crate) fn start_storage(
     layout: &Layout,
 ) -> Result<Storage, NoMemory>
     requires alone { HasPortsAlone netlist.old }
-    requires nodes { length layout.now.stages ≡ length kernel.now.nodes }
-    requires stages { All AreRising layout.now.stages }
-    ensures { IfOk result
-        (AddsStorage netlist.old netlist.new kernel.now.nodes layout.now.stages) }
+    requires pipeline { length layout.now.pipeline ≡ length kernel.now.nodes }
+    requires nodes { length layout.now.waits ≡ length kernel.now.nodes }
+    requires waits { All AreRising layout.now.waits }
+    ensures { IfOk result (AddsStorage netlist.old netlist.new kernel.now.nodes layout.now) }
 {
     let position = start_position(alloc, netlist)?;
     let states = start_states(alloc, netlist, kernel)?;
     let widths = widths(alloc, kernel)?;
-    let delays = start_stages(alloc, netlist, widths.as_slice(), layout.stages.as_slice())?;
+    let latencies = layout.pipeline.as_slice();
+    let waits = layout.waits.as_slice();
+    let delays = start_stages(alloc, netlist, widths.as_slice(), latencies, waits)?;
     Ok(Storage {
         position,
         states,

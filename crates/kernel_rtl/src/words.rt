@@ -1,7 +1,7 @@
 // The words of a kernel's nodes.
-ghost use Rattle.std.specs.Prelude.{◌≡◌, map, All, IfOk};
+ghost use Rattle.std.specs.Prelude.{◌≡◌, All, IfOk};
 ghost use Rattle.rtl_delays.specs.Steps.{IsSound};
-ghost use Rattle.rtl_delays.specs.Elements.{shown, HasElement};
+ghost use Rattle.rtl_delays.specs.Elements.{HasElement};
 ghost use Rattle.kernel_control.specs.Outputs.{AreUndriven};
 ghost use Rattle.kernel_stages.specs.Chains.{joined, AreChains, AreWide};
 ghost use Rattle.kernel_wiring.specs.Words.{IsLaidOut};
@@ -16,34 +16,23 @@ use crate::outputs::drive_words;
 use crate::storage::Storage;
 use kernel_layout::Layout;
 use kernel_ports::KernelSignals;
+use kernel_stages::NodeDelays;
 use kernel_wiring::{Timing, add_nodes};
 use mx_base::{List, NoMemory};
 use rtl_build::{Netlist, Signal};
-use rtl_delays::Element;
 use std::alloc::Global;
 use stream_graph::Kernel;
-
-// The signals that the delays of a node show.
-fn shown(alloc: Global, chain: &[Element]) -> Result<List<Signal>, NoMemory>
-    ensures { IfOk result (λ signals. signals ≡ map shown chain.now) }
-{
-    let mut signals = List::new(alloc);
-    for element in chain {
-        signals.push(element.shown())?;
-    }
-    Ok(signals)
-}
 
 /// The signals that the delays of each node show.
 pub(crate) fn late_signals(
     alloc: Global,
-    delays: &[List<Element>],
+    delays: &[NodeDelays],
 ) -> Result<Vec<List<Signal>>, NoMemory>
     ensures { IfOk result (λ late. late.items ≡ late_signals delays.now) }
 {
     let mut late = Vec::new(alloc);
-    for chain in delays {
-        late.push(shown(alloc, chain.as_slice())?)?;
+    for node in delays {
+        late.push(node.signals(alloc)?)?;
     }
     Ok(late)
 }
@@ -93,7 +82,7 @@ pub(crate) fn add_words(
     requires streams { HasStreams netlist.old kernel.now.nodes ports.now }
     requires undriven { AreUndriven netlist.old (data_nets ports.now.outputs) }
     requires states { AreStates netlist.old kernel.now.nodes storage.now.states }
-    requires late { AreChains layout.now.stages storage.now.delays }
+    requires late { AreChains layout.now.pipeline layout.now.waits storage.now.delays }
     requires wide { AreWide (widths_of kernel.now.nodes) storage.now.delays }
     requires delays { All (HasElement netlist.old) (joined storage.now.delays) }
     requires timing { IsTiming netlist.old kernel.now.nodes timing.now }

@@ -10,7 +10,7 @@ use Rattle.rtl_delays.specs.declared.elements.Element.{Element}
 use Rattle.rtl_delays.specs.declared.elements.Element.TheVariants.{Register, Ring}
 use Rattle.rtl_delays.specs.Elements.{advances_of, starting_nets, starting_mems, closing_nets, HasElement, IsLean, pointer_bits}
 use Rattle.rtl_delays.proofs.Pointers.{pointer_is, pointer_only}
-use Rattle.kernel_stages.specs.Numbers.{differences, last_from, rings_from, ring_count, stage_count, AreRising, place_bits, pointer_bits as stage_bits, all_word_bits, all_pointer_bits}
+use Rattle.kernel_stages.specs.Numbers.{differences, last_from, rings_from, ring_count, register_count, wait_count, AreRising, place_bits, pointer_bits as stage_bits, pipeline_bits, all_word_bits, all_pointer_bits}
 use Rattle.kernel_stages.specs.Chains.{ring_delays}
 
 -- each of these numbers is above the one before it, by at most 2^28, and the first one above `prior`
@@ -66,23 +66,23 @@ bits_left now next old w prior a s ptr last all more e f g = subst (λ x. next +
 
 -- ---- bits of all nodes
 
-pub nodes_left :
-    (now next total words pointers more_words more_pointers : ℕ) → next ≡ now + words + pointers
-    → now + (words + more_words) + (pointers + more_pointers) ≡ total → next + more_words + more_pointers ≡ total
-nodes_left now next total words pointers more_words more_pointers e f = omega (arith, e, f)
-
 -- the bits of the delays of the nodes that are left
-abbrev pub NodesLeft : ℕ → ℕ → List ℕ → List (List ℕ) → Type 0
-NodesLeft now total ws ss = now + all_word_bits ws ss + all_pointer_bits ss ≡ total
+abbrev pub NodesLeft : ℕ → ℕ → List ℕ → List ℕ → List (List ℕ) → Type 0
+NodesLeft now total ws ls ss = now + pipeline_bits ws ls + all_word_bits ws ss + all_pointer_bits ss ≡ total
 
-pub nodes_from :
-    (now total : ℕ) (ws : List ℕ) (ss : List (List ℕ)) (w : ℕ) (more : List ℕ) (s : List ℕ) (rest : List (List ℕ)) → ws ≡ w ∷ more
-    → ss ≡ s ∷ rest → NodesLeft now total ws ss
-    → now + (w * last_from 0 s + all_word_bits more rest) + (stage_bits s + all_pointer_bits rest) ≡ total
-nodes_from now total ws ss w more s rest e f h = subst (λ xs. NodesLeft now total xs (s ∷ rest)) e (subst (NodesLeft now total ws) f h)
+pub nodes_left :
+    (now next total w l : ℕ) (ws more ls less : List ℕ) (s : List ℕ) (ss rest : List (List ℕ)) → ws ≡ w ∷ more → ls ≡ l ∷ less → ss ≡ s ∷ rest
+    → next ≡ now + w * l + w * last_from 0 s + stage_bits s → NodesLeft now total ws ls ss → NodesLeft next total more less rest
+nodes_left now next total w l ws more ls less s ss rest e f g grown h =
+    let first : NodesLeft now total (w ∷ more) ls ss = subst (λ xs. NodesLeft now total xs ls ss) e h in
+    let second : NodesLeft now total (w ∷ more) (l ∷ less) ss = subst (λ xs. NodesLeft now total (w ∷ more) xs ss) f first in
+    let all : NodesLeft now total (w ∷ more) (l ∷ less) (s ∷ rest) = subst (NodesLeft now total (w ∷ more) (l ∷ less)) g second in
+    omega (arith, grown, all)
 
-pub no_nodes : (now total : ℕ) (ws : List ℕ) (ss : List (List ℕ)) → ws ≡ [] → ss ≡ [] → NodesLeft now total ws ss → now ≡ total
-no_nodes now total ws ss e f h = let q = subst (λ xs. NodesLeft now total xs []) e (subst (NodesLeft now total ws) f h) in omega (arith, q)
+pub no_nodes : (now total : ℕ) (ws ls : List ℕ) (ss : List (List ℕ)) → ws ≡ [] → ss ≡ [] → NodesLeft now total ws ls ss → now ≡ total
+no_nodes now total ws ls ss e f h =
+    let q : NodesLeft now total [] ls [] = subst (NodesLeft now total [] ls) f (subst (λ xs. NodesLeft now total xs ls ss) e h) in
+    omega (arith, q)
 
 -- ---- nets and memories
 
@@ -158,9 +158,14 @@ no_nets_left now total prior ss e h =
 
 -- the nets of the delays of the nodes that are left, one node further
 pub nodes_nets_left :
-    (now next total : ℕ) (s : List ℕ) (ss rest : List (List ℕ)) → ss ≡ s ∷ rest → next ≡ now + length s + rings_from 0 s
-    → now + (stage_count ss + ring_count ss) ≡ total → next + (stage_count rest + ring_count rest) ≡ total
-nodes_nets_left now next total s ss rest e f h = let long = ap stage_count e in let size = ap ring_count e in omega (arith, long, size, f, h)
+    (now next total l : ℕ) (ls less : List ℕ) (s : List ℕ) (ss rest : List (List ℕ)) → ls ≡ l ∷ less → ss ≡ s ∷ rest
+    → next ≡ now + l + length s + rings_from 0 s → now + (register_count ls + wait_count ss + ring_count ss) ≡ total
+    → next + (register_count less + wait_count rest + ring_count rest) ≡ total
+nodes_nets_left now next total l ls less s ss rest d e f h =
+    let registers = ap register_count d in
+    let long = ap wait_count e in
+    let size = ap ring_count e in
+    omega (arith, registers, long, size, f, h)
 
 -- their memories
 pub nodes_mems_left :
@@ -169,8 +174,14 @@ pub nodes_mems_left :
 nodes_mems_left now next total s ss rest e f h = let size = ap ring_count e in omega (arith, size, f, h)
 
 -- no nodes are left
-pub no_nodes_nets : (now total : ℕ) (ss : List (List ℕ)) → ss ≡ [] → now + (stage_count ss + ring_count ss) ≡ total → now ≡ total
-no_nodes_nets now total ss e h = let long = ap stage_count e in let size = ap ring_count e in omega (arith, long, size, h)
+pub no_nodes_nets :
+    (now total : ℕ) (ls : List ℕ) (ss : List (List ℕ)) → ls ≡ [] → ss ≡ [] → now + (register_count ls + wait_count ss + ring_count ss) ≡ total
+    → now ≡ total
+no_nodes_nets now total ls ss d e h =
+    let registers = ap register_count d in
+    let long = ap wait_count e in
+    let size = ap ring_count e in
+    omega (arith, registers, long, size, h)
 
 pub no_nodes_mems : (now total : ℕ) (ss : List (List ℕ)) → ss ≡ [] → now + ring_count ss ≡ total → now ≡ total
 no_nodes_mems now total ss e h = let size = ap ring_count e in omega (arith, size, h)

@@ -9,11 +9,12 @@ use Rattle.rtl_delays.specs.declared.elements.Element.{Element}
 use Rattle.rtl_delays.specs.declared.elements.Element.TheVariants.{Register, Ring}
 use Rattle.rtl_delays.specs.Steps.{writes_reg}
 use Rattle.rtl_delays.specs.Extends.{Extends, is_number, LeavesFree, AddsOneRegister}
-use Rattle.rtl_delays.specs.Elements.{advances_of, reg_of, mem_of, HasElement, IsFreeElement, IsPast, past, AreFree}
+use Rattle.rtl_delays.specs.Elements.{shown, advances_of, reg_of, mem_of, HasElement, IsFreeElement, IsPast, past, AreFree}
 use Rattle.rtl_delays.proofs.Lists.{or_first, or_second, or_both}
-use Rattle.rtl_delays.proofs.Started.{element_kept}
+use Rattle.rtl_delays.proofs.Started.{element_kept, shown_signal}
 use Rattle.rtl_delays.proofs.Kept.{written_kept}
-use Rattle.kernel_stages.specs.Chains.{joined, chain_at, is_register_of, is_memory_of, AddsRegistersOf}
+use Rattle.kernel_stages.specs.declared.node.NodeDelays.{NodeDelays}
+use Rattle.kernel_stages.specs.Chains.{elements_of, delays_at, joined, last_shown, is_register_of, is_memory_of, AddsRegistersOf}
 use Rattle.kernel_stages.specs.Closing.{MayFollow, LeavesOthers, AreWritten}
 
 -- ---- chains joined
@@ -40,9 +41,9 @@ append_none : (xs : List Element) → xs ++ [] ≡ xs
 append_none [] = refl
 append_none (x ∷ xs) = ap (λ l. x ∷ l) (append_none xs)
 
-pub joined_more : (cs : List (List Element)) (c : List Element) → joined (cs ++ c ∷ []) ≡ joined cs ++ c
-joined_more [] c = append_none c
-joined_more (d ∷ cs) c = ap (λ l. d ++ l) (joined_more cs c) ∙ sym (append_joined d (joined cs) c)
+pub joined_more : (ds : List NodeDelays) (d : NodeDelays) → joined (ds ++ d ∷ []) ≡ joined ds ++ elements_of d
+joined_more [] d = append_none (elements_of d)
+joined_more (x ∷ ds) d = ap (λ l. elements_of x ++ l) (joined_more ds d) ∙ sym (append_joined (elements_of x) (joined ds) (elements_of d))
 
 -- registers of these delays and then of those
 pub registers_both :
@@ -208,25 +209,41 @@ leaves_element l m n es i e lt is f g = record {
   mems = λ k h o. g.mems k (f.mems k h o) (ap (λ x. is_number (mem_of x) k) is ∙ memory_among es i k e lt o);
 }
 
-chain_registers : (cs : List (List Element)) (u n : ℕ) → is_register_of (joined cs) n ≡ false → is_register_of (chain_at cs u) n ≡ false
-chain_registers [] u n h = refl
-chain_registers (c ∷ cs) zero n h = or_first (is_register_of c n) (is_register_of (joined cs) n) (sym (register_joined c (joined cs) n) ∙ h)
-chain_registers (c ∷ cs) (suc u) n h =
-    chain_registers cs u n (or_second (is_register_of c n) (is_register_of (joined cs) n) (sym (register_joined c (joined cs) n) ∙ h))
+-- those of both lists were closed
+pub leaves_both :
+    (l m n : Module) (xs ys : List Element) → LeavesOthers l m xs → LeavesOthers m n ys → LeavesOthers l n (xs ++ ys)
+leaves_both l m n xs ys f g = record {
+  regs = λ k h o.
+      let both = sym (register_joined xs ys k) ∙ o in
+      g.regs k (f.regs k h (or_first (is_register_of xs k) (is_register_of ys k) both)) (or_second (is_register_of xs k) (is_register_of ys k) both);
+  mems = λ k h o.
+      let both = sym (memory_joined xs ys k) ∙ o in
+      g.mems k (f.mems k h (or_first (is_memory_of xs k) (is_memory_of ys k) both)) (or_second (is_memory_of xs k) (is_memory_of ys k) both);
+}
 
-chain_memories : (cs : List (List Element)) (u n : ℕ) → is_memory_of (joined cs) n ≡ false → is_memory_of (chain_at cs u) n ≡ false
-chain_memories [] u n h = refl
-chain_memories (c ∷ cs) zero n h = or_first (is_memory_of c n) (is_memory_of (joined cs) n) (sym (memory_joined c (joined cs) n) ∙ h)
-chain_memories (c ∷ cs) (suc u) n h =
-    chain_memories cs u n (or_second (is_memory_of c n) (is_memory_of (joined cs) n) (sym (memory_joined c (joined cs) n) ∙ h))
+node_registers : (ds : List NodeDelays) (u n : ℕ) → is_register_of (joined ds) n ≡ false → is_register_of (elements_of (delays_at ds u)) n ≡ false
+node_registers [] u n h = refl
+node_registers (d ∷ ds) zero n h =
+    or_first (is_register_of (elements_of d) n) (is_register_of (joined ds) n) (sym (register_joined (elements_of d) (joined ds) n) ∙ h)
+node_registers (d ∷ ds) (suc u) n h =
+    node_registers ds u n
+    (or_second (is_register_of (elements_of d) n) (is_register_of (joined ds) n) (sym (register_joined (elements_of d) (joined ds) n) ∙ h))
 
--- the chain of node u was closed
-pub leaves_chain :
-    (l m n : Module) (cs : List (List Element)) (u : ℕ) → LeavesOthers l m (joined cs) → LeavesOthers m n (chain_at cs u)
-    → LeavesOthers l n (joined cs)
-leaves_chain l m n cs u f g = record {
-  regs = λ k h o. g.regs k (f.regs k h o) (chain_registers cs u k o);
-  mems = λ k h o. g.mems k (f.mems k h o) (chain_memories cs u k o);
+node_memories : (ds : List NodeDelays) (u n : ℕ) → is_memory_of (joined ds) n ≡ false → is_memory_of (elements_of (delays_at ds u)) n ≡ false
+node_memories [] u n h = refl
+node_memories (d ∷ ds) zero n h =
+    or_first (is_memory_of (elements_of d) n) (is_memory_of (joined ds) n) (sym (memory_joined (elements_of d) (joined ds) n) ∙ h)
+node_memories (d ∷ ds) (suc u) n h =
+    node_memories ds u n
+    (or_second (is_memory_of (elements_of d) n) (is_memory_of (joined ds) n) (sym (memory_joined (elements_of d) (joined ds) n) ∙ h))
+
+-- the delays of node u were closed
+pub leaves_node :
+    (l m n : Module) (ds : List NodeDelays) (u : ℕ) → LeavesOthers l m (joined ds) → LeavesOthers m n (elements_of (delays_at ds u))
+    → LeavesOthers l n (joined ds)
+leaves_node l m n ds u f g = record {
+  regs = λ k h o. g.regs k (f.regs k h o) (node_registers ds u k o);
+  mems = λ k h o. g.mems k (f.mems k h o) (node_memories ds u k o);
 }
 
 pub none_written : (m : Module) → AreWritten m []
@@ -256,3 +273,21 @@ written_on m n es g h k o = written_kept m n k g (h k o)
 
 pub may_kept : (m n : Module) (s : Signal) (e : Element) → Extends m n → MayFollow m s e → MayFollow n s e
 may_kept m n s e x h = record { signal = x.keeps s h.signal; width = h.width }
+
+-- free delays stand in the module
+pub frees_stand : (m : Module) (a b : ℕ) (es : List Element) (nets mems : ℕ) → AreFree m a b es nets mems → All (HasElement m) es
+frees_stand m a b [] nets mems h k d lt = absurd (omega (arith, lt))
+frees_stand m a b (e ∷ es) nets mems h zero d lt = h.2
+frees_stand m a b (e ∷ es) nets mems h (suc k) d lt = frees_stand m (reg_of e + 1) (past b (mem_of e)) es nets mems h.4 k d (omega (arith, lt))
+
+-- what may follow a signal may follow the end of a chain that may follow it
+pub end_may_be :
+    (m : Module) (s : Signal) (es ws : List Element) → All (HasElement m) es → All (MayFollow m s) es → All (MayFollow m s) ws
+    → All (MayFollow m (last_shown s es)) ws
+end_may_be m s [] ws stand may all = all
+end_may_be m s (e ∷ es) ws stand may all =
+    let here = may 0 e (omega arith) in
+    let signal = shown_signal m e (stand 0 e (omega arith)) in
+    let next : (x : Element) → MayFollow m s x → MayFollow m (shown e) x = λ x h. record { signal = signal; width = sym here.width ∙ h.width } in
+    end_may_be m (shown e) es ws (λ k d lt. stand (suc k) d (omega (arith, lt))) (λ k d lt. next (get_or es k d) (may (suc k) d (omega (arith, lt))))
+    (λ k d lt. next (get_or ws k d) (all k d lt))

@@ -1,6 +1,6 @@
 -- What is left of lists from a place on.
-use Rattle.std.proofs.Common.{◌≡◌, ℕ, zero, suc, ◌+◌, ◌<◌, ◌≤◌, Bool, true, false, eqb, List, [], ◌∷◌, ◌++◌, length, drop, get_or, Some, refl, sym, ◌∙◌, subst, arith, add-one, drop-cons}
-use Rattle.std.specs.Prelude.{All, Contains, slice_get}
+use Rattle.std.proofs.Common.{◌≡◌, ℕ, zero, suc, ◌+◌, ◌<◌, ◌≤◌, Bool, true, false, eqb, List, [], ◌∷◌, ◌++◌, length, drop, get_or, Some, refl, sym, ◌∙◌, subst, arith, add-one, drop-cons, length-append}
+use Rattle.std.specs.Prelude.{All, slice_get}
 use Rattle.std.proofs.lemmas.Bool.{eqb-true}
 
 pub drop_front : {A : Type 0} (xs : List A) (i : ℕ) (d : A) → i < length xs → drop i xs ≡ get_or xs i d ∷ drop (i + 1) xs
@@ -41,8 +41,25 @@ each_more P i h x j lt = by_test (eqb j i) refl
     by_test true e = subst P (sym (eqb-true j i e)) x
     by_test false e = h j (grind (arith, lt, e))
 
--- a list of lists whose item there is not empty is long enough
-pub item_within : (xss : List (List ℕ)) (u x : ℕ) → Contains (get_or xss u []) x → u < length xss
-item_within [] u x h = let q = h.1 in absurd (omega (arith, q))
-item_within (xs ∷ xss) zero x h = omega arith
-item_within (xs ∷ xss) (suc u) x h = let q = item_within xss u x h in omega (arith, q)
+pub push_before : {A : Type 0} (xs : List A) (x d : A) (i : ℕ) → i < length xs → get_or (xs ++ x ∷ []) i d ≡ get_or xs i d
+push_before [] x d i h = absurd (omega (arith, h))
+push_before (y ∷ xs) x d zero h = refl
+push_before (y ∷ xs) x d (suc i) h = push_before xs x d i (omega (arith, h))
+
+pub push_last : {A : Type 0} (xs : List A) (x d : A) → get_or (xs ++ x ∷ []) (length xs) d ≡ x
+push_last [] x d = refl
+push_last (y ∷ xs) x d = push_last xs x d
+
+-- what holds of each item, by its place, holds when one more was added of which it holds
+pub each_pushed : {A : Type 0} (P : ℕ → A → Type 0) (xs : List A) (x d : A) → ((i : ℕ) → i < length xs → P i (get_or xs i d)) → P (length xs) x
+    → (i : ℕ) → i < length (xs ++ x ∷ []) → P i (get_or (xs ++ x ∷ []) i d)
+each_pushed P xs x d each last i lt = by_test (eqb i (length xs)) refl
+  where
+    by_test : (b : Bool) → eqb i (length xs) ≡ b → P i (get_or (xs ++ x ∷ []) i d)
+    by_test true e =
+        let at : i ≡ length xs = eqb-true i (length xs) e in
+        subst (λ k. P k (get_or (xs ++ x ∷ []) k d)) (sym at) (subst (P (length xs)) (sym (push_last xs x d)) last)
+    by_test false e =
+        let size = length-append xs (x ∷ []) in
+        let below : i < length xs = grind (arith, lt, e, size) in
+        subst (P i) (sym (push_before xs x d i below)) (each i below)

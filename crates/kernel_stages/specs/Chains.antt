@@ -1,5 +1,6 @@
--- The delays of nodes, a chain for each node: its first delay follows the word of the node, and
--- each other one the delay before it.
+-- The delays of nodes, two chains for each node: the first delay of its pipeline follows the word
+-- of the node, the first one of its waits the end of the pipeline, and each other one the delay
+-- before it.
 use Rattle.std.specs.Prelude.{
   ◌≡◌,
   ℕ,
@@ -15,6 +16,7 @@ use Rattle.std.specs.Prelude.{
   ◌∷◌,
   ◌++◌,
   length,
+  map,
   slice_index,
   slice_index_or,
   All,
@@ -26,7 +28,8 @@ use Rattle.rtl_delays.specs.declared.elements.Element.{Element}
 use Rattle.rtl_delays.specs.declared.elements.Element.TheVariants.{Register, Ring}
 use Rattle.rtl_delays.specs.Extends.{is_number}
 use Rattle.rtl_delays.specs.Elements.{shown, advances_of, reg_of, mem_of, AreFree}
-use Rattle.kernel_stages.specs.Numbers.{stages_at}
+use Rattle.kernel_stages.specs.declared.node.NodeDelays.{NodeDelays}
+use Rattle.kernel_stages.specs.Numbers.{up_to, waits_at}
 
 -- what stands past the last signal
 abbrev pub no_signal : Signal
@@ -40,18 +43,43 @@ no_element = Register no_signal
 abbrev pub word_at : List Signal → ℕ → Signal
 word_at words u = slice_index_or words u no_signal
 
+-- the delays of a node, those of its pipeline first
+abbrev pub elements_of : NodeDelays → List Element
+elements_of d = d.pipeline ++ d.waits
+
+abbrev pub no_delays : NodeDelays
+no_delays = record { pipeline = []; waits = [] }
+
 -- the delays of node u, and none past the last node
-abbrev pub chain_at : List (List Element) → ℕ → List Element
-chain_at chains u = slice_index_or chains u []
+abbrev pub delays_at : List NodeDelays → ℕ → NodeDelays
+delays_at delays u = slice_index_or delays u no_delays
 
 -- delay number i of a chain
 abbrev pub element_at : List Element → ℕ → Element
 element_at chain i = slice_index_or chain i no_element
 
--- the delays of all chains, one chain after another
-abbrev pub joined : List (List Element) → List Element
+-- the delays of all nodes, one node after another
+abbrev pub joined : List NodeDelays → List Element
 joined [] = []
-joined (chain ∷ chains) = chain ++ joined chains
+joined (d ∷ delays) = elements_of d ++ joined delays
+
+-- the signal of the last delay of a chain, and this one where there is none
+abbrev pub last_shown : Signal → List Element → Signal
+last_shown s [] = s
+last_shown s (e ∷ chain) = last_shown (shown e) chain
+
+-- the end of the pipeline of node u, which shows its word after its latency
+abbrev pub end_at : List Signal → List NodeDelays → ℕ → Signal
+end_at words delays u = last_shown (word_at words u) (delays_at delays u).pipeline
+
+-- the end of a pipeline, if it has delays
+abbrev pub end_of : List Element → List Signal
+end_of [] = []
+end_of (e ∷ chain) = last_shown (shown e) chain ∷ []
+
+-- the signals that show a node's word later
+abbrev pub signals_of : NodeDelays → List Signal
+signals_of d = end_of d.pipeline ++ map shown d.waits
 
 -- there is one delay for each stage, by the advances from the stage before it, and from `prior` to
 -- the first one
@@ -62,20 +90,29 @@ IsChain prior (stage ∷ stages) [] = ⊥
 IsChain prior (stage ∷ stages) (e ∷ chain) =
     (prior + advances_of e ≡ stage) × IsChain stage stages chain
 
--- each node has a chain of delays for its stages
-abbrev pub AreChains : List (List ℕ) → List (List Element) → Type 0
-AreChains [] [] = Unit {0}
-AreChains [] (chain ∷ chains) = ⊥
-AreChains (stages ∷ rest) [] = ⊥
-AreChains (stages ∷ rest) (chain ∷ chains) = IsChain 0 stages chain × AreChains rest chains
+-- a node's pipeline has a register for each advance of its latency, and behind it there is one
+-- delay for each wait
+pub record IsDelayedBy (latency : ℕ) (waits : List ℕ) (d : NodeDelays) : Type 0 where
+  pub pipeline : IsChain 0 (up_to latency) d.pipeline
+  pub behind : IsChain 0 waits d.waits
+
+-- so it is for each node
+pub record AreChains (latencies : List ℕ) (waits : List (List ℕ)) (delays : List NodeDelays)
+    : Type 0
+  where
+    pub counted : length delays ≡ length waits
+    pub numbered : length latencies ≡ length waits
+    pub each :
+        (u : ℕ)
+        → u < length delays
+        → IsDelayedBy (slice_index latencies u) (waits_at waits u) (delays_at delays u)
 
 -- the delays of each node have its width
-abbrev pub AreWide : List ℕ → List (List Element) → Type 0
-AreWide [] [] = Unit {0}
-AreWide [] (chain ∷ chains) = ⊥
-AreWide (width ∷ widths) [] = ⊥
-AreWide (width ∷ widths) (chain ∷ chains) =
-    All (λ e. (shown e).width ≡ width) chain × AreWide widths chains
+abbrev pub AreWide : List ℕ → List NodeDelays → Type 0
+AreWide widths delays =
+    (u : ℕ)
+    → u < length delays
+    → All (λ e. (shown e).width ≡ slice_index widths u) (elements_of (delays_at delays u))
 
 -- how many of these delays are rings
 abbrev pub ring_delays : List Element → ℕ
@@ -106,12 +143,3 @@ pub record AreFreeIn (m : Module) (es : List Element) : Type 0 where
 abbrev pub AddsRegistersOf : Module → Module → List Element → Type 0
 AddsRegistersOf old new es =
     (n : ℕ) → is_reg new n ≡ true → is_register_of es n ≡ false → is_reg old n ≡ true
-
--- the signal shows the word of node u at the stage of so many advances
-pub record IsStage (stages : List (List ℕ)) (chains : List (List Element)) (u behind : ℕ)
-    (s : Signal) : Type 0
-  where
-    pub place : ℕ
-    pub within : place < length (chain_at chains u)
-    pub stage : slice_index (stages_at stages u) place ≡ behind
-    pub is : s ≡ shown (element_at (chain_at chains u) place)

@@ -5,13 +5,16 @@ use Rattle.rtl_build.specs.declared.signal.Signal.{Signal}
 use Rattle.rtl_build.specs.Signals.{HasSignal}
 use Rattle.rtl_delays.specs.declared.elements.Element.{Element}
 use Rattle.rtl_delays.specs.Steps.{writes_reg, writes_mem}
-use Rattle.rtl_delays.specs.Delays.{IsDelay, of_net}
+use Rattle.rtl_delays.specs.Delays.{IsDelay, IsTap, of_net}
 use Rattle.rtl_delays.specs.Elements.{shown, advances_of}
-use Rattle.kernel_stages.specs.Numbers.{stages_at}
+use Rattle.kernel_stages.specs.declared.node.NodeDelays.{NodeDelays}
+use Rattle.kernel_stages.specs.Numbers.{waits_at}
 use Rattle.kernel_stages.specs.Chains.{
   word_at,
-  chain_at,
+  elements_of,
+  delays_at,
   element_at,
+  last_shown,
   AreChains,
   is_register_of,
   is_memory_of,
@@ -23,15 +26,17 @@ pub record MayFollow (m : Module) (s : Signal) (e : Element) : Type 0 where
   pub width : s.width ≡ (shown e).width
 
 -- the delays of each node may follow its word; of a node without delays nothing is asked
-abbrev pub MayFollowWords : Module → List Signal → List (List Element) → Type 0
-MayFollowWords m words chains =
-    (u : ℕ) → u < length chains → All (MayFollow m (word_at words u)) (chain_at chains u)
+abbrev pub MayFollowWords : Module → List Signal → List NodeDelays → Type 0
+MayFollowWords m words delays =
+    (u : ℕ)
+    → u < length delays
+    → All (MayFollow m (word_at words u)) (elements_of (delays_at delays u))
 
 -- the word of each node that has delays is a signal of the module, of the node's width
-abbrev pub AreWords : Module → List ℕ → List Signal → List (List Element) → Type 0
-AreWords m widths words chains =
+abbrev pub AreWords : Module → List ℕ → List Signal → List NodeDelays → Type 0
+AreWords m widths words delays =
     (u : ℕ)
-    → 0 < length (chain_at chains u)
+    → 0 < length (elements_of (delays_at delays u))
     → HasSignal m (word_at words u) × ((word_at words u).width ≡ slice_index widths u)
 
 -- of registers and memories that were not written, no others are written than those of these delays
@@ -58,15 +63,30 @@ Follows m run reset from (e ∷ chain) =
     IsDelay m run reset (of_net from) (shown e).net (advances_of e)
     × Follows m run reset (shown e).net chain
 
--- whatever the stages are that the chains are for, each delay of each node shows the word that the
--- node had so many advances ago as its stage says
-abbrev pub AreDelays : Module → ℕ → ℕ → List Signal → List (List Element) → Type 0
-AreDelays m run reset words chains =
-    (stages : List (List ℕ))
-    → AreChains stages chains
-    → (u i : ℕ)
-    → u < length chains
-    → i < length (chain_at chains u)
-    → IsDelay m run reset (of_net (word_at words u).net)
-    (shown (element_at (chain_at chains u) i)).net
-    (slice_index (stages_at stages u) i)
+-- a node's pipeline follows its word, and its waits the end of the pipeline
+pub record IsFollowed (m : Module) (run reset : ℕ) (word : Signal) (d : NodeDelays) : Type 0 where
+  pub pipeline : Follows m run reset word.net d.pipeline
+  pub waits : Follows m run reset (last_shown word d.pipeline).net d.waits
+
+-- The end of a node's pipeline shows its word after its latency, and each wait what the end of the
+-- pipeline showed so many advances ago.
+pub record IsDelayed (m : Module) (run reset : ℕ) (word : Signal) (latency : ℕ) (waits : List ℕ)
+    (d : NodeDelays) : Type 0
+  where
+    pub pipeline : IsTap m run reset (of_net word.net) (last_shown word d.pipeline).net latency
+    pub behind :
+        (i : ℕ)
+        → i < length d.waits
+        → IsDelay m run reset (of_net (last_shown word d.pipeline).net)
+        (shown (element_at d.waits i)).net
+        (slice_index waits i)
+
+-- so it is with each node, whatever the latencies and waits are that the delays are for
+abbrev pub AreDelays : Module → ℕ → ℕ → List Signal → List NodeDelays → Type 0
+AreDelays m run reset words delays =
+    (latencies : List ℕ) (waits : List (List ℕ))
+    → AreChains latencies waits delays
+    → (u : ℕ)
+    → u < length delays
+    → IsDelayed m run reset (word_at words u) (slice_index latencies u) (waits_at waits u)
+    (delays_at delays u)

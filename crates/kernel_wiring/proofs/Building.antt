@@ -101,18 +101,18 @@ all_wide nodes o n h types operands e t =
     subst (λ ts. All HasWidth ts) (sym t) (types_wide nodes operands (λ k d l. o.widths (get_or operands k d) (below k d l)))
 
 -- the nets that are read have the types of the operands
-nets_of : (m : Module) (nodes : List Node) (stages : List (List ℕ)) (late : List (List Signal)) (words : List Signal) (operands : List ℕ)
+nets_of : (m : Module) (nodes : List Node) (layout : Layout) (late : List (List Signal)) (words : List Signal) (operands : List ℕ)
     (reads : List Read) → length reads ≡ length operands
-    → ((i : ℕ) → i < length operands → IsWordOf m nodes (get_or operands i 0) (read_signal stages late words (get_or reads i no_read)))
-    → HasNets m (map (type_at nodes) operands) (map (read_net stages late words) reads)
-nets_of m nodes stages late words [] [] e a = record { widths = refl; inner = tt }
-nets_of m nodes stages late words [] (r ∷ reads) e a = absurd (omega (arith, e))
-nets_of m nodes stages late words (o ∷ operands) [] e a = absurd (omega (arith, e))
-nets_of m nodes stages late words (o ∷ operands) (r ∷ reads) e a =
-    let one : IsWordOf m nodes o (read_signal stages late words r) = a 0 (omega arith) in
-    let rest = nets_of m nodes stages late words operands reads (omega (arith, e)) (λ i l. a (suc i) (omega (arith, l))) in
+    → ((i : ℕ) → i < length operands → IsWordOf m nodes (get_or operands i 0) (read_signal layout late words (get_or reads i no_read)))
+    → HasNets m (map (type_at nodes) operands) (map (read_net layout late words) reads)
+nets_of m nodes layout late words [] [] e a = record { widths = refl; inner = tt }
+nets_of m nodes layout late words [] (r ∷ reads) e a = absurd (omega (arith, e))
+nets_of m nodes layout late words (o ∷ operands) [] e a = absurd (omega (arith, e))
+nets_of m nodes layout late words (o ∷ operands) (r ∷ reads) e a =
+    let one : IsWordOf m nodes o (read_signal layout late words r) = a 0 (omega arith) in
+    let rest = nets_of m nodes layout late words operands reads (omega (arith, e)) (λ i l. a (suc i) (omega (arith, l))) in
     record {
-      widths = ap (λ n. n ∷ map (width_of m) (map (read_net stages late words) reads)) (one.signal.width ∙ one.bits) ∙ ap
+      widths = ap (λ n. n ∷ map (width_of m) (map (read_net layout late words) reads)) (one.signal.width ∙ one.bits) ∙ ap
           (λ ns. width_at nodes o ∷ ns) rest.widths;
       inner = (one.signal.inner, rest.inner);
     }
@@ -138,7 +138,7 @@ module _ (nodes : List Node) (layout : Layout) (late : List (List Signal)) (word
       → HasNets m types nets
   operation_nets m r op mode amount e types nets t a =
       subst (λ ts. HasNets m ts nets) (sym t) (subst (λ ns. HasNets m (map (type_at nodes) (operands_at nodes n)) ns) (sym a)
-      (nets_of m nodes layout.stages late words (operands_at nodes n) (reads_at layout n) (r.counted (wired_operation (kind_at nodes n) op mode amount e))
+      (nets_of m nodes layout late words (operands_at nodes n) (reads_at layout n) (r.counted (wired_operation (kind_at nodes n) op mode amount e))
       (λ i l. r.typed i l (takes_all (kind_at nodes n) op mode amount e i))))
 
   pub operation_added : (old new : Module) → IsReadable old nodes layout late words n
@@ -174,9 +174,9 @@ module _ (nodes : List Node) (layout : Layout) (late : List (List Signal)) (word
       }
 
   -- the net of a signal that was read is that of its tap
-  tap_of : (i : ℕ) (s : Signal) → i < length (reads_at layout n) → s ≡ read_signal layout.stages late words (read_at (reads_at layout n) i)
+  tap_of : (i : ℕ) (s : Signal) → i < length (reads_at layout n) → s ≡ read_signal layout late words (read_at (reads_at layout n) i)
       → slice_get (taps_at layout late words n) i ≡ Some s.net
-  tap_of i s h is = slice_map (read_net layout.stages late words) (reads_at layout n) i no_read h ∙ ap (λ (x : Signal). Some x.net) (sym is)
+  tap_of i s h is = slice_map (read_net layout late words) (reads_at layout n) i no_read h ∙ ap (λ (x : Signal). Some x.net) (sym is)
 
   -- a node that gets wires reads each operand
   pub reads_some : (m : Module) → IsReadable m nodes layout late words n → is_wired (kind_at nodes n) ≡ true → (i : ℕ)
@@ -242,7 +242,7 @@ module _ (nodes : List Node) (layout : Layout) (late : List (List Signal)) (word
   copy_reads m t h r e = reads_some m r (copy_wired (kind_at nodes n) e) 0 (t.firsts n h (copy_like (kind_at nodes n) e)).some
 
   pub copy_added : (m : Module) → AreTyped nodes → n < length nodes → IsReadable m nodes layout late words n → is_copy (kind_at nodes n) ≡ true
-      → (s : Signal) → s ≡ read_signal layout.stages late words (read_at (reads_at layout n) 0) → AddsWord m m nodes layout late words timing n (Some s)
+      → (s : Signal) → s ≡ read_signal layout late words (read_at (reads_at layout n) 0) → AddsWord m m nodes layout late words timing n (Some s)
   copy_added m t h r e s is =
       let first = t.firsts n h (copy_like (kind_at nodes n) e) in
       let one = r.typed 0 first.some (copy_takes (kind_at nodes n) e) in
@@ -257,7 +257,7 @@ module _ (nodes : List Node) (layout : Layout) (late : List (List Signal)) (word
 
   pub part_added : (old new : Module) → IsReadable old nodes layout late words n → (place bits : ℕ) → kind_at nodes n ≡ K.Part place
       → IsPartOf nodes n place → bits ≡ width_at nodes n → (digits : List CounterDigit) → digits ≡ digits_at nodes (operand_at nodes n 0)
-      → (chain s : Signal) → chain ≡ read_signal layout.stages late words (read_at (reads_at layout n) 0)
+      → (chain s : Signal) → chain ≡ read_signal layout late words (read_at (reads_at layout n) 0)
       → Makes old new 1 bits (λ v. v chain.net / 2 ^ bits_below digits place % 2 ^ bits) s
       → AddsWord old new nodes layout late words timing n (Some s)
   part_added old new r place bits e p b digits d chain s is made =
@@ -282,8 +282,8 @@ module _ (nodes : List Node) (layout : Layout) (late : List (List Signal)) (word
 
   -- the signals that a hold reads
   pub record IsHoldRead (from store : Signal) : Type 0 where
-    pub first : from ≡ read_signal layout.stages late words (read_at (reads_at layout n) 0)
-    pub second : store ≡ read_signal layout.stages late words (read_at (reads_at layout n) 1)
+    pub first : from ≡ read_signal layout late words (read_at (reads_at layout n) 0)
+    pub second : store ≡ read_signal layout late words (read_at (reads_at layout n) 1)
 
   pub hold_added : (old new : Module) → AreTyped nodes → n < length nodes → IsReadable old nodes layout late words n → kind_at nodes n ≡ K.Hold
       → (time : ℕ) (from store kept s : Signal) → time ≡ time_at timing n → kept ≡ signal_at words n → IsHoldRead from store

@@ -44,8 +44,10 @@ use Rattle.offset_edges.proofs.SourceLemmas.{kind_cases, source_past, source_her
 use Rattle.kernel_layout.specs.declared.layout.Layout.{Layout}
 use Rattle.kernel_layout.specs.declared.reads.Read.{Read}
 use Rattle.kernel_layout.specs.Reads.{no_read, read_at, reads_count, behind_of, direct_of, IsRead}
+use Rattle.kernel_layout.specs.Layouts.{stages_at}
 use Rattle.kernel_layout.proofs.Sourcing.{edge_among, among_within, among_is}
-use Rattle.kernel_wiring.specs.Words.{has_word, is_wired, reads_at, stages_at, IsLaidOut}
+use Rattle.kernel_layout.proofs.Staging.{read_shown}
+use Rattle.kernel_wiring.specs.Words.{has_word, is_wired, reads_at, IsLaidOut}
 use Rattle.kernel_wiring.specs.OneNode.{takes}
 use Rattle.fix_arith.specs.Types.{width_of}
 use Rattle.kernel_types.specs.Types.{is_like, AreTyped}
@@ -161,7 +163,7 @@ module _ (nodes : List Node) (o : IsOrderly nodes) (t : AreTyped nodes) where
       pub below : place < length (operands_at nodes n)
       pub inside : (read_at (reads_at layout n) place).source < length nodes
       pub kept : ((read_at (reads_at layout n) place).behind ≡ 0 → ⊥)
-          → Contains (stages_at layout.stages (read_at (reads_at layout n) place).source) (read_at (reads_at layout n) place).behind
+          → Contains (stages_at layout (read_at (reads_at layout n) place).source) (read_at (reads_at layout n) place).behind
       pub width : width_at nodes (read_at (reads_at layout n) place).source ≡ width_at nodes (operand_at nodes n place)
       pub word : has_word (kind_at nodes (read_at (reads_at layout n) place).source) ≡ true
       pub ranked : (read_at (reads_at layout n) place).behind ≡ 0
@@ -169,7 +171,7 @@ module _ (nodes : List Node) (o : IsOrderly nodes) (t : AreTyped nodes) where
 
     read_kept : (n i : ℕ) → n < length nodes → is_offset (kind_at nodes n) ≡ false → i < length (operands_at nodes n) → (r : Read)
         → IsRead nodes laid.times n (operand_at nodes n i) r
-        → (r.behind ≡ 0 → ⊥) → Contains (stages_at layout.stages r.source) r.behind
+        → (r.behind ≡ 0 → ⊥) → Contains (stages_at layout r.source) r.behind
     read_kept n i h f l r is moves =
         let s = laid.times in
         let source = source_of nodes (operand_at nodes n i) in
@@ -181,8 +183,9 @@ module _ (nodes : List Node) (o : IsOrderly nodes) (t : AreTyped nodes) where
         let at = among_is (edges_of nodes) a.0 _ (record { from = 0; to = 0; offset = pos 0 }) a.1 in
         let waits = ap (behind_of s) at ∙ ap (λ u. (s n -ℤ s u) -ℤ source.offset) (sym is.source) ∙ sym (is.moving steady) in
         let some : 0 < r.behind = positive r.behind moves in
-        ((laid.is.stages.each r.source is.inside).each r.behind).1
-        (some, inr (a.0, among_within (edges_of nodes) a.0 _ a.1, ap (λ (e : Edge). e.from) at ∙ sym is.source, waits))
+        read_shown nodes laid.ticks s r.source (get_or layout.pipeline r.source 0) (get_or layout.waits r.source []) (laid.is.waits.each r.source is.inside)
+        (laid.is.pipeline.each r.source is.inside) r.behind some
+        (a.0, among_within (edges_of nodes) a.0 _ a.1, ap (λ (e : Edge). e.from) at ∙ sym is.source, waits)
       where
         positive : (b : ℕ) → (b ≡ 0 → ⊥) → 0 < b
         positive zero none = absurd (none refl)

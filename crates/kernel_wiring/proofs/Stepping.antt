@@ -52,12 +52,12 @@ use Rattle.stream_graph.proofs.NodeLemmas.{IsOrderly}
 use Rattle.kernel_layout.specs.declared.layout.Layout.{Layout}
 use Rattle.kernel_layout.specs.declared.reads.Read.{Read}
 use Rattle.kernel_layout.specs.Reads.{no_read, read_at}
+use Rattle.kernel_layout.specs.Layouts.{stages_at}
 use Rattle.kernel_wiring.specs.Words.{
   has_word,
   is_wired,
   no_signal,
   signal_at,
-  stages_at,
   late_at,
   late_of,
   read_signal,
@@ -125,18 +125,18 @@ late_word P (x ∷ stages) (s ∷ signals) b e a c = by_test (eqb x b) refl c.0 
     by_test false q zero h is more = absurd (grind (arith, q, is))
     by_test false q (suc k) h is more = more (k, (omega (arith, h)), is)
 
-same_nets : (stages : List (List ℕ)) (late : List (List Signal)) (words after : List Signal) (reads : List Read)
+same_nets : (layout : Layout) (late : List (List Signal)) (words after : List Signal) (reads : List Read)
     → ((p : ℕ) → p < length reads → (get_or reads p no_read).behind ≡ 0 → signal_at after (get_or reads p no_read).source ≡ signal_at words
     (get_or reads p no_read).source)
-    → map (read_net stages late after) reads ≡ map (read_net stages late words) reads
-same_nets stages late words after [] same = refl
-same_nets stages late words after (r ∷ reads) same =
-    ap (λ (s : Signal). s.net ∷ map (read_net stages late after) reads) (one (eqb r.behind 0) refl)
-    ∙ ap (λ ns. read_net stages late words r ∷ ns) (same_nets stages late words after reads (λ p h z. same (suc p) (omega (arith, h)) z))
+    → map (read_net layout late after) reads ≡ map (read_net layout late words) reads
+same_nets layout late words after [] same = refl
+same_nets layout late words after (r ∷ reads) same =
+    ap (λ (s : Signal). s.net ∷ map (read_net layout late after) reads) (one (eqb r.behind 0) refl)
+    ∙ ap (λ ns. read_net layout late words r ∷ ns) (same_nets layout late words after reads (λ p h z. same (suc p) (omega (arith, h)) z))
   where
     one : (t : Bool) → eqb r.behind 0 ≡ t
-        → cond t (signal_at after r.source) (late_of (stages_at stages r.source) (late_at late r.source) r.behind) ≡ cond t
-        (signal_at words r.source) (late_of (stages_at stages r.source) (late_at late r.source) r.behind)
+        → cond t (signal_at after r.source) (late_of (stages_at layout r.source) (late_at late r.source) r.behind) ≡ cond t
+        (signal_at words r.source) (late_of (stages_at layout r.source) (late_at late r.source) r.behind)
     one true e = same 0 (omega arith) (grind (arith, e))
     one false e = refl
 
@@ -301,7 +301,7 @@ none_yet nodes layout late timing old before sound = record {
 
 module _ (nodes : List Node) (o : IsOrderly nodes) (t : AreTyped nodes) (layout : Layout) (laid : IsLaidOut nodes layout) (late : List (List Signal))
     (timing : Timing) (old : Module) (before : List Signal)
-    (shown : AreLate old nodes layout.stages late) (first : AreGiven old nodes before) where
+    (shown : AreLate old nodes layout late) (first : AreGiven old nodes before) where
   -- the word of a node that comes before number k of the order
   word_there : (m : Module) (words : List Signal) (k : ℕ) → AreWired nodes layout late timing old m before words k → (u : ℕ) → u < length nodes
       → has_word (kind_at nodes u) ≡ true
@@ -319,18 +319,20 @@ module _ (nodes : List Node) (o : IsOrderly nodes) (t : AreTyped nodes) (layout 
 
   read_in : (m : Module) (words : List Signal) (k : ℕ) → AreWired nodes layout late timing old m before words k → (n i : ℕ) → n < length nodes
       → i < length (reads_at layout n)
-      → IsReadIn layout.stages late words (read_at (reads_at layout n) i)
+      → IsReadIn layout late words (read_at (reads_at layout n) i)
   read_in m words k w n i h l =
       let r = read_of nodes o t layout laid n i h l in
       let inside = r.inside in
       let a = w.size in
       let b = first.counted in
-      let c = laid.is.stages.counted in
+      let c = laid.is.pipeline.counted in
+      let e = laid.is.waits.counted in
       let d = shown.counted in
       record {
         source = omega (arith, inside, a, b);
         later = λ moves. record {
           node = omega (arith, inside, c);
+          waits = omega (arith, inside, e);
           known = omega (arith, inside, d);
           same = shown.same (read_at (reads_at layout n) i).source inside;
           kept = r.kept moves;
@@ -341,14 +343,14 @@ module _ (nodes : List Node) (o : IsOrderly nodes) (t : AreTyped nodes) (layout 
   read_typed : (m : Module) (words : List Signal) → Extends old m → (n i : ℕ) → n < length nodes → i < length (reads_at layout n)
       → ((read_at (reads_at layout n) i).behind ≡ 0 → IsWordOf m nodes (read_at (reads_at layout n) i).source
       (signal_at words (read_at (reads_at layout n) i).source))
-      → IsWordOf m nodes (operand_at nodes n i) (read_signal layout.stages late words (read_at (reads_at layout n) i))
+      → IsWordOf m nodes (operand_at nodes n i) (read_signal layout late words (read_at (reads_at layout n) i))
   read_typed m words x n i h l now =
       let r = read_of nodes o t layout laid n i h l in
       let read = read_at (reads_at layout n) i in
       let then : (read.behind ≡ 0 → ⊥) → IsWordOf m nodes read.source
-      (late_of (stages_at layout.stages read.source) (late_at late read.source) read.behind) =
+      (late_of (stages_at layout read.source) (late_at late read.source) read.behind) =
       λ moves. word_kept x
-      (late_word (IsWordOf old nodes read.source) (stages_at layout.stages read.source) (late_at late read.source) read.behind
+      (late_word (IsWordOf old nodes read.source) (stages_at layout read.source) (late_at late read.source) read.behind
       (shown.same read.source r.inside) (shown.each read.source r.inside) (r.kept moves)) in
       let word = by_test read (eqb read.behind 0) refl now then in
       record { signal = word.signal; bits = word.bits ∙ r.width }
@@ -356,16 +358,16 @@ module _ (nodes : List Node) (o : IsOrderly nodes) (t : AreTyped nodes) (layout 
       by_test : (read : Read) (b : Bool) → eqb read.behind 0 ≡ b
           → (read.behind ≡ 0 → IsWordOf m nodes read.source (signal_at words read.source))
           → ((read.behind ≡ 0 → ⊥) → IsWordOf m nodes read.source
-          (late_of (stages_at layout.stages read.source) (late_at late read.source) read.behind))
+          (late_of (stages_at layout read.source) (late_at late read.source) read.behind))
           → IsWordOf m nodes read.source (cond b (signal_at words read.source)
-          (late_of (stages_at layout.stages read.source) (late_at late read.source) read.behind))
+          (late_of (stages_at layout read.source) (late_at late read.source) read.behind))
       by_test read true e now then = now (is_zero _ e)
       by_test read false e now then = then (not_zero _ e)
 
   -- so it is with what node number k of the order reads
   read_before : (m : Module) (words : List Signal) (k n i : ℕ) → k < length layout.order → n ≡ node_of layout k
       → AreWired nodes layout late timing old m before words k → n < length nodes → i < length (reads_at layout n)
-      → IsWordOf m nodes (operand_at nodes n i) (read_signal layout.stages late words (read_at (reads_at layout n) i))
+      → IsWordOf m nodes (operand_at nodes n i) (read_signal layout late words (read_at (reads_at layout n) i))
   read_before m words k n i lt e w h l =
       let r = read_of nodes o t layout laid n i h l in
       let place : get_or laid.is.order.rank n 0 ≡ k + 1 = ap (λ v. get_or laid.is.order.rank v 0) e ∙ laid.is.order.placed.place k lt in
@@ -380,7 +382,7 @@ module _ (nodes : List Node) (o : IsOrderly nodes) (t : AreTyped nodes) (layout 
       record {
         reads = omega (arith, h, c);
         counted = reads_all nodes o t layout laid n h;
-        each = λ i d l. subst (λ r. IsReadIn layout.stages late words r) (get_or_default (reads_at layout n) i no_read d l) (read_in m words k w n i h l);
+        each = λ i d l. subst (λ r. IsReadIn layout late words r) (get_or_default (reads_at layout n) i no_read d l) (read_in m words k w n i h l);
         typed = λ i l q.
             let all = reads_all nodes o t layout laid n h (takes_wired (kind_at nodes n) i q) in
             read_before m words k n i lt e w h (omega (arith, all, l));
@@ -402,7 +404,7 @@ module _ (nodes : List Node) (o : IsOrderly nodes) (t : AreTyped nodes) (layout 
       let v = node_of layout k in
       let n = node_of layout j in
       let l : j < length layout.order = omega (arith, lt, le) in
-      same_nets layout.stages late words (slice_set words v s) (reads_at layout n) (λ p h z.
+      same_nets layout late words (slice_set words v s) (reads_at layout n) (λ p h z.
       let a = (read_of nodes o t layout laid n p (node_in nodes o t layout laid j l) h).ranked z in
       let b = laid.is.order.placed.place j l in
       let c = laid.is.order.placed.place k lt in
@@ -512,12 +514,12 @@ module _ (nodes : List Node) (o : IsOrderly nodes) (t : AreTyped nodes) (layout 
       let reads = reads_at layout n in
       let signals = signals_at layout late words n in
       control_bit m (kind_at nodes n) signals (λ i q l.
-      let size = length_map (read_signal layout.stages late words) reads in
+      let size = length_map (read_signal layout late words) reads in
       let inside : i < length reads = omega (arith, size, l) in
       let r = read_of nodes o t layout laid n i h inside in
       let word = read_typed m words w.wires.extends n i h inside
       (λ z. word_end m words k e w (read_at reads i).source r.inside r.word) in
-      subst (λ s. HasWidth m 1 s) (sym (get_map (read_signal layout.stages late words) reads i no_signal no_read inside))
+      subst (λ s. HasWidth m 1 s) (sym (get_map (read_signal layout late words) reads i no_signal no_read inside))
       (record { signal = word.signal; width = word.bits ∙ t.bits n i h q r.below }))
 
   pub all_wired : (m : Module) (words : List Signal) (k : ℕ) → k ≡ length layout.order → AreWired nodes layout late timing old m before words k

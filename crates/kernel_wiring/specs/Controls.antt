@@ -8,7 +8,7 @@ use Rattle.kernel_wiring.specs.Words.{control_at, reads_at, IsReadIn}
 -- all signals that nodes read are there
 abbrev pub AreThere : Layout → List (List Signal) → List Signal → List Node → Type 0
 AreThere layout late words nodes =
-    (n : ℕ) → n < length nodes → All (IsReadIn layout.stages late words) (reads_at layout n)
+    (n : ℕ) → n < length nodes → All (IsReadIn layout late words) (reads_at layout n)
 
 -- these are the signals of the controls of the ports among the nodes, in node order
 pub record AreControls (nodes : List Node) (layout : Layout) (late : List (List Signal))

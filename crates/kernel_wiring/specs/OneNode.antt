@@ -126,7 +126,7 @@ pub record IsReadable (m : Module) (nodes : List Node) (layout : Layout)
     pub counted :
         is_wired (kind_at nodes n) ≡ true
         → length (reads_at layout n) ≡ length (operands_at nodes n)
-    pub each : All (IsReadIn layout.stages late words) (reads_at layout n)
+    pub each : All (IsReadIn layout late words) (reads_at layout n)
     pub typed :
         (place : ℕ)
         → place < length (operands_at nodes n)

@@ -31,7 +31,7 @@ use Rattle.stream_graph.specs.LookUps.{kind_at, width_at}
 use Rattle.kernel_layout.specs.declared.layout.Layout.{Layout}
 use Rattle.kernel_layout.specs.declared.reads.Read.{Read}
 use Rattle.kernel_layout.specs.Reads.{read_at}
-use Rattle.kernel_layout.specs.Layouts.{IsLayout}
+use Rattle.kernel_layout.specs.Layouts.{stages_at, IsLayout}
 
 -- ---- kinds of nodes
 
@@ -61,10 +61,6 @@ no_signal = record { net = 0; width = 0 }
 abbrev pub signal_at : List Signal → ℕ → Signal
 signal_at words n = slice_index_or words n no_signal
 
--- the stages at which a node's word is kept
-abbrev pub stages_at : List (List ℕ) → ℕ → List ℕ
-stages_at stages n = slice_index_or stages n []
-
 -- the signals that show a node's word later, one for each stage
 abbrev pub late_at : List (List Signal) → ℕ → List Signal
 late_at late n = slice_index_or late n []
@@ -77,15 +73,15 @@ late_of (stage ∷ stages) (signal ∷ signals) behind =
     if stage == behind then signal else late_of stages signals behind
 
 -- the signal of a read: its source's word as it was computed, or so many advances after
-abbrev pub read_signal : List (List ℕ) → List (List Signal) → List Signal → Read → Signal
-read_signal stages late words read =
+abbrev pub read_signal : Layout → List (List Signal) → List Signal → Read → Signal
+read_signal layout late words read =
     if read.behind == 0
     then signal_at words read.source
-    else late_of (stages_at stages read.source) (late_at late read.source) read.behind
+    else late_of (stages_at layout read.source) (late_at late read.source) read.behind
 
 -- its net
-abbrev pub read_net : List (List ℕ) → List (List Signal) → List Signal → Read → ℕ
-read_net stages late words read = (read_signal stages late words read).net
+abbrev pub read_net : Layout → List (List Signal) → List Signal → Read → ℕ
+read_net layout late words read = (read_signal layout late words read).net
 
 -- how a node reads its operands
 abbrev pub reads_at : Layout → ℕ → List Read
@@ -94,11 +90,11 @@ reads_at layout n = slice_index_or layout.reads n []
 -- the signal from which a node reads the operand with this place
 abbrev pub operand_signal : Layout → List (List Signal) → List Signal → ℕ → ℕ → Signal
 operand_signal layout late words n place =
-    read_signal layout.stages late words (read_at (reads_at layout n) place)
+    read_signal layout late words (read_at (reads_at layout n) place)
 
 -- the signals from which a node reads its operands
 abbrev pub signals_at : Layout → List (List Signal) → List Signal → ℕ → List Signal
-signals_at layout late words n = map (read_signal layout.stages late words) (reads_at layout n)
+signals_at layout late words n = map (read_signal layout late words) (reads_at layout n)
 
 -- the signal of a port's control, if it has one, among those from which a node of this kind reads
 abbrev pub control_among : Kind → List Signal → Option Signal
@@ -113,7 +109,7 @@ control_at nodes layout late words n =
 
 -- the nets from which a node reads its operands
 abbrev pub taps_at : Layout → List (List Signal) → List Signal → ℕ → List ℕ
-taps_at layout late words n = map (read_net layout.stages late words) (reads_at layout n)
+taps_at layout late words n = map (read_net layout late words) (reads_at layout n)
 
 -- ---- what is known of them
 
@@ -141,12 +137,12 @@ pub record AreGiven (m : Module) (nodes : List Node) (words : List Signal) : Typ
       → IsWordOf m nodes n (signal_at words n)
 
 -- there is a signal for each stage of each node, which stands in the module with the node's width
-pub record AreLate (m : Module) (nodes : List Node) (stages : List (List ℕ))
+pub record AreLate (m : Module) (nodes : List Node) (layout : Layout)
     (late : List (List Signal)) : Type 0
   where
     pub counted : length late ≡ length nodes
     pub same :
-        (n : ℕ) → n < length nodes → length (late_at late n) ≡ length (stages_at stages n)
+        (n : ℕ) → n < length nodes → length (late_at late n) ≡ length (stages_at layout n)
     pub each : (n : ℕ) → n < length nodes → All (IsWordOf m nodes n) (late_at late n)
 
 -- the layout is that of a kernel of these nodes, with some latencies and at some times
@@ -156,16 +152,17 @@ pub record IsLaidOut (nodes : List Node) (layout : Layout) : Type 0 where
   pub is : IsLayout nodes ticks times layout
 
 -- the word of a read is kept so late as it is read
-pub record IsKept (stages : List (List ℕ)) (late : List (List Signal)) (read : Read) : Type 0
+pub record IsKept (layout : Layout) (late : List (List Signal)) (read : Read) : Type 0
   where
-    pub node : read.source < length stages
+    pub node : read.source < length layout.pipeline
+    pub waits : read.source < length layout.waits
     pub known : read.source < length late
-    pub same : length (late_at late read.source) ≡ length (stages_at stages read.source)
-    pub kept : Contains (stages_at stages read.source) read.behind
+    pub same : length (late_at late read.source) ≡ length (stages_at layout read.source)
+    pub kept : Contains (stages_at layout read.source) read.behind
 
 -- the signal of a read is there
-pub record IsReadIn (stages : List (List ℕ)) (late : List (List Signal)) (words : List Signal)
+pub record IsReadIn (layout : Layout) (late : List (List Signal)) (words : List Signal)
     (read : Read) : Type 0
   where
     pub source : read.source < length words
-    pub later : (read.behind ≡ 0 → ⊥) → IsKept stages late read
+    pub later : (read.behind ≡ 0 → ⊥) → IsKept layout late read

@@ -21,7 +21,7 @@ fn control_of(
 ) -> Option<Signal>
     requires node { node < length kernel.now.nodes }
     requires layout { length layout.now.reads ≡ length kernel.now.nodes }
-    requires reads { All (IsReadIn layout.now.stages late.now words.now)
+    requires reads { All (IsReadIn layout.now late.now words.now)
         (reads_at layout.now node) }
     ensures { result ≡ control_at kernel.now.nodes layout.now late.now words.now node }
 {
@@ -31,7 +31,7 @@ fn control_of(
         _ => return None,
     };
     let read = layout.reads.at(node.index()).as_slice().get(place)?;
-    Some(read_signal(layout.stages.as_slice(), late, words, *read))
+    Some(read_signal(layout, late, words, *read))
 }
 
 /// The signals of the controls of a kernel's ports, for each node, in node order: `None` where it

@@ -1,6 +1,7 @@
 // The signals from which a node reads its operands.
 ghost use Rattle.std.specs.Prelude.{◌≡◌, ◌<◌, map, length, All, Contains, IfOk};
 ghost use Rattle.stream_graph.specs.LookUps.{type_at};
+ghost use Rattle.kernel_layout.specs.Waits.{stages_by};
 ghost use Rattle.kernel_wiring.specs.Words.{late_of, read_signal, operand_signal};
 ghost use Rattle.kernel_wiring.specs.Words.{reads_at, taps_at, IsReadIn};
 
@@ -12,36 +13,54 @@ use rtl_ir::NetId;
 use std::alloc::Global;
 use stream_graph::{Kernel, NodeId};
 
-// The signal of the stage with this number of advances.
-fn late_signal(stages: &[u64], signals: &[Signal], behind: u64) -> Signal
-    requires same { length signals.now ≡ length stages.now }
-    requires kept { Contains stages.now behind }
-    ensures { result ≡ late_of stages.now signals.now behind }
+// The signal of the wait with this number of advances.
+fn waiting_signal(waits: &[u64], signals: &[Signal], wait: u64) -> Signal
+    requires same { length signals.now ≡ length waits.now }
+    requires kept { Contains waits.now wait }
+    ensures { result ≡ late_of waits.now signals.now wait }
 {
-    for place in 0..stages.len() {
-        if stages[place] == behind {
+    for place in 0..waits.len() {
+        if waits[place] == wait {
             return signals[place];
         }
     }
-    unreachable!("the word is kept so late")
+    unreachable!("the word waits so long")
+}
+
+// The signal that shows a word so many advances after it was computed: after its latency, if it has
+// one, or after one of its waits behind that.
+fn late_signal(latency: u32, waits: &[u64], signals: &[Signal], behind: u64) -> Signal
+    requires same { length signals.now ≡ length (stages_by latency waits.now) }
+    requires kept { Contains (stages_by latency waits.now) behind }
+    ensures { result ≡ late_of (stages_by latency waits.now) signals.now behind }
+{
+    if latency == 0 {
+        return waiting_signal(waits, signals, behind);
+    }
+    let wait = behind - u64::from(latency);
+    if wait == 0 {
+        return signals[0];
+    }
+    waiting_signal(waits, &signals[1..], wait)
 }
 
 /// The signal of a read: its source's word as it was computed, or so many advances after.
 pub(crate) fn read_signal(
-    stages: &[List<u64>],
+    layout: &Layout,
     late: &[List<Signal>],
     words: &[Signal],
     read: Read,
 ) -> Signal
-    requires { IsReadIn stages.now late.now words.now read }
-    ensures { result ≡ read_signal stages.now late.now words.now read }
+    requires { IsReadIn layout.now late.now words.now read }
+    ensures { result ≡ read_signal layout.now late.now words.now read }
 {
     let source = read.source as usize;
     if read.behind == 0 {
         return words[source];
     }
     late_signal(
-        stages[source].as_slice(),
+        *layout.pipeline.at(source),
+        layout.waits.at(source).as_slice(),
         late[source].as_slice(),
         read.behind,
     )
@@ -57,12 +76,12 @@ pub(crate) fn operand_signal(
 ) -> Signal
     requires node { node < length layout.now.reads }
     requires place { place < length (reads_at layout.now node) }
-    requires reads { All (IsReadIn layout.now.stages late.now words.now)
+    requires reads { All (IsReadIn layout.now late.now words.now)
         (reads_at layout.now node) }
     ensures { result ≡ operand_signal layout.now late.now words.now node place }
 {
     let reads = layout.reads.at(node.index()).as_slice();
-    read_signal(layout.stages.as_slice(), late, words, reads[place])
+    read_signal(layout, late, words, reads[place])
 }
 
 /// The nets from which a node reads its operands, in their order.
@@ -74,15 +93,14 @@ pub(crate) fn read_nets(
     node: NodeId,
 ) -> Result<Vec<NetId>, NoMemory>
     requires node { node < length layout.now.reads }
-    requires reads { All (IsReadIn layout.now.stages late.now words.now)
+    requires reads { All (IsReadIn layout.now late.now words.now)
         (reads_at layout.now node) }
     ensures { IfOk result (λ nets. nets.items ≡ taps_at layout.now late.now words.now node) }
 {
-    let stages = layout.stages.as_slice();
     let reads = layout.reads.at(node.index()).as_slice();
     let mut nets = Vec::new(alloc);
     for read in reads {
-        nets.push(read_signal(stages, late, words, *read).net())?;
+        nets.push(read_signal(layout, late, words, *read).net())?;
     }
     Ok(nets)
 }

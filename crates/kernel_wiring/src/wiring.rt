@@ -18,8 +18,8 @@ use stream_graph::{Kernel, NodeId};
 ///
 /// `words` has a signal for each node, in node order. Those of the nodes of other kinds are given;
 /// those of the nodes that get wires here are written, of which those of holds are given too: they
-/// are what the holds keep. `late` has for each node the signals that show its word later, one for
-/// each of its stages in the layout.
+/// are what the holds keep. `late` has for each node the signals that show its word later, one
+/// after its latency, if it has one, and one for each of its waits in the layout.
 ///
 /// The only error is `NoMemory`, also where the module has 2^32 nets. After it the module isn't to
 /// be used.
@@ -34,7 +34,7 @@ pub fn add_nodes(
 ) -> Result<(), NoMemory>
     requires sound { IsSound netlist.old }
     requires layout { IsLaidOut kernel.now.nodes layout.now }
-    requires late { AreLate netlist.old kernel.now.nodes layout.now.stages late.now }
+    requires late { AreLate netlist.old kernel.now.nodes layout.now late.now }
     requires timing { IsTiming netlist.old kernel.now.nodes timing.now }
     requires given { AreGiven netlist.old kernel.now.nodes words.old }
     ensures { OnOk result (AddsNodes netlist.old netlist.new kernel.now.nodes layout.now late.now

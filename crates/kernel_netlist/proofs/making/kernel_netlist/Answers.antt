@@ -23,7 +23,8 @@ returns-clause-made c =
     let is = subst (λ xs. IsModuleOf kernel xs plan.layout c.in_ok-inner.inner) c.as_slice-times.ensures c.in_ok-inner.ensures in
     netlist_is c.args.table.now kernel schedule c.requires.best
     plan.bits plan.layout c.in_ok-plan.ensures.bits c.in_ok-plan.ensures.fits
-    c.in_ok-plan.ensures.laid c.in_ok-plan.ensures.stored c.in_ok-plan.ensures.stages c.in_ok-plan.ensures.rings
+    c.in_ok-plan.ensures.laid c.in_ok-plan.ensures.stored c.in_ok-plan.ensures.pipelines
+    c.in_ok-plan.ensures.registers c.in_ok-plan.ensures.waits c.in_ok-plan.ensures.rings
     (record { part = c.in_ok-part.part; inner = c.in_ok-inner.inner }) is
     part.part part.shown part.times part.begins
 

@@ -12,8 +12,8 @@ use Rattle.fifo_sharing.specs.Chains.{AreChains}
 use Rattle.kernel_layout.specs.Layouts.{IsLayout}
 use Rattle.kernel_plan.specs.Refused.{bits_in}
 use Rattle.kernel_plan.proofs.Facts.{few_terms, terms_inside, legal, causal, problem_is, bits_read, some_bits, bits_said, planned, many, few_said, said_few, few_bits, no_memory}
-use Rattle.kernel_plan.proofs.Stored.{stored}
-use Rattle.kernel_plan.proofs.Counted.{counted, rings_counted}
+use Rattle.kernel_plan.proofs.Stored.{stored, piped}
+use Rattle.kernel_plan.proofs.Counted.{registers_counted, waits_counted, rings_counted}
 use Rattle.kernel_plan.proofs.planning.plan.Goals as goal
 
 pub cost-bits-requires-clause-count : goal.cost-bits-requires-clause-count
@@ -128,16 +128,25 @@ returns-clause-stored c =
     let nodes = c.args.kernel.now.nodes in
     let schedule = c.args.schedule.now in
     stored nodes (slice_index schedule.latencies) (numbers_of schedule.answer.times) (legal nodes schedule c.requires.least)
-    c.in_ok-layout.layout.stages (returns-clause-laid c).stages _ (returns-clause-bits c)
+    c.in_ok-layout.layout.waits (returns-clause-laid c).waits _ (returns-clause-bits c)
 
-pub returns-clause-stages : goal.returns-clause-stages
-returns-clause-stages c =
+pub returns-clause-pipelines : goal.returns-clause-pipelines
+returns-clause-pipelines c =
+    piped c.args.kernel.now.nodes (slice_index c.args.schedule.now.latencies) c.in_ok-layout.layout.pipeline (returns-clause-laid c).pipeline
+
+pub returns-clause-registers : goal.returns-clause-registers
+returns-clause-registers c =
+    registers_counted c.args.kernel.now.nodes (slice_index c.args.schedule.now.latencies) c.in_ok-layout.layout.pipeline
+    (returns-clause-laid c).pipeline c.requires.least.least.latencies.at_most
+
+pub returns-clause-waits : goal.returns-clause-waits
+returns-clause-waits c =
     let schedule = c.args.schedule.now in
-    counted c.args.kernel.now.nodes (slice_index schedule.latencies) (numbers_of schedule.answer.times)
-    c.in_ok-layout.layout.stages (returns-clause-laid c).stages c.requires.least.least.latencies.at_most
+    waits_counted c.args.kernel.now.nodes (slice_index schedule.latencies) (numbers_of schedule.answer.times) c.in_ok-layout.layout.waits
+    (returns-clause-laid c).waits
 
 pub returns-clause-rings : goal.returns-clause-rings
 returns-clause-rings c =
     let schedule = c.args.schedule.now in
-    rings_counted c.args.kernel.now.nodes (slice_index schedule.latencies) (numbers_of schedule.answer.times)
-    c.in_ok-layout.layout.stages (returns-clause-laid c).stages
+    rings_counted c.args.kernel.now.nodes (slice_index schedule.latencies) (numbers_of schedule.answer.times) c.in_ok-layout.layout.waits
+    (returns-clause-laid c).waits

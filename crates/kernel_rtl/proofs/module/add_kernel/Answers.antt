@@ -15,7 +15,6 @@ use Rattle.kernel_control.specs.Refines.{Refines}
 use Rattle.kernel_stages.specs.Numbers.{ring_count}
 use Rattle.kernel_stages.specs.Chains.{joined, ring_delays, AreFreeIn}
 use Rattle.kernel_stages.specs.Closing.{MayFollowWords, LeavesOthers}
-use Rattle.kernel_stages.proofs.Chaining.{chains_length}
 use Rattle.kernel_states.specs.States.{AreStates, AreFree as AreFreeStates}
 use Rattle.kernel_states.specs.Closing.{HaveWords}
 use Rattle.kernel_wiring.specs.Timing.{time_at}
@@ -49,8 +48,8 @@ use Rattle.kernel_rtl.proofs.Sizes.{net_count}
 use Rattle.kernel_rtl.proofs.Memories.{mem_count}
 use Rattle.kernel_rtl.proofs.module.add_kernel.Goals as goal
 
-pub start_storage-requires-clause-stages : goal.start_storage-requires-clause-stages
-start_storage-requires-clause-stages c = are_rising c.args.kernel.now.nodes (numbers_of c.args.times.now) c.args.layout.now c.requires.planned
+pub start_storage-requires-clause-waits : goal.start_storage-requires-clause-waits
+start_storage-requires-clause-waits c = are_rising c.args.kernel.now.nodes (numbers_of c.args.times.now) c.args.layout.now c.requires.planned
 
 pub add_words-requires-clause-streams : goal.add_words-requires-clause-streams
 add_words-requires-clause-streams c =
@@ -60,7 +59,7 @@ add_words-requires-clause-streams c =
 pub add_words-requires-clause-undriven : goal.add_words-requires-clause-undriven
 add_words-requires-clause-undriven c =
     data_undriven c.args.kernel.now c.args.netlist.now c.start_storage.new.netlist c.args.ports.now c.requires.made
-    c.args.layout.now.stages c.in_ok-storage.storage c.in_ok-storage.ensures
+    c.args.layout.now c.in_ok-storage.storage c.in_ok-storage.ensures
 
 pub add_words-requires-clause-delays : goal.add_words-requires-clause-delays
 add_words-requires-clause-delays c =
@@ -74,7 +73,7 @@ add_words-requires-clause-timing c =
     let timing = c.in_ok-timing.timing in
     let e = c.in_ok-timing.ensures in
     is_timing kernel c.args.netlist.now c.start_storage.new.netlist c.args.ports.now c.requires.made
-    c.args.layout.now.stages c.in_ok-storage.storage c.in_ok-storage.ensures timing e.position e.ticks e.counted
+    c.args.layout.now c.in_ok-storage.storage c.in_ok-storage.ensures timing e.position e.ticks e.counted
     (small_times kernel.nodes c.args.times.now c.args.layout.now timing c.requires.planned e.times)
 
 pub port_controls-requires-clause-reads : goal.port_controls-requires-clause-reads
@@ -90,7 +89,7 @@ control-requires-clause-inputs c =
     let timing = c.in_ok-timing.timing in
     let e = c.in_ok-timing.ensures in
     inputs_timed kernel c.args.netlist.now c.start_storage.new.netlist c.args.ports.now c.requires.made
-    c.args.layout.now.stages c.in_ok-storage.storage c.in_ok-storage.ensures c.args.layout.now timing c.add_words.new.netlist c.in_ok-added.added.items
+    c.args.layout.now c.in_ok-storage.storage c.in_ok-storage.ensures c.args.layout.now timing c.add_words.new.netlist c.in_ok-added.added.items
     c.in_ok-added.ensures c.as_slice-2.result.now
     (controls_named kernel.nodes c.args.layout.now c.as_slice.result.now (late_signals c.in_ok-storage.storage.delays) c.as_slice-words.result.now
     c.in_ok-added.added.items c.in_ok-enables.enables.items c.as_slice-2.result.now
@@ -104,7 +103,7 @@ control-requires-clause-outputs c =
     let timing = c.in_ok-timing.timing in
     let e = c.in_ok-timing.ensures in
     outputs_timed kernel c.args.netlist.now c.start_storage.new.netlist c.args.ports.now c.requires.made
-    c.args.layout.now.stages c.in_ok-storage.storage c.in_ok-storage.ensures c.args.layout.now timing c.add_words.new.netlist c.in_ok-added.added.items
+    c.args.layout.now c.in_ok-storage.storage c.in_ok-storage.ensures c.args.layout.now timing c.add_words.new.netlist c.in_ok-added.added.items
     c.in_ok-added.ensures c.as_slice-2.result.now
     (controls_named kernel.nodes c.args.layout.now c.as_slice.result.now (late_signals c.in_ok-storage.storage.delays) c.as_slice-words.result.now
     c.in_ok-added.added.items c.in_ok-enables.enables.items c.as_slice-2.result.now
@@ -117,7 +116,7 @@ control-requires-clause-nets c =
     let w = c.add_words.new.netlist in
     subst (λ (s : Signal). AreControlNets w (control_nets c.args.ports.now s)) (sym c.in_ok-timing.ensures.position)
     (control_nets_stand c.args.kernel.now c.args.netlist.now c.start_storage.new.netlist c.args.ports.now c.requires.made
-    c.args.layout.now.stages c.in_ok-storage.storage c.in_ok-storage.ensures c.args.layout.now c.in_ok-timing.timing w c.in_ok-added.added.items
+    c.args.layout.now c.in_ok-storage.storage c.in_ok-storage.ensures c.args.layout.now c.in_ok-timing.timing w c.in_ok-added.added.items
     c.in_ok-added.ensures)
 
 pub control-requires-clause-ports : goal.control-requires-clause-ports
@@ -125,7 +124,7 @@ control-requires-clause-ports c =
     let kernel = c.args.kernel.now in
     let timing = c.in_ok-timing.timing in
     handshakes_stand kernel c.args.netlist.now c.start_storage.new.netlist c.args.ports.now c.requires.made
-    c.args.layout.now.stages c.in_ok-storage.storage c.in_ok-storage.ensures c.args.layout.now timing c.add_words.new.netlist c.in_ok-added.added.items
+    c.args.layout.now c.in_ok-storage.storage c.in_ok-storage.ensures c.args.layout.now timing c.add_words.new.netlist c.in_ok-added.added.items
     c.in_ok-added.ensures c.as_slice-2.result.now
     (controls_named kernel.nodes c.args.layout.now c.as_slice.result.now (late_signals c.in_ok-storage.storage.delays) c.as_slice-words.result.now
     c.in_ok-added.added.items c.in_ok-enables.enables.items c.as_slice-2.result.now
@@ -142,7 +141,7 @@ control-requires-clause-undriven c =
     subst (λ (s : Signal). AreUndriven w (told_nets (control_nets ports s) (handshakes_of (time_at timing) enables ports)))
     (sym c.in_ok-timing.ensures.position)
     (told_undriven c.args.kernel.now c.args.netlist.now c.start_storage.new.netlist ports c.requires.made
-    c.args.layout.now.stages c.in_ok-storage.storage c.in_ok-storage.ensures c.args.layout.now timing w c.in_ok-added.added.items
+    c.args.layout.now c.in_ok-storage.storage c.in_ok-storage.ensures c.args.layout.now timing w c.in_ok-added.added.items
     c.in_ok-added.ensures (time_at timing) enables)
 
 pub close_stages-requires-clause-reset : goal.close_stages-requires-clause-reset
@@ -160,7 +159,7 @@ close_stages-requires-clause-free c =
     let hs = handshakes_of (time_at timing) (enable_at c.as_slice-2.result.now) ports in
     subst (λ es. AreFreeIn t (joined es)) (sym c.as_slice-delays.ensures)
     (delays_free c.args.kernel.now c.args.netlist.now c.start_storage.new.netlist ports c.requires.made
-    c.args.layout.now.stages storage c.in_ok-storage.ensures c.args.layout.now timing w c.in_ok-added.added.items c.in_ok-added.ensures t hs c.in_ok-run.run'
+    c.args.layout.now storage c.in_ok-storage.ensures c.args.layout.now timing w c.in_ok-added.added.items c.in_ok-added.ensures t hs c.in_ok-run.run'
     (control_named w t ports timing storage.position hs c.in_ok-run.run' c.in_ok-timing.ensures.position c.in_ok-run.ensures))
 
 pub close_stages-requires-clause-nodes : goal.close_stages-requires-clause-nodes
@@ -168,8 +167,8 @@ close_stages-requires-clause-nodes c =
     let a = ap length c.as_slice-words.ensures.value in
     let b = ap length c.as_slice-delays.ensures in
     let counted = c.in_ok-added.ensures.counted in
-    let long = chains_length c.args.layout.now.stages c.in_ok-storage.storage.delays c.in_ok-storage.ensures.late in
-    let all = c.requires.planned.laid.stages.counted in
+    let long = c.in_ok-storage.ensures.late.counted in
+    let all = c.requires.planned.laid.waits.counted in
     omega (arith, a, b, counted, long, all)
 
 pub close_stages-requires-clause-words : goal.close_stages-requires-clause-words
@@ -209,7 +208,7 @@ close_states-requires-clause-free c =
       storage.position.net + 1,
       s.between,
       subst (λ ss. AreFreeStates e (storage.position.net + 1) ss s.between) (sym c.as_slice-states.ensures)
-          (states_free c.args.kernel.now c.args.netlist.now c.start_storage.new.netlist ports c.requires.made c.args.layout.now.stages
+          (states_free c.args.kernel.now c.args.netlist.now c.start_storage.new.netlist ports c.requires.made c.args.layout.now
           storage s c.args.layout.now timing w c.in_ok-added.added.items c.in_ok-added.ensures t hs c.in_ok-run.run'
           (control_named w t ports timing storage.position hs c.in_ok-run.run' c.in_ok-timing.ensures.position c.in_ok-run.ensures) e others),
     )
@@ -245,7 +244,7 @@ close_states-requires-clause-nets c =
     let t = c.control.new.netlist in
     let timing = c.in_ok-timing.timing in
     let hs = handshakes_of (time_at timing) (enable_at c.as_slice-2.result.now) ports in
-    advance_nets c.args.kernel.now c.args.netlist.now c.start_storage.new.netlist ports c.requires.made c.args.layout.now.stages
+    advance_nets c.args.kernel.now c.args.netlist.now c.start_storage.new.netlist ports c.requires.made c.args.layout.now
     storage c.in_ok-storage.ensures c.args.layout.now timing w c.in_ok-added.added.items c.in_ok-added.ensures t hs c.in_ok-run.run'
     (control_named w t ports timing storage.position hs c.in_ok-run.run' c.in_ok-timing.ensures.position c.in_ok-run.ensures)
     c.close_stages.new.netlist c.in_ok-close_stages.ensures.extends
@@ -296,7 +295,7 @@ returns-clause-ports_first c =
 pub returns-clause-stored : goal.returns-clause-stored
 returns-clause-stored c =
     stored c.args.netlist.now c.start_storage.new.netlist c.add_words.new.netlist c.control.new.netlist c.close_stages.new.netlist
-    c.close_states.new.netlist c.args.kernel.now.nodes c.args.layout.now.stages c.in_ok-storage.storage c.requires.made.alone
+    c.close_states.new.netlist c.args.kernel.now.nodes c.args.layout.now c.in_ok-storage.storage c.requires.made.alone
     c.in_ok-storage.ensures c.in_ok-added.ensures.stored c.in_ok-run.ensures.stored c.in_ok-close_stages.ensures.stored
     c.in_ok-close_states.ensures.stored
 
@@ -317,7 +316,7 @@ returns-clause-mems c =
     let layout = c.args.layout.now in
     let z = c.in_ok-close_stages.ensures in
     mem_count c.args.netlist.now c.start_storage.new.netlist c.add_words.new.netlist c.control.new.netlist c.close_stages.new.netlist
-    c.close_states.new.netlist c.args.kernel.now.nodes layout.stages c.in_ok-storage.storage c.requires.made.alone c.in_ok-storage.ensures
+    c.close_states.new.netlist c.args.kernel.now.nodes layout c.in_ok-storage.storage c.requires.made.alone c.in_ok-storage.ensures
     c.in_ok-added.ensures.extends c.in_ok-run.ensures.extends z.extends
     c.in_ok-added.ensures.stored c.in_ok-run.ensures.stored z.stored c.in_ok-close_states.ensures.mems
 

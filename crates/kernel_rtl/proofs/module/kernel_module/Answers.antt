@@ -28,12 +28,12 @@ returns-clause-stored c = ap stored_bits c.finished.ensures.whole ∙ c.in_ok-ad
 
 pub returns-clause-nets : goal.returns-clause-nets
 returns-clause-nets c =
-    subst (λ (x : Module). length x.nets ≤ most_nets c.args.kernel.now.nodes c.args.layout.now.stages) (sym c.finished.ensures.whole)
+    subst (λ (x : Module). length x.nets ≤ most_nets c.args.kernel.now.nodes c.args.layout.now) (sym c.finished.ensures.whole)
     c.in_ok-add_kernel.ensures.nets
 
 pub returns-clause-mems : goal.returns-clause-mems
 returns-clause-mems c =
-    subst (λ (x : Module). length x.mems ≤ ring_count c.args.layout.now.stages) (sym c.finished.ensures.whole)
+    subst (λ (x : Module). length x.mems ≤ ring_count c.args.layout.now.waits) (sym c.finished.ensures.whole)
     c.in_ok-add_kernel.ensures.mems
 
 pub returns-clause-partial : goal.returns-clause-partial

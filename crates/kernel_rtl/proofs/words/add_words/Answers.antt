@@ -19,10 +19,10 @@ pub add_nodes-requires-clause-late : goal.add_nodes-requires-clause-late
 add_nodes-requires-clause-late c =
     let m = c.args.netlist.now in
     let nodes = c.args.kernel.now.nodes in
-    let stages = c.args.layout.now.stages in
+    let layout = c.args.layout.now in
     let q = c.requires in
-    subst (AreLate m nodes stages) (sym (c.as_slice-3.ensures.value ∙ c.in_ok-late.ensures ∙ ap late_signals c.as_slice.ensures))
-    (are_late m nodes stages c.args.storage.now.delays q.layout.is.stages.counted q.late q.wide q.delays)
+    subst (AreLate m nodes layout) (sym (c.as_slice-3.ensures.value ∙ c.in_ok-late.ensures ∙ ap late_signals c.as_slice.ensures))
+    (are_late m nodes layout c.args.storage.now.delays q.layout.is.waits.counted q.late q.wide q.delays)
 
 pub add_nodes-requires-clause-given : goal.add_nodes-requires-clause-given
 add_nodes-requires-clause-given c =
@@ -81,7 +81,7 @@ returns c =
     changed c.in_ok-words.words.len after words (let x = a.counted in let y = c.in_ok-words.words.ok in omega (arith, x, y)) in
     let d = drives_named n end c.as_slice-4.result.now after c.as_slice-5.result.now ports.outputs (c.as_slice-4.ensures.value ∙ same) c.as_slice-5.ensures
     c.in_ok-drive_words.ensures in
-    let late = are_late m nodes layout.stages storage.delays q.layout.is.stages.counted q.late q.wide q.delays in
+    let late = are_late m nodes layout storage.delays q.layout.is.waits.counted q.late q.wide q.delays in
     let there = are_there m nodes layout (late_signals storage.delays) after (orderly nodes kernel.made) q.layout late (a.counted ∙ given.counted) in
     subst (AddsWords m end nodes layout ports storage timing) (sym same)
     (words_added m n end nodes layout ports storage timing words after q.streams q.states given a d there)

@@ -9,7 +9,7 @@ use Rattle.rtl_delays.proofs.Kept.{no_register_on, written_kept}
 use Rattle.rtl_delays.proofs.Chain.{delay_kept}
 use Rattle.rtl_delays.proofs.Started.{element_kept, shown_signal, frees_left, others}
 use Rattle.kernel_stages.specs.Closing.{AreWritten, Follows}
-use Rattle.kernel_stages.specs.Chains.{ring_delays}
+use Rattle.kernel_stages.specs.Chains.{last_shown, ring_delays}
 use Rattle.kernel_stages.proofs.Lists.{drop_front, drop_all}
 use Rattle.kernel_stages.proofs.Climbing.{element_rings, element_closing}
 use Rattle.kernel_stages.proofs.Freeing.{leaves_same, leaves_element, none_written, written_more}
@@ -31,6 +31,7 @@ loop-element-init c =
       free = q.free;
       may = λ j d le lt. q.word j d lt;
       follows = λ p e h. h;
+      last = refl;
     }
 
 pub loop-element-preserved : goal.loop-element-preserved
@@ -90,6 +91,7 @@ loop-element-preserved c =
             delay_kept n p run reset (of_net from.net) (shown e).net (advances_of e) ext.grows x.extends.sound x.delay,
             subst (λ (s : Signal). Follows p run reset s.net rest) shows h,
           ));
+      last = ap (λ s. last_shown s rest) shows ∙ sym (ap (last_shown from) front) ∙ i.last;
     }
 
 pub returns-clause-written : goal.returns-clause-written
@@ -105,6 +107,12 @@ returns-clause-follows c =
     let i = c.loop-element.invariant in
     let end = drop_all c.args.chain.now c.loop-element.element-index c.loop-element-test.false in
     i.follows m (extends_same i.extends.sound) (subst (Follows m c.args.run.net c.args.reset.net c.loop-element.from.net) (sym end) tt)
+
+pub returns-clause-last : goal.returns-clause-last
+returns-clause-last c =
+    let i = c.loop-element.invariant in
+    let end = drop_all c.args.chain.now c.loop-element.element-index c.loop-element-test.false in
+    sym (ap (last_shown c.loop-element.from) end) ∙ i.last
 
 pub returns-clause-nets : goal.returns-clause-nets
 returns-clause-nets c = let was = c.loop-element.invariant.nets in omega (arith, was)

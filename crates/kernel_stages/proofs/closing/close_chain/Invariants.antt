@@ -4,7 +4,7 @@ use Rattle.rtl_delays.specs.declared.elements.Element.{Element}
 use Rattle.rtl_delays.specs.Extends.{Extends, AddsNoRegister, KeepsStill}
 use Rattle.rtl_delays.specs.Driven.{KeepsUndriven}
 use Rattle.rtl_delays.specs.Stored.{stored_bits}
-use Rattle.kernel_stages.specs.Chains.{ring_delays, AreFreeIn}
+use Rattle.kernel_stages.specs.Chains.{last_shown, ring_delays, AreFreeIn}
 use Rattle.kernel_stages.specs.Closing.{MayFollow, LeavesOthers, AreWritten, Follows}
 use Rattle.kernel_stages.proofs.closing.close_chain.Given as goal
 
@@ -24,4 +24,5 @@ invariant-loop-element l = record {
   follows :
       (m : Module) → Extends l.netlist m → Follows m l.run.net l.reset.net l.from.net (drop l.element-index l.chain)
       → Follows m l.run.net l.reset.net l.fn.word.net l.chain;
+  last : last_shown l.from (drop l.element-index l.chain) ≡ last_shown l.fn.word l.chain;
 }

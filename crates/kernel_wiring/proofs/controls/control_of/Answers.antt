@@ -28,8 +28,7 @@ read_signal-requires c =
     let found = c.in_ok-read.ensures.lookup.3 in
     let inside : place < length (reads_at layout c.args.node) = subst (λ (rs : List Read). place < length rs) same found.0 in
     let read = found.1 no_read ∙ ap (λ rs. read_at rs place) same in
-    subst (λ ss. IsReadIn ss c.args.late.now c.args.words.now c.in_ok-read.read.now) (sym c.as_slice-2.ensures)
-    (subst (λ r. IsReadIn layout.stages c.args.late.now c.args.words.now r) (sym read) (c.requires.reads place no_read inside))
+    subst (λ r. IsReadIn layout c.args.late.now c.args.words.now r) (sym read) (c.requires.reads place no_read inside)
 
 pub returns : goal.returns
 returns c =
@@ -43,9 +42,8 @@ returns c =
     let found = c.in_ok-read.ensures.lookup.3 in
     let inside : place < length (reads_at layout n) = subst (λ (rs : List Read). place < length rs) same found.0 in
     let read = found.1 no_read ∙ ap (λ rs. read_at rs place) same in
-    let signal : read_signal layout.stages late words (read_at (reads_at layout n) place) ≡ c.read_signal.result =
-    sym (c.read_signal.ensures ∙ ap (λ ss. read_signal ss late words c.in_ok-read.read.now) c.as_slice-2.ensures
-    ∙ ap (read_signal layout.stages late words) read) in
+    let signal : read_signal layout late words (read_at (reads_at layout n) place) ≡ c.read_signal.result =
+    sym (c.read_signal.ensures ∙ ap (read_signal layout late words) read) in
     let kind : kind_at nodes n ≡ c.node.result.kind = sym (ap (λ (v : NodeView). v.kind) (view_read nodes n n c.node.result refl c.node.ensures)) in
     let is : ((kind_at nodes n ≡ K.Input) × (place ≡ 0)) ⊎ ((kind_at nodes n ≡ K.Output) × (place ≡ 1)) =
     elim c.match-node.branch [
@@ -53,4 +51,4 @@ returns c =
       | in-Output w ↦ inr (kind ∙ w.in-Output.is, w.place-is)
     ] in
     control_found (kind_at nodes n) (signals_at layout late words n) place c.read_signal.result is
-    (slice_map (read_signal layout.stages late words) (reads_at layout n) place no_read inside ∙ ap Some signal)
+    (slice_map (read_signal layout late words) (reads_at layout n) place no_read inside ∙ ap Some signal)

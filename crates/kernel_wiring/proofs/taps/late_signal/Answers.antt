@@ -1,19 +1,34 @@
-use Rattle.std.proofs.Common.{◌∙◌, arith, sym}
-use Rattle.std.proofs.lemmas.List.{get_or_default}
-use Rattle.kernel_wiring.proofs.Stages.{late_first, none_more}
+use Rattle.std.proofs.Common.{◌≡◌, ◌+◌, ◌-◌, ◌≤◌, sym, ap, ◌∙◌, arith}
+use Rattle.kernel_wiring.proofs.Stages.{stage_least, wait_among, late_ready, late_rest, rest_is}
+use Rattle.kernel_wiring.specs.Words.{late_of}
 use Rattle.kernel_wiring.proofs.taps.late_signal.Goals as goal
 
-pub returns-then-stages-place : goal.returns-then-stages-place
-returns-then-stages-place c =
-    sym (late_first c.args.stages.now c.args.signals.now c.args.behind c.loop-place.place c.loop-place-test.true c.requires.same
-    c.if-stages-place.true c.loop-place.invariant.none)
+pub overflow_sub-wait : goal.overflow_sub-wait
+overflow_sub-wait c =
+    let least = stage_least c.args.latency c.args.waits.now c.args.behind c.if-latency-eq0.false c.requires.kept in
+    let same = c.from.ensures in
+    omega (arith, least, same)
 
-pub loop-place-preserved : goal.loop-place-preserved
-loop-place-preserved c = record { none = none_more c.args.stages.now c.args.behind c.loop-place.place c.loop-place.invariant.none c.if-stages-place.false }
+pub returns-then-wait-eq0 : goal.returns-then-wait-eq0
+returns-then-wait-eq0 c =
+    let least = stage_least c.args.latency c.args.waits.now c.args.behind c.if-latency-eq0.false c.requires.kept in
+    let same = c.from.ensures in
+    let none = c.if-wait-eq0.true in
+    sym (late_ready c.args.latency c.args.waits.now c.args.behind c.args.signals.now c.if-latency-eq0.false (omega (arith, least, same, none)) c.requires.same)
 
-pub unreachable-requires : goal.unreachable-requires
-unreachable-requires c =
-    let k = c.requires.kept in
-    let within = k.1 in
-    let past = c.loop-place-test.false in
-    c.loop-place.invariant.none k.0 (omega (arith, within, past)) (get_or_default c.args.stages.now k.0 0 c.args.behind within ∙ k.2)
+pub waiting_signal-requires-2-clause-kept : goal.waiting_signal-requires-2-clause-kept
+waiting_signal-requires-2-clause-kept c =
+    let least = stage_least c.args.latency c.args.waits.now c.args.behind c.if-latency-eq0.false c.requires.kept in
+    let same = c.from.ensures in
+    wait_among c.args.latency c.args.waits.now c.args.behind (c.args.behind - c.from.result) c.if-latency-eq0.false (omega (arith, least, same))
+    c.if-wait-eq0.false c.requires.kept
+
+pub returns : goal.returns
+returns c =
+    let least = stage_least c.args.latency c.args.waits.now c.args.behind c.if-latency-eq0.false c.requires.kept in
+    let same = c.from.ensures in
+    let wait = c.args.behind - c.from.result in
+    c.waiting_signal-2.ensures
+    ∙ ap (λ signals. late_of c.args.waits.now signals wait) (rest_is c.args.signals.now)
+    ∙ sym (late_rest c.args.latency c.args.waits.now c.args.behind (c.args.behind - c.from.result) c.args.signals.now c.if-latency-eq0.false
+    (omega (arith, least, same)) c.if-wait-eq0.false c.requires.same)

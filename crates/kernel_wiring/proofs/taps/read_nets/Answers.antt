@@ -14,8 +14,7 @@ read_signal-requires c =
     let i = c.loop-read.read-index in
     let same = c.as_slice-reads.ensures ∙ same_reads layout c.args.node c.index.result c.at.result.now c.index.ensures.number c.at.ensures in
     let inside : i < length (reads_at layout c.args.node) = subst (λ (rs : List Read). i < length rs) same c.loop-read-test.true in
-    subst (λ ss. IsReadIn ss late words (read_at c.as_slice-reads.result.now i)) (sym c.as_slice-stages.ensures)
-    (subst (λ rs. IsReadIn layout.stages late words (read_at rs i)) (sym same) (c.requires.reads i no_read inside))
+    subst (λ rs. IsReadIn layout late words (read_at rs i)) (sym same) (c.requires.reads i no_read inside)
 
 pub returns : goal.returns
 returns c =
@@ -23,8 +22,6 @@ returns c =
     let late = c.args.late.now in
     let words = c.args.words.now in
     let same = c.as_slice-reads.ensures ∙ same_reads layout c.args.node c.index.result c.at.result.now c.index.ensures.number c.at.ensures in
-    let f = read_net c.as_slice-stages.result.now late words in
+    let f = read_net layout late words in
     let none = drop_of_length-le c.as_slice-reads.result.now c.loop-read-test.false in
-    sym (append-nil c.loop-read.nets.items) ∙ ap (λ rs. c.loop-read.nets.items ++ map f rs) (sym none) ∙ c.loop-read.invariant.told
-    ∙ ap (λ ss. map (read_net ss late words) c.as_slice-reads.result.now) c.as_slice-stages.ensures
-    ∙ ap (map (read_net layout.stages late words)) same
+    sym (append-nil c.loop-read.nets.items) ∙ ap (λ rs. c.loop-read.nets.items ++ map f rs) (sym none) ∙ c.loop-read.invariant.told ∙ ap (map f) same

@@ -1,7 +1,6 @@
--- The stages at which a node's word is kept, each so many advances after it was computed.
+-- For how long a node's word waits behind its latency.
 use Rattle.std.specs.Prelude.{
   ◌≡◌,
-  ◌⊎◌,
   ◌↔◌,
   ℕ,
   zero,
@@ -13,10 +12,8 @@ use Rattle.std.specs.Prelude.{
   List,
   [],
   ◌∷◌,
-  ◌++◌,
   map,
   length,
-  slice_index,
   slice_index_or,
   Option,
   Some,
@@ -36,25 +33,21 @@ IsReadBehind nodes s u behind =
     (j : ℕ) × (j < length (edges_of nodes)) × ((edge_at (edges_of nodes) j).from ≡ u)
     × (behind_of s (edge_at (edges_of nodes) j) ≡ pos behind)
 
--- The stages of node u, in rising order: one for each advance of its latency, and one for each
--- number of advances, above 0, after which its word is read.
-pub record AreStages (nodes : List Node) (ticks : ℕ → ℕ) (s : Numbers) (u : ℕ) (stages : List ℕ) :
+-- The waits of node u, in rising order: one for each number of advances, above 0, for which its
+-- word waits behind its latency. No word is read before its latency.
+pub record AreWaits (nodes : List Node) (ticks : ℕ → ℕ) (s : Numbers) (u : ℕ) (waits : List ℕ) :
     Type 0
   where
-    pub rising : IsStrictlyIncreasing stages
+    pub rising : IsStrictlyIncreasing waits
     pub each :
-        (behind : ℕ)
-        → Contains stages behind
-        ↔ ((0 < behind) × ((behind ≤ ticks u) ⊎ IsReadBehind nodes s u behind))
+        (wait : ℕ) → Contains waits wait ↔ ((0 < wait) × IsReadBehind nodes s u (ticks u + wait))
+    pub late : (behind : ℕ) → IsReadBehind nodes s u behind → ticks u ≤ behind
 
--- the numbers from 1 up to this one
-abbrev pub up_to : ℕ → List ℕ
-up_to zero = []
-up_to (suc n) = up_to n ++ suc n ∷ []
-
--- the stages of a latency, and those of a chain that is tapped at these delays behind it
+-- the numbers of advances after which the word of a node of this latency is shown: the latency, if
+-- it has one, and each wait behind it
 abbrev pub stages_by : ℕ → List ℕ → List ℕ
-stages_by latency taps = up_to latency ++ map (λ delay. latency + delay) taps
+stages_by zero waits = waits
+stages_by (suc latency) waits = suc latency ∷ map (λ wait. suc latency + wait) waits
 
 -- what stands past the last chain
 abbrev pub no_chain : Chain
@@ -88,18 +81,13 @@ abbrev pub taps_of : List Chain → Option ℕ → List ℕ
 taps_of chains None = []
 taps_of chains (Some i) = (chain_at chains i).taps
 
--- the stages of a node of this latency are those of it and of the node's chain, if it has one
-pub record IsShared (chains : List Chain) (latency n : ℕ) (stages : List ℕ) : Type 0 where
+-- the waits of a node are the taps of its chain, if it has one
+pub record IsShared (chains : List Chain) (n : ℕ) (waits : List ℕ) : Type 0 where
   pub number : Option ℕ
   pub chain : IsChainAt chains (length chains) n number
-  pub is : stages ≡ stages_by latency (taps_of chains number)
+  pub is : waits ≡ taps_of chains number
 
 -- so it is for each of the first so many nodes
-pub record AreShared (chains : List Chain) (latencies : List ℕ) (count : ℕ)
-    (stages : List (List ℕ)) : Type 0
-  where
-    pub counted : length stages ≡ count
-    pub each :
-        (n : ℕ)
-        → n < count
-        → IsShared chains (slice_index latencies n) n (slice_index_or stages n [])
+pub record AreShared (chains : List Chain) (count : ℕ) (waits : List (List ℕ)) : Type 0 where
+  pub counted : length waits ≡ count
+  pub each : (n : ℕ) → n < count → IsShared chains n (slice_index_or waits n [])

@@ -1,5 +1,5 @@
-use Rattle.kernel_layout.specs.Stages.{AreChainNumbers}
-use Rattle.kernel_layout.proofs.stages.chain_numbers.Given as goal
+use Rattle.kernel_layout.specs.Waits.{AreChainNumbers}
+use Rattle.kernel_layout.proofs.waits.chain_numbers.Given as goal
 
 -- the chains so far have their numbers
 abbrev pub invariant-loop-number : goal.invariant-loop-number

@@ -1,8 +1,0 @@
-use Rattle.std.proofs.Common.{◌≡◌, ◌<◌, ℕ, get_or}
-use Rattle.kernel_wiring.proofs.taps.late_signal.Given as goal
-
--- no stage so far has this number
-abbrev pub invariant-loop-place : goal.invariant-loop-place
-invariant-loop-place l = record {
-  none : (j : ℕ) → j < l.place → get_or l.stages j 0 ≡ l.behind → ⊥;
-}
