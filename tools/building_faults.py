@@ -158,7 +158,9 @@ def running_modes():
 
 
 def no_part(frames, values):
-    return f"a value has no part `{frames[0]['node'].word}`: arrays have `.length`, and no other value has any", [frames[0]["node"].word]
+    node = frames[0]["node"]
+    keys = ["this"] if node.parts[0].word == "this" else [node.word]
+    return f"a value has no part `{node.word}`: arrays have `.length`, and no other value has any", keys
 
 
 def no_object(frames, values):

@@ -35,7 +35,8 @@ NAMES = {
     "Reductions Accumulator Reductions.accumulator makeAccumulator Accumulator.Params": f"write the sum with a feed: {FEED}",
     "Reductions.streamHold": "it takes a stream and a store; to set it anew write a feed: `DFEVar old = t.newInstance(this); DFEVar held = "
     "reset ? 0 : (store ? x : old); old <== stream.offset(held, -1);`, with `reset` 1 in the first tick",
-    "debug simPrintf dfePrintf simWatch System System.out println": NOTE,
+    "debug simPrintf dfePrintf simWatch": NOTE,
+    "System System.out println": "take it out: nothing is printed while a constructor runs",
     "Count Counter control.count.makeParams control.count.makeCounter makeCounter Count.Params": "use `control.count.simpleCounter(bits, bound)`, "
     "or for a step `control.count.makeCounterChain().addCounter(bound, step)`; their bounds are `int`s of the constructor",
     "control.count.makeCounterChain": f"a chain steps in each tick and takes no enable: {COUNT}, with `enable ? old + 1 : old` for the step",
@@ -61,8 +62,8 @@ NAMES = {
     "List ArrayList Map HashMap Vector": "use an array: `DFEVar[] v = new DFEVar[n];`",
     "Integer Long Double Boolean long short byte char": "a number of the constructor is an `int`; a wider one is written where it is used",
     "String.format MathUtils": "write it as a method of your own, by `int`s and a loop",
-    "throw try catch finally throws assert": "take it out: what is wrong with an `int` can be refused by a size, as `int[] ok = new int[n];` does "
-    "below 0",
+    "throw try catch finally throws assert": "take it out; to refuse an `int` `n` below 1 there is `int[] ok = new int[n - 1];`, which is "
+    "E4 then",
     "switch case default": "write `if (..) .. else if (..) .. else ..` for `int`s, `control.mux(s, a, b, ..)` for streams",
     "break continue do": "write a `while` or `for` whose condition says when it ends",
     "interface enum implements abstract instanceof": "classes are kernels and managers alone: write methods, and an `int` for each case",
