@@ -6,8 +6,10 @@
 - each worked source of bench/building_sources.txt that is refused by a code E: which cause holds is told;
 - files that can't be opened, want of words, and `unguarded` and `unbalanced` runs.
 
-    bench/check_causes.py     ends with status 1 where something is wrong; passed over where the program isn't built here
+    bench/check_causes.py              ends with status 1 where something is wrong; passed over where the program isn't built here
+    bench/check_causes.py CODE ..      the cases of these codes alone
 """
+import json
 import os
 import pathlib
 import re
@@ -16,7 +18,9 @@ import sys
 import tempfile
 
 import building_faults_trials
+import building_run
 import refusal_cases
+import report_rules
 from refusal_cases import COPY, ONE, RUN, VERILOG, Case, whole
 from trials import PROGRAM, TOP
 
@@ -62,6 +66,10 @@ def lay_out_report(case):
     """The report of a source that is compiled, changed as the case says."""
     says(*WORDS["compile"])
     report = pathlib.Path("o.report").read_text() if os.path.exists("o.report") else ""
+    if case.code == "P6":  # `compile` refuses it, so the report is made here
+        built = building_run.build(case.source)
+        problems = [report_rules.Problem(name, calls, json.loads(case.table)) for name, calls in built.kernels]
+        report = report_rules.text_of([problem.least_part() for problem in problems]).decode()
     if case.report:
         old, new = case.report
         if old not in report:
@@ -94,8 +102,10 @@ def wrong_case(case, command):
     return f"{missing} isn't told, but {text}" if missing else None
 
 
-def wrong_cases():
+def wrong_cases(codes=()):
     for case in refusal_cases.CASES:
+        if codes and case.code not in codes:
+            continue
         for name in ("o.report", "o.v", "y.txt"):
             pathlib.Path(name).unlink(missing_ok=True)
         lay_out(case)
@@ -163,9 +173,9 @@ def wrong_stops():
         (["compile", "k.maxj", "t.json", folder["OUT"], "o.report"], 4, ["no/o.v: OUT can't be opened: there is no folder no"]),
         (["check", "k.maxj", "t.json", "none"], 3, ["none: REPORT can't be opened"]),
         (["simulate", "top.v", "none"], 3, ["none: RUN can't be opened"]),
-        (["simulate", "top.v", "in.json"], 3, ["none.txt: the file of the input `x`, which in.json names, can't be opened"]),
+        (["simulate", "top.v", "in.json"], 3, ["none.txt: the file of the input `x` that in.json names can't be opened"]),
         (["expect", "k.maxj", "t.json", "r.report", "in.json"], 3, ["none.txt: the file of the input `x`"]),
-        (["simulate", "top.v", "out.json"], 4, ["no/y.txt: the file of the output `y`, which out.json names, can't be opened: there is no folder no"]),
+        (["simulate", "top.v", "out.json"], 4, ["no/y.txt: the file of the output `y` that out.json names can't be opened: there is no folder no"]),
         (["simulate", "o.v", "run.json"], 0, []),
         (["simulate", "o.v", "few.json"], 6, ["`done` was never 1", "output y: 0 words in y.txt (short)", "raise `edges`"]),
         (["simulate", "o.v", "dry.json"], 6, ["input x: only 3 words in x.txt, for up to 5 ticks", "give `x` a word for each tick"]),
@@ -201,9 +211,9 @@ RATES = refusal_cases.manager(
 def wrong_outcomes():
     for source, ticks, parts in (
         (GUARD, '"K": 3', ["k.maxj:6", "unguarded", "node 4, output y: k.maxj:6:", "its control: k.maxj:5:"]),
-        (RATES, '"A": 40, "D": 40', ["unbalanced", "link 0, from A.y to D.x: k.maxj:", "runs full"]),
+        (RATES, '"A": 2000, "D": 2000', ["unbalanced", "link 0, from A.y to D.x: k.maxj:", "runs full"]),
     ):
-        lay_out(Case("", source, run=RUN.replace('"K": 3', ticks), words="1\n" * 40, commands=("expect",)))
+        lay_out(Case("", source, run=RUN.replace('"K": 3', ticks), words="1\n" * 2000, commands=("expect",)))
         status, said = says(*WORDS["expect"])
         told = stopped(WORDS["expect"], status, said)
         if status or not all(part in told for part in parts):
@@ -214,10 +224,11 @@ def main():
     if not PROGRAM.exists():
         print("check_causes: the program isn't built here, passed over")
         return 0
-    found = [*missing_codes(), *building_faults_trials.wrong_causes()]
+    found, codes = [*missing_codes(), *building_faults_trials.wrong_causes()], sys.argv[1:]
     with tempfile.TemporaryDirectory() as folder:
         os.chdir(folder)
-        for wrong in (wrong_cases, wrong_habits, wrong_stops, wrong_outcomes):
+        found += wrong_cases(codes)
+        for wrong in () if codes else (wrong_habits, wrong_stops, wrong_outcomes):
             found += wrong()
         os.chdir(TOP)
     for line in found:

@@ -11,7 +11,10 @@ SLOW = ZERO.replace('"add": [[1, 0]]', '"add": [[1, 2]]').replace('"mux": [[1, 0
 PASS = "class K extends Kernel {\n  K(KernelParameters p) {\n    super(p);\n    DFEVar x = io.input(\"x\", dfeUInt(8));\n%s\n  }\n}\n"
 COPY = 'io.output("y", x, dfeUInt(8));'
 SUM3 = 'io.output("y", stream.offset(x, -1) + x + stream.offset(x, 1), dfeUInt(8));'
-LOOP = "DFEVar old = dfeUInt(8).newInstance(this);\nDFEVar at = control.count.simpleCounter(40);\nDFEVar sum = at === 0 ? x : x + old;\nold <== stream.offset(sum, -1);"
+LOOP = """DFEVar old = dfeUInt(8).newInstance(this);
+DFEVar at = control.count.simpleCounter(40);
+DFEVar sum = at === 0 ? x : x + old;
+old <== stream.offset(sum, -1);"""
 MANAGER = """class A extends Kernel {
   A(KernelParameters p) {
     super(p);
@@ -34,8 +37,8 @@ class M extends CustomManager {
 }
 """
 KERNELS = 'KernelBlock a = addKernel(new A(makeKernelParameters("A")));\nKernelBlock c = addKernel(new A(makeKernelParameters("C")));\n'
+WIDER = 'KernelBlock b = addKernel(new B(makeKernelParameters("B")));\n'
 RUN = '{"ticks": {"K": 3}, "inputs": {"x": "x.txt"}, "outputs": {"y": "y.txt"}, "edges": 100}'
-REPORT = ""
 
 
 def whole(source):
@@ -63,7 +66,7 @@ class Case:
 
     @property
     def code(self):
-        return self.said.split()[0]
+        return self.said.partition(" ")[0]
 
 
 def manager(body):
@@ -181,22 +184,22 @@ JOINS = [
     Case("P3 A.x", manager(KERNELS + 'a.getInput("x") <== addStreamFromCPU("x");\na.getInput("x") <== addStreamFromCPU("z");'), "a.getInput",
          "`A.x` stands in more than one join", "join it once", more=("from x to A.x: ", "from z to A.x: ")),
     Case("P8 y", manager(KERNELS + 'addStreamToCPU("y") <== addStreamFromCPU("x");'), "addStream", "from the CPU to the CPU", "kernel between"),
-    Case("P4 B.x", manager(KERNELS + 'KernelBlock b = addKernel(new B(makeKernelParameters("B")));\nb.getInput("x") <== a.getOutput("y");'), "b.getInput",
+    Case("P4 B.x", manager(KERNELS + WIDER + 'b.getInput("x") <== a.getOutput("y");'), "b.getInput",
          "the output is of `dfeUInt(8)`, and the input of `dfeUInt(9)`", "cast"),
     Case("P2 A.x", manager(KERNELS), "io.input", "the input `A.x` is joined to nothing", "join it"),
-    Case("P5 A C", manager(KERNELS + 'a.getInput("x") <== c.getOutput("y");\nc.getInput("x") <== a.getOutput("y");'), "", "`A`, `C` wait for one another",
-         "feed", more=("link 0, from C.y to A.x: ", "link 1, from A.y to C.x: ")),
+    Case("P5 A C", manager(KERNELS + 'a.getInput("x") <== c.getOutput("y");\nc.getInput("x") <== a.getOutput("y");'), "",
+         "`A`, `C` wait for one another", "feed", more=("link 0, from C.y to A.x: ", "link 1, from A.y to C.x: ")),
 ]
 DEEP = manager(
     KERNELS + 'KernelBlock d = addKernel(new D(makeKernelParameters("D")));\nDFELink i = addStreamFromCPU("i");\na.getInput("x") <== i;\n'
-    'c.getInput("x") <== addStreamFromCPU("j");\nd.getInput("x") <== a.getOutput("y");\nd.getInput("z") <== c.getOutput("y");\naddStreamToCPU("o") <== d.getOutput("y");'
+    'c.getInput("x") <== addStreamFromCPU("j");\nd.getInput("x") <== a.getOutput("y");\nd.getInput("z") <== c.getOutput("y");\n'
+    'addStreamToCPU("o") <== d.getOutput("y");'
 ) + """class D extends Kernel {
   D(KernelParameters p) {
     super(p);
     DFEVar x = io.input("x", dfeUInt(8));
     DFEVar z = io.input("z", dfeUInt(8));
-    DFEVar late = control.count.simpleCounter(40) < 70000 ? 0 : x;
-    io.output("y", late + z, dfeUInt(8));
+    io.output("y", stream.offset(x, 70000) + z, dfeUInt(8));
   }
 }
 """
@@ -241,12 +244,14 @@ TEXTS = [
     text("V2", "8'h0", "8'h100", "8'h100", "out of range", "syntax"),
     text("V3 1 w9", "= w0;", "= w9;", "w9", "declared nowhere", "declare"),
     text("V3 2 w1", "8'h0;", "4'h0;", "w1 =", "don't agree", "widths"),
-    text("V3 3 w0", "  assign w1 = 8'h0;", "  assign w1 = 8'h0;\n  assign w0 = 1'h1;", "w0 = 1'h1", "more drivers", "once", more=("top.v:17: assign w0 = 1'h0;",)),
-    text("V3 4 w0 w2", "  assign w0 = 1'h0;", "  wire [0:0] w2;\n  assign w0 = w2;\n  assign w2 = w0;", "w0 = w2", "feed one another", "register",
-         more=("assign w0 = w2;", "assign w2 = w0;")),
+    text("V3 3 w0", "  assign w1 = 8'h0;", "  assign w1 = 8'h0;\n  assign w0 = 1'h1;", "w0 = 1'h1", "more drivers", "once",
+         more=("top.v:17: assign w0 = 1'h0;",)),
+    text("V3 4 w0 w2", "  assign w0 = 1'h0;", "  wire [0:0] w2;\n  assign w0 = w2;\n  assign w2 = w0;", "w0 = w2", "feed one another",
+         "register", more=("assign w0 = w2;", "assign w2 = w0;")),
     text("V3 5 w1", "  assign w1 = 8'h0;\n", "", "w1;", "nothing gives it its word", "assign"),
     text("V3 6 w1", "  wire [7:0] w1;", "  wire [7:0] w1;\n  wire [7:0] w1;", "w1;", "declared twice", "rename"),
-    text("V4 out$y$ready", "  input wire [0:0] out$y$ready,\n", "  input wire [7:0] out$y$ready,\n", "out$y$ready", "has the port `out$y$ready`", "ports of a run"),
+    text("V4 out$y$ready", "  input wire [0:0] out$y$ready,\n", "  input wire [7:0] out$y$ready,\n", "out$y$ready",
+         "has the port `out$y$ready`", "ports of a run"),
     text("V5", "  reg [0:0] r0;", "  reg [0:0] r0;\n  reg [7:0] m0 [0:67108864];", "reg [7:0] m0", "67,108,864", "smaller"),
 ]
 
@@ -282,6 +287,7 @@ def report_case(said, old, new, at, cause, remedy, **others):
     return Case(said, SUM3, at, cause, remedy, table=ONE, report=(old, new), commands=("check", "expect"), **others)
 
 
+ZEROS = "time 0\n" * 4
 REPORTS = [
     report_case("Q1 1", "maxjc-report 1", "maxjc-report 2", "maxjc-report 2", "`maxjc-report 1`", "compile"),
     report_case("Q1 19", "\nend", "\nflow 8\nend", "flow 8", "isn't the line that follows", "compile"),
@@ -292,9 +298,9 @@ REPORTS = [
     report_case("Q2 6", "time 0\ntime 1", "time -1\ntime 1", "time -1", "node 3", "compile"),
     report_case("Q3 K 4", "time 0\ntime 1\ntime 2", "time 0\ntime 0\ntime 2", "time 0", "arc 4 is of edge 2, from node 2 to node 4", "table",
                 more=("node 2, add, time 0: ", "node 4, add, time 0: ")),
-    report_case("Q4 K 2", "flow 8", "flow 7", "flow", "sends 15 and takes 8, and the difference must be 8", "compile", more=("node 2, add: ", "flow 7 on arc")),
-    report_case("Q5 K 16 8", "bits 8\ntime 0\ntime 0\ntime 0\ntime 0\ntime 1\ntime 2", "bits 16\ntime 0\ntime 0\ntime 0\ntime 0\ntime 2\ntime 3", "kernel K", "cost 16 bits",
-                "better times"),
+    report_case("Q4 K 2", "flow 8", "flow 7", "flow", "sends 15 and takes 8, and the difference must be 8", "compile",
+                more=("node 2, add: ", "flow 7 on arc")),
+    report_case("Q5 K 16 8", f"bits 8\n{ZEROS}time 1\ntime 2", f"bits 16\n{ZEROS}time 2\ntime 3", "kernel K", "cost 16 bits", "better times"),
 ]
 LONG = [
     Case("F1 k.maxj", "|" + "//" + " " * 16_777_216, "", "16,777,218 bytes, and its limit is 16,777,216", "shorter"),
@@ -304,4 +310,4 @@ LONG = [
     Case("F1 top.v", None, "", "its limit is 67,108,864", "shorter", text=" " * 67_108_865, commands=("simulate",)),
 ]
 CASES = [*BYTES, *TABLES, *RUNS, *GRAPHS, *JOINS, *TEXTS, *RUN_FILES, *REPORTS, *LONG,
-         Case("P6 1", DEEP, "d.getInput", "would hold", "look less far", commands=("compile",), more=("link 1, from C.y to D.z: ",))]
+         Case("P6 1", DEEP, "d.getInput", "would hold 70002 words", "look less far", commands=("compile", "expect"), more=("link 1, from C.y to D.z: ",))]

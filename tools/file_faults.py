@@ -60,7 +60,8 @@ def table_shape(case):
         return Finding(case.file("TABLE"), place, None, said, remedy=f"the operations are {quoted(OPERATIONS)}")
     value = table[key]
     bad = [row for row in value if not (isinstance(row, list) and len(row) == 2 and all(map(whole, row)))] if isinstance(value, list) else [value]
-    said = f"under `{key}` stands `{json.dumps(bad[0])[:60]}`, and there must be " + ("a pair of whole numbers" if isinstance(value, list) else "an array of pairs")
+    wanted = "a pair of whole numbers" if isinstance(value, list) else "an array of pairs"
+    said = f"under `{key}` stands `{json.dumps(bad[0])[:60]}`, and there must be {wanted}"
     return Finding(case.file("TABLE"), place, None, said, remedy=f'write `"{key}": [[1, 0], [33, 1]]`: from which width on, and how many ticks')
 
 

@@ -319,7 +319,8 @@ def broken_flow(case):
 
 def other_cost(case):
     part, first, _, _ = part_of(case)
-    cause = f"the times cost {case.values['COST']} bits, and the flow shows only that {case.values['VALUE']} are needed: so nothing shows that these times are the best"
+    cost, value = case.values["COST"], case.values["VALUE"]
+    cause = f"the times cost {cost} bits, and the flow shows only that {value} are needed: so nothing shows that these times are the best"
     return Finding(case.file("REPORT"), None, first, cause)
 
 
@@ -348,8 +349,11 @@ def unbalanced(case, number, how, tick):
     source, target = project.end(join[1]), project.end(join[2])
     kernel, what = (target, "reads, and no word is there") if how == "dry" else (source, "writes, and the link is full")
     cause = (
-        f"link {number} runs {how}: in its tick {tick} the kernel of `{kernel}` {what}. The words are right; only the bound on the edges of a run "
-        "isn't proved for it"
+        f"link {number} runs {how}: in its tick {tick} the kernel of `{kernel}` {what}. All words that leave are right; only how many edges the "
+        "run takes isn't proved"
     )
-    remedy = "nothing, where the run ends: give `edges` room in the run file. It comes with every rate that changes between two kernels"
+    remedy = (
+        "nothing, where the simulation is done: every change of rate between two kernels does this. Where it isn't done, give the kernels such ticks "
+        "that as many words are written to the link as are read of it"
+    )
     return Finding(project.path, join[3], None, cause, [project.join_line(join)], remedy=remedy)

@@ -20,7 +20,7 @@ def run_files(case, key):
         found = json.loads(pathlib.Path(path).read_bytes())[key].items()
     except (OSError, TypeError, ValueError, KeyError, AttributeError):
         return []
-    return [(f"the file of the {key[:-1]} `{stream}`, which {name_of(path)} names", file) for stream, file in found]
+    return [(f"the file of the {key[:-1]} `{stream}` that {name_of(path)} names", file) for stream, file in found]
 
 
 def named(case, names):

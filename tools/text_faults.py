@@ -134,7 +134,8 @@ def unknown_name(case):
         if name in ("clk", "reset") and not re.search(r"input\s+wire\s*\[0:0\]\s*" + name + r"\b", ports):
             return at_lines(case, module, f"the module `{module}` lacks the input `{name}` of 1 bit")
     if any(f".{name}(" in line.replace(" ", "") for _, line in lines):
-        return at_lines(case, name, f"an instance names the port `{name}` twice, or not at all, or the module has no such port", lambda line: f".{name}" in line)
+        said = f"an instance names the port `{name}` twice, or not at all, or the module has no such port"
+        return at_lines(case, name, said, lambda line: f".{name}" in line)
     if not any(is_declared(line) for _, line in lines):
         return at_lines(case, name, f"`{name}` is used here, and declared nowhere")
     return at_lines(case, name, f"`{name}` is used before it is declared, in another module, or as what it isn't declared as")
