@@ -126,19 +126,19 @@ def known_names(run):
 
 def no_type(frames, values):
     word = frames[0]["node"].word
-    return f"`{word}` is no type of the language{near(word, running.BASES)}", [word]
+    return f"`{word}` is no type of the language{near(word, running.BASES)}", [word, "no type"]
 
 
 def other_arguments(frames, values):
     at = frames[0]
     wanted, given = len(at["params"]), len(at["arguments"])
     said = f"the constructor of `{at['ctor'].word}` has {wanted} parameters, and gets {counted(given)}"
-    return said, ["parameters without manager"] if given == 1 else []
+    return said, ["parameters without manager" if given == 1 else "other count"]
 
 
 def no_variable(frames, values):
     word = frames[0]["node"].word
-    return f"no variable or field `{word}` can be set here{near(word, known_names(frames[0]['self']))}", [word]
+    return f"no variable or field `{word}` can be set here{near(word, known_names(frames[0]['self']))}", [word, "undeclared"]
 
 
 def no_value(frames, values):
@@ -147,10 +147,10 @@ def no_value(frames, values):
         return "`this` is no value; it stands in `newInstance(this)` alone", ["this"]
     root, path = run.root(node).word, run.path(node)
     if root in ROOTS:
-        return f"`{path}` is no value here{near(path, [*running_modes()])}", [path]
+        return f"`{path}` is no value here{near(path, [*running_modes()])}", [path, "no call"]
     if root == "this":
         return "`this` isn't looked into", ["this"]
-    return f"`{root}` isn't declared here{near(root, known_names(run))}", [path, root]
+    return f"`{root}` isn't declared here{near(root, known_names(run))}", [path, root, "undeclared"]
 
 
 def running_modes():
@@ -172,20 +172,20 @@ def no_call(frames, values):
     word, run = frames[0]["node"].word, frames[0]["self"]
     where = "manager" if run.is_manager else "kernel"
     if word == "addKernel" or word in manager_library.MANAGER_CALLS:
-        return f"`{word}` is a call of managers, and this is a kernel", [word]
-    return f"neither this class nor the library of a {where} has a method `{word}`{near(word, known_names(run))}", [word]
+        return f"`{word}` is a call of managers, and this is a kernel", [word, "no call"]
+    return f"neither this class nor the library of a {where} has a method `{word}`{near(word, known_names(run))}", [word, "no call"]
 
 
 def no_library_call(frames, values):
     at, run, node = frames[0], frames[0]["self"], frames[0]["node"]
     if at.has.get("methods") is not None:
-        return f"no value has a method `{node.word}`{near(node.word, at['methods'])}", [node.word]
+        return f"no value has a method `{node.word}`{near(node.word, at['methods'])}", [node.word, "no call"]
     path, root = f"{run.path(node.parts[0])}.{node.word}", run.root(node.parts[0]).word
     if root not in ROOTS:
-        return f"neither a variable nor the library has the name `{root}`{near(root, [*known_names(run), *ROOTS])}", [path, root]
+        return f"neither a variable nor the library has the name `{root}`{near(root, [*known_names(run), *ROOTS])}", [path, root, "undeclared"]
     if run.is_manager:
-        return f"`{path}` is no call of managers", [path]
-    return f"the library has no call `{path}`{near(path, kernel_library.KERNEL_CALLS)}", [path]
+        return f"`{path}` is no call of managers", [path, "no call"]
+    return f"the library has no call `{path}`{near(path, kernel_library.KERNEL_CALLS)}", [path, "no call"]
 
 
 def call_name(frame):
@@ -198,12 +198,12 @@ def call_name(frame):
 def wrong_count(frames, values):
     name = call_name(frames[0])
     given = len(frames[0]["arguments"]) - (name in METHODS)
-    return f"`{name}` gets {counted(given)}; it takes {SIGNATURES[name]}", [name]
+    return f"`{name}` gets {counted(given)}; it takes {SIGNATURES[name]}", [name, "other count"]
 
 
 def wrong_method_count(frames, values):
     wanted, given = len(frames[0]["params"]), len(frames[0]["node"].parts)
-    return f"the method `{frames[0]['method'].word}` takes {counted(wanted)}, and gets {counted(given)}", []
+    return f"the method `{frames[0]['method'].word}` takes {counted(wanted)}, and gets {counted(given)}", ["other count"]
 
 
 def wrong_kernel(frames, values):
@@ -224,18 +224,19 @@ def wrong_kernel(frames, values):
 def unfit(frames, values):
     """A value of another type than what it is given to."""
     declared, value, user = frames[0]["declared"], frames[0]["value"], frames[1]
-    keys = []
+    keys = ["other type"]
     if declared and declared[0] == "DFEVar" and kernel_library.is_number(value):
         keys = ["number to DFEVar"]
     elif declared == ("int", 0) and is_stream(value):
         keys = ["stream to int"]
     if declared is None:
         if user.name == "do_return":
-            return f"a method that is `void`, or a constructor, gives no value, and this returns {told(value)}", keys
+            return f"a method that is `void`, or a constructor, gives no value, and this returns {told(value)}", ["no result"]
         return f"the field's type has no meaning yet, and it gets {told(value)}", keys
-    whats = {"do_local": "the variable", "bound": "the parameter", "do_return": "the result", "initial": "the variable", "braces": "an element"}
-    name = {"do_local": "node", "bound": "param"}.get(user.name)
-    what = whats.get(user.name, "what is set here") + (f" `{user[name].word}`" if name else "")
+    whats = {"bound": "the parameter", "do_return": "the result", "initial": "the variable", "braces": "an element"}
+    name = {"initial": "variable", "bound": "param"}.get(user.name)
+    word = (frames[2].has.get("node") or frames[2].has.get("member") if name == "variable" else user[name]) if name else None
+    what = whats.get(user.name, "what is set here") + (f" `{word.word}`" if word else "")
     return f"{what} is of the type `{declared_name(declared)}`, and gets {told(value)}", keys
 
 
@@ -244,7 +245,7 @@ def no_truth(frames, values):
     names = {"do_if": "`if`", "do_while": "`while`", "do_for": "`for`", "on_cond": "`?:`"}
     sign = frames[1]["node"].word if frames[1].name == "on_binary" else None
     where = f"an operand of `{sign}`" if sign else f"the condition of {names[frames[1].name]}"
-    keys = [f"{sign} stream" if sign else "condition of a stream"] if is_stream(value) else []
+    keys = [f"{sign} stream" if sign else "condition of a stream"] if is_stream(value) else ["other kind"]
     return f"{where} is {told(value)}, and must be a truth value of the constructor", keys
 
 
@@ -274,7 +275,7 @@ def wrong_operands(frames, values):
             return f"a stream is shifted by an `int`, and this is {told(b)}", keys
     if at.name in ("between_ints", "between_truths") and sign in ("===", "!=="):
         return f"`{sign}` needs a stream, and stands between {told(a)} and {told(b)}; between values of the constructor write `{sign[:2]}`", []
-    return f"`{sign}` isn't an operator between {told(a)} and {told(b)}", keys
+    return f"`{sign}` isn't an operator between {told(a)} and {told(b)}", [*keys, "other kind"]
 
 
 def wrong_operand(frames, values):
@@ -316,7 +317,7 @@ def wrong_kinds(frames, values):
 def wrong_feed(frames, values):
     left, right = frames[0]["left"], frames[0]["right"]
     if not is_stream(left) or not left.is_feed:
-        return f"on the left of `<==` stands {told(left)}, and not a feed, which `newInstance(this)` makes", []
+        return f"on the left of `<==` stands {told(left)}, and not a feed, which `newInstance(this)` makes", ["no feed"]
     return f"on the right of `<==` stands {told(right)}, and not a stream", ["number to DFEVar"]
 
 
@@ -401,12 +402,13 @@ def out_of_array(frames, values):
     if at.name == "braces":
         return f"the braces have {len(at['node'].parts)} elements, and an array has at most 65,536", []
     if at.name == "on_newarray":
-        return f"the sizes are {', '.join(map(str, at['sizes']))}, and each must be 0 to 65,536", []
-    return f"the index is {at['index']}, and the array has {len(at['array'].items)} elements, from 0 on", []
+        return f"the size is {' and '.join(map(str, at['sizes']))}, and each must be 0 to 65,536", ["other size"]
+    count = len(at["array"].items)
+    return f"the index is {at['index']}, and the array has {count} elements, numbered from 0", ["other index"]
 
 
 def by_zero(frames, values):
-    return f"the divisor is 0, of the dividend {frames[0]['a']}", []
+    return "the divisor is 0", []
 
 
 def not_there(frames, values):
@@ -414,14 +416,14 @@ def not_there(frames, values):
     user = next(frame for frame in frames if frame.name not in ("there", "is_true"))
     node = user.has.get("node")
     if user.name == "on_name":
-        return f"the variable `{node.word}` isn't set yet", []
+        return f"the variable `{node.word}` isn't set yet", ["unset"]
     if user.name == "on_index":
-        return "the element isn't set yet", []
+        return "the element isn't set yet", ["unset"]
     if user.name == "do_set" and "value" not in user.has and node.word != "=":
-        return "what is changed here isn't set yet", []
+        return "what is changed here isn't set yet", ["unset"]
     if user.name == "place_of":
-        return "the array isn't set yet", []
-    return "a call stands here that gives no value: a method without `return`, or a call such as `io.output`", []
+        return "the array isn't set yet", ["unset"]
+    return "a call stands here that gives no value: a method without `return`, or a call such as `io.output`", ["no value"]
 
 
 def too_deep(frames, values):
@@ -460,7 +462,7 @@ def bad_bits(frames, values):
     if at.name == "fix_type":
         return f"`dfeFix` with {at['whole']} bits before the point and {at['frac']} behind it: neither is below 0, and both are 1 to 128 bits in all", []
     bits = at.has["bits"] if at.name == "simple_counter" else at["values"][0]
-    return f"{bits} bits are asked for, and there may be 1 to 128", []
+    return f"this asks for {bits} bits, and 1 to 128 are allowed", []
 
 
 def named_twice(frames, values):

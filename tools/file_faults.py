@@ -52,7 +52,7 @@ def table_shape(case):
     data, key = data_of(case, "TABLE"), case.values["KEY"]
     table = json.loads(data)
     if not isinstance(table, dict):
-        return Finding(case.file("TABLE"), 0, None, "the table is no object: it begins with `{` and has a key for each operation")
+        return Finding(case.file("TABLE"), 0, None, "the table is no object", remedy='write an object: `{"add": [[1, 0]], ..}`')
     place = json_places.key_at(data, key)
     if key not in OPERATIONS:
         near = difflib.get_close_matches(key, OPERATIONS, 1, 0.6)
@@ -77,7 +77,8 @@ def table_range(case):
         elif not 0 <= ticks <= 64:
             said = f"the latency {ticks} isn't 0 to 64"
         if said:
-            return Finding(case.file("TABLE"), json_places.key_at(data, op), None, f"in the row `[{width}, {ticks}]` of `{op}` {said}")
+            remedy = "write widths of 1 to 128 that rise from row to row, and latencies of 0 to 64"
+            return Finding(case.file("TABLE"), json_places.key_at(data, op), None, f"in the row `[{width}, {ticks}]` of `{op}` {said}", remedy=remedy)
         before = width
     return Finding(case.file("TABLE"), json_places.key_at(data, op))
 
@@ -90,7 +91,8 @@ def run_shape(case):
     data, key = data_of(case, "RUN"), case.values["KEY"]
     run, path = json.loads(data), case.file("RUN")
     if not isinstance(run, dict):
-        return Finding(path, 0, None, "the run file is no object: it begins with `{` and has the keys `ticks`, `inputs`, `outputs` and `edges`")
+        remedy = 'write an object: `{"ticks": .., "inputs": .., "outputs": .., "edges": ..}`'
+        return Finding(path, 0, None, "the run file is no object", remedy=remedy)
     place = json_places.key_at(data, key)
     if key not in RUN_KEYS:
         near = difflib.get_close_matches(key, RUN_KEYS, 1, 0.6)
@@ -152,7 +154,7 @@ def names_differ(case, data, key, value, wanted):
     """The names that are missing under a key, and those that are too much."""
     missing, further = [name for name in wanted if name not in value], [name for name in value if name not in wanted]
     parts = [f"{quoted(missing)} {'is' if len(missing) == 1 else 'are'} missing"] if missing else []
-    parts += [f"{quoted(further)} {'is' if len(further) == 1 else 'are'} too much"] if further else []
+    parts += [f"{quoted(further)} {'is' if len(further) == 1 else 'are'} unknown"] if further else []
     kinds = {"ticks": "kernels", "scalars": "scalars", "inputs": "inputs", "outputs": "outputs"}
     has = f"the {kinds[key]} are {quoted(wanted)}" if wanted else f"there are no {kinds[key]}"
     place = json_places.key_at(data, key, further[0]) if further else json_places.key_at(data, key)
@@ -167,7 +169,7 @@ def same_file(case, data, run):
         other = next((other for other, used in files if used == file), None)
         if other is not None:
             said = f"`{name}` and `{other}` have the same file, `{file}`, and an output's file is no other stream's"
-            return Finding(case.file("RUN"), json_places.key_at(data, "outputs", name), None, said)
+            return Finding(case.file("RUN"), json_places.key_at(data, "outputs", name), None, said, remedy="give each stream a file of its own")
         files.append((name, file))
     return Finding(case.file("RUN"), json_places.key_at(data, "outputs"))
 
@@ -177,7 +179,7 @@ def many_words(case):
     ticks = json.loads(data)["ticks"]
     nodes = {kernel.name: kernel.count for kernel in case.project.kernels}
     parts = ", ".join(f"`{name}` {nodes.get(name, 0)} nodes in {count} ticks" for name, count in ticks.items())
-    said = f"that are {int(case.values['NUMBER']):,} words, and `expect` takes at most 16,777,216: {parts}"
+    said = f"these are {int(case.values['NUMBER']):,} words, and `expect` takes at most 16,777,216: {parts}"
     return Finding(case.file("RUN"), json_places.key_at(data, "ticks"), None, said)
 
 
@@ -227,7 +229,8 @@ def wide_word(case):
     inputs = json.loads(data_of(case, "RUN"))["inputs"]
     name = next(name for name, file in inputs.items() if file == case.values["FILE"] and case.ports.inputs.get(name, 0) < bits)
     said = f"`{text}` is a number of {bits} bits, and the words of `{name}` have {case.ports.inputs[name]}; files of words are in hexadecimal digits"
-    return Finding(case.values["FILE"], None, int(case.values["LINE"]), said)
+    remedy = f"write a number of at most {case.ports.inputs[name]} bits, in hexadecimal digits"
+    return Finding(case.values["FILE"], None, int(case.values["LINE"]), said, remedy=remedy)
 
 
 FINDERS = {"F1": too_long, "T1": not_json, "T2": table_shape, "T3": table_range, "U1": not_json, "U2": run_shape, "U3": bad_line, "U4": wide_word,

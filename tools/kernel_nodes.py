@@ -85,6 +85,7 @@ class Nodes:
     def __init__(self, path, name, run):
         self.path, self.name, self.run = path, name, run
         self.count, self.places = run.nodes, run.places
+        self.calls = [call for call in run.calls if call[0] != "connect"]
         self._kernel = None
 
     @property
@@ -94,7 +95,7 @@ class Nodes:
         return self._kernel
 
     def call(self, node):
-        return [call for call in self.run.calls if call[0] != "connect"][node]
+        return self.calls[node]
 
     def kind(self, node):
         """What a node is, in words."""

@@ -76,7 +76,7 @@ def twice_connected(case):
 
 
 def unconnected(case):
-    return feed_lines(case, "the feed that is made here is connected by no `<==`")
+    return feed_lines(case, "no `<==` connects the feed that is made here")
 
 
 def no_latency(case):
@@ -86,9 +86,9 @@ def no_latency(case):
     node = next(node for node in range(kernel.count) if kernel.kernel.latency(node, table)[1] == wanted)
     op, width = wanted
     rows = table.get(op, [])
-    said = f"`{op}` has rows from {rows[0][0]} bits on alone" if rows else f"it has no row for `{op}` at all"
+    said = f"whose rows for it begin at {rows[0][0]} bits" if rows else "which has no row for it"
     remedy = f"add a row to {case.shown('TABLE')}, as `\"{op}\": [[1, 0]]` for no tick on any width"
-    return at_node(case, node, f"this operation works on {width} bits, and of the table {said}", remedy=remedy)
+    return at_node(case, node, f"`{op}` works on {width} bits here, and needs a latency of the table, {said}", remedy=remedy)
 
 
 # Loops
@@ -101,10 +101,10 @@ def loop(case):
     walk, latency, back = numbers(values["N"]), int(values["L"]), int(values["B"])
     sums = kernel.arithmetic(walk, table, latency, back)
     if case.code == "C1":
-        cause = f"{sums}; a word on it would depend on itself" + (" or on later ones" if back < 0 else "")
+        cause = f"{sums}; a word on it would depend on itself" + (" and on later ones" if back < 0 else "")
         remedy = "look back somewhere on the loop: read one of its streams by `stream.offset(v, -1)`"
     else:
-        cause = f"{sums}; a word comes {counted(latency - back)} too late to be read {counted(back)} later"
+        cause = f"{sums}; so a word is ready {counted(latency - back)} too late for its reader"
         remedy = loop_remedy(kernel, walk, table, latency, back)
     return at_node(case, walk[0], cause, kernel.loop_lines(walk, table), remedy=remedy)
 
@@ -113,8 +113,8 @@ def loop_remedy(kernel, walk, table, latency, back):
     slow = sorted({op[0] for node in walk for ticks, op in [kernel.kernel.latency(node, table)] if op and ticks})
     names = ", ".join(f"`{op}`" for op in slow)
     return (
-        f"look back {latency} or more where the loop now looks back {back}, as far as the words may be that old; or give the operations on it "
-        f"({names}) at most {counted(back)} in all in the latency table (docs/SCHEDULES.md)"
+        f"look back {latency} or more on the loop instead of {back}, if the algorithm may use words that old; or give its operations ({names}) "
+        f"at most {counted(back)} in total in the latency table (docs/SCHEDULES.md)"
     )
 
 
@@ -296,8 +296,8 @@ def broken_arc(case):
     times = part.times
     need = problem.ticks[start] + ahead
     cause = (
-        f"arc {number} is of edge {number // 2}, from node {start} to node {end}: node {end} begins at {times[end]}, and needs words that node {start} "
-        f"has {counted(need)} behind its own time, {times[start]}"
+        f"arc {number} belongs to edge {number // 2}, from node {start} to node {end}: the first word that node {end} reads there is ready at time "
+        f"{times[start] + need}, and it begins at time {times[end]}"
     )
     return Finding(case.file("REPORT"), None, first + 1 + end, cause, [kernel.line(start, f", time {times[start]}"), kernel.line(end, f", time {times[end]}")])
 

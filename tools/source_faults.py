@@ -68,11 +68,12 @@ def no_token(source, place):
     if number and re.match(r"\w", mark):
         return behind_number(number[0], mark)
     if rest.startswith("/*"):
-        return "the comment that begins here doesn't end", []
+        return "the comment that begins here doesn't end", ["open comment"]
     if mark == '"':
         line = rest.split("\n")[0]
-        key = ["\\"] if "\\" in line else []
-        return "the string that begins here doesn't end in its line" if not key else "the string that begins here has a `\\` in it", key
+        if "\\" in line:
+            return "the string that begins here has a `\\` in it", ["\\"]
+        return "the string that begins here doesn't end in its line", ["open string"]
     if mark == "0" and rest[1:2] == "x":
         return "behind `0x` stand hexadecimal digits, and here none does", []
     return f"no token begins with `{shown(mark.encode('latin-1'))}`", [mark]
@@ -102,7 +103,7 @@ def excess(source, place):
     tokens = [token for token in tokens_to(source, place) if token.place <= place]
     if tokens[-1].text in (";", "{", "}"):
         return f"over {FAR:,} tokens stand between this `{tokens[-1].text}` and the `;`, `{{` or `}}` before it", ["long sum"]
-    return "over 200 more of `(`, `[`, `{` are open here than are closed", ["long sum"]
+    return "over 200 of `(`, `[` and `{` are open here at once", []
 
 
 # Syntax
@@ -117,8 +118,8 @@ def misplaced(source, place):
     here = "the source ends here" if found.kind == "end" else f"`{shown(found.text.encode('latin-1'))}` can't stand here"
     where = f", behind `{shown(before.text.encode('latin-1'))}`" if before else ", at the start"
     wanted = wanted_at(source, tokens, place)
-    could = f"; what can: {wanted}" if wanted else ""
-    return here + where + could, [key] if key else []
+    could = f"; expected {wanted}" if wanted else ""
+    return here + where + could, [key or ("open end" if found.kind == "end" else "")]
 
 
 def wanted_at(source, tokens, place):
@@ -137,7 +138,8 @@ def wanted_at(source, tokens, place):
     words = [text for text in texts if text not in STARTS and text not in ("true", "false", "this", "new", "package", "import")]
     if len(words) > 12:
         return ""
-    return ", ".join(text if " " in text else f"`{text}`" for text in words)
+    words = [text if " " in text else f"`{text}`" for text in words]
+    return ", ".join(words[:-1]) + " or " * (len(words) > 1) + "".join(words[-1:])
 
 
 OPERATORS = {sign for level in source_tree.LEVELS for sign in level} | {"?", ".", "[", "=", "+=", "-=", "*=", "++", "--", "<=="}
@@ -205,12 +207,12 @@ def no_project(source):
     names = [class_.name for class_ in classes]
     twice = next((class_ for k, class_ in enumerate(classes) if class_.name in names[:k]), None)
     if not kernels:
-        return "the source has no kernel", classes[0].place, []
+        return "the source has no kernel", classes[0].place, ["no kernel"]
     if len(managers) > 1:
-        return f"the source has {len(managers)} managers, and at most one may stand in it", managers[1].place, []
+        return f"the source has {len(managers)} managers, and may have one", managers[1].place, ["two managers"]
     if twice:
-        return f"two classes have the name `{twice.name}`", twice.place, []
-    return f"the source has {len(kernels)} kernels and no manager that joins them", kernels[1].place, []
+        return f"two classes have the name `{twice.name}`", twice.place, ["two names"]
+    return f"the source has {len(kernels)} kernels and no manager that joins them", kernels[1].place, ["two kernels"]
 
 
 CAUSES = {"S1": stray_byte, "S2": no_token, "S3": misplaced, "S4": outside, "S5": excess}

@@ -39,8 +39,8 @@ def stopped_run(case):
 def calls_of(case, fault):
     """The calls of methods that a run had reached when it stopped, the innermost one first."""
     frames = [frame for frame in building_faults.frames_of(fault) if frame.name == "call_method"]
-    nodes = [frame["node"] for frame in frames[:4]]
-    return [f"  called from {line_of(case.file('SRC'), node.place)}" for node in nodes if node.place != getattr(fault, "place", None)]
+    lines = [f"  called from {line_of(case.file('SRC'), frame['node'].place)}" for frame in frames]
+    return list(dict.fromkeys(lines))[:4]
 
 
 def endless_run(case):
@@ -48,7 +48,7 @@ def endless_run(case):
     fault = case.project.built.fault
     frames = building_faults.frames_of(fault)
     loops = [frame["node"] for frame in frames if frame.name in ("do_while", "do_for")]
-    said = "a run of a constructor takes at most 1,000,000 steps, and this one is not at its end by then"
+    said = "a constructor may take 1,000,000 steps, and this one hasn't ended by then"
     if not loops:
         nodes = [frame["node"] for frame in frames if "node" in frame.has and frame.name.startswith(("do_", "on_"))]
         return Finding(case.file("SRC"), nodes[0].place if nodes else 0, None, said)
