@@ -78,7 +78,9 @@ class Tree:
             target = self.top / part
             target.parent.mkdir(parents=True, exist_ok=True)
             (shutil.copytree if (TOP / part).is_dir() else shutil.copy2)(TOP / part, target)
-        os.symlink(TOP / "bench", self.top / "bench")  # the explanations stand on it
+        (self.top / "bench").mkdir()
+        for script in (TOP / "bench").glob("*.py"):  # the explanations stand on some
+            os.symlink(script, self.top / "bench" / script.name)
         (self.top / "crates.txt").write_text(CRATES)
         (self.top / "HANDLES").write_text("Handles allowed: none.\n")
         for name in (*NAMES, "other"):
@@ -231,6 +233,45 @@ def wrong_spoiled(folder):
         yield f"other sources and no toolchain: status {ended}, {said}, {told}"
 
 
+def wrong_comparison(folder):
+    """tools/boot and bench/check_boot.py, with a program of this machine in place of the one that the gate builds."""
+    tree = Tree(folder)
+    tree.install()
+    script = tree.top / "bench/check_boot.py"
+    script.unlink()
+    shutil.copy2(TOP / "bench/check_boot.py", script)
+    built = tree.top / "crates/maxjc/out/maxjc"
+
+    def compared():
+        ran = subprocess.run([script], capture_output=True, env=tree.seen(), cwd=folder)
+        return ran.returncode, ran.stdout + ran.stderr
+
+    if compared()[0] or b"passed over" not in compared()[1]:
+        yield f"without a program: {compared()}"
+    built.parent.mkdir()
+    shutil.copy2("/bin/true", built)
+    if compared()[0] or b"there is no boot/" not in compared()[1]:
+        yield f"without boot/: {compared()}"
+    ended, said, told = tree.run(launcher="tools/boot")
+    if ended or b"built by kit 1" not in said or compared()[0] or b"byte for byte" not in compared()[1]:
+        yield f"tools/boot: {ended}, {said}, {told}, {compared()}"
+    with open(built, "ab") as file:
+        file.write(b"what isn't loaded")
+    if compared()[0] or b"byte for byte" not in compared()[1]:
+        yield f"a program with more notes: {compared()}"
+    data = bytearray(built.read_bytes())
+    data[4096] ^= 1
+    built.write_bytes(data)
+    if compared()[0] != 1 or b"from byte 4096 on" not in compared()[1]:
+        yield f"another program: {compared()}"
+    spoiled_source(tree)
+    if compared()[0] or b"crates/low/src/lib.rt differs" not in compared()[1]:
+        yield f"other sources: {compared()}"
+    changed(tree.top / "boot/maxjc.gz", 200)
+    if compared()[0] != 1:
+        yield f"a broken boot/: {compared()}"
+
+
 # Builds
 
 
@@ -360,7 +401,7 @@ def wrong_own_words(folder):
 
 def main():
     found = []
-    for wrong in (wrong_boot, wrong_spoiled, wrong_builds, wrong_breaks, wrong_launches, wrong_own_words):
+    for wrong in (wrong_boot, wrong_spoiled, wrong_comparison, wrong_builds, wrong_breaks, wrong_launches, wrong_own_words):
         with tempfile.TemporaryDirectory() as folder:
             found += wrong(folder)
     for line in found:

@@ -1,5 +1,8 @@
+#!/usr/bin/env python3
 """The nodes of a source's kernels and the joins of its manager, each with the place in the source that makes it; and what the lines
 that name them mean: the loop of C1 and C2, the arc of Q3, a link of `unbalanced` and so on.
+
+    tools/kernel_nodes.py SRC [KERNEL]     prints each node with its number, its kind and its line, and each join
 
 It stands on the evaluator of constructors (bench/building_run.py) and the rules of schedules (bench/schedule_rules.py).
 """
@@ -12,7 +15,7 @@ import building_run
 import schedule_rules
 from places import line_of
 
-MOST_SHOWN = 24  # nodes of a line that names many
+MOST_SHOWN = 200  # nodes of a line that names many
 
 
 class NotingRun(building_run.Run):
@@ -147,3 +150,20 @@ class Nodes:
 
 def counted(ticks):
     return "1 tick" if ticks == 1 else f"{ticks} ticks"
+
+
+def main():
+    if len(sys.argv) not in (2, 3):
+        sys.exit(__doc__.strip())
+    project = Project(sys.argv[1])
+    for kernel in project.kernels:
+        if kernel.name in sys.argv[2:] or not sys.argv[2:]:
+            print(f"kernel {kernel.name}", *(kernel.line(node) for node in range(kernel.count)), sep="\n")
+    if project.built.manager and not sys.argv[2:]:
+        print("manager", *map(project.join_line, project.joins()), sep="\n")
+    if project.built.line:
+        sys.exit(project.built.line)
+
+
+if __name__ == "__main__":
+    main()

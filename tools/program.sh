@@ -38,10 +38,11 @@ digest() { sha256sum -- "$@" | cut -d ' ' -f 1; }
 
 # A line for each file that decides the program's bytes: its checksum and its path. The lines of crates.txt count as one file.
 sources_listing() {
-  local names
+  local names folders
   mapfile -t names < <(crates_in_order)
+  folders=("${names[@]/#/crates/}")
   printf '%s  crates.txt\n' "$(grep -E "^($(IFS='|' && echo "${names[*]}"))[ :]" "$top/crates.txt" | digest)"
-  cd "$top" && find "${names[@]/#/crates/}" -path 'crates/*/src/*' -type f -print0 | LC_ALL=C sort -z | xargs -0 sha256sum --
+  cd "$top" && find "${folders[@]/%//src}" -type f -print0 | LC_ALL=C sort -z | xargs -0 sha256sum --
 }
 
 # The toolchain's identity, or nothing where none is installed.
@@ -110,7 +111,10 @@ unpack_boot() {
 
 # Sets `program` to the one that is ready to run here; where none is, fails and sets `why`.
 find_program() {
-  local listing
+  local listing tool
+  for tool in sha256sum gzip awk; do
+    command -v "$tool" >/dev/null || { why="the launcher needs $tool, which isn't installed here"; return 1; }
+  done
   listing="$(sources_listing)"
   scratch="" why="" program="$kept/proved/maxjc"
   is_proved "$listing" && return
