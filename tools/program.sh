@@ -6,8 +6,8 @@
 #   where one is installed here, is the one that built it;
 # - else none: it has to be proved and built.
 #
-# What decides the program's bytes is the code of its crates (all files below crates/NAME/src), their lines in crates.txt, and
-# the toolchain. Definitions and proofs say what is proved of the program, and leave no trace in it.
+# What decides the program's bytes is the code of its crates (crates/NAME/src/**/*.rt), their lines in crates.txt, and the
+# toolchain. Definitions and proofs say what is proved of the program, and leave no trace in it.
 #
 #     tools/program.sh             the path of the program that is ready to run here; status 1 where there is none
 #     tools/program.sh sources     the checksums of the sources
@@ -42,7 +42,7 @@ sources_listing() {
   mapfile -t names < <(crates_in_order)
   folders=("${names[@]/#/crates/}")
   printf '%s  crates.txt\n' "$(grep -E "^($(IFS='|' && echo "${names[*]}"))[ :]" "$top/crates.txt" | digest)"
-  cd "$top" && find "${folders[@]/%//src}" -type f -print0 | LC_ALL=C sort -z | xargs -0 sha256sum --
+  cd "$top" && find "${folders[@]/%//src}" -type f -name '*.rt' -print0 | LC_ALL=C sort -z | xargs -0 sha256sum --
 }
 
 # The toolchain's identity, or nothing where none is installed.
