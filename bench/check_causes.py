@@ -36,7 +36,7 @@ WORDS = {
     "simulate": ["simulate", "top.v", "run.json"],
 }
 HABITS = TOP / "bench/maxj_habits.txt"
-PLACE = re.compile(r"([^:]*):(\d+)(?::(\d+))?: refused (\w+)")
+PLACE = re.compile(r"([^:]*):(\d+):(\d+): refused (\w+)")
 
 
 def says(*words):
@@ -90,12 +90,11 @@ def wrong_case(case, command):
     told = explain.explained(line, words)
     text = " ".join(" ".join(told).split())
     place = PLACE.match(told[0]) if told else None
-    if not (place or code == "F1" and told[0].endswith(": refused F1")):
+    if not place:
         return f"no place: {told[:1]}"
-    if place:
-        shown = pathlib.Path(place[1]).read_bytes().decode("latin-1").split("\n")[int(place[2]) - 1][int(place[3] or 1) - 1 :]
-        if not shown.startswith(case.at):
-            return f"the place is that of {shown[:30]!r}, and not of {case.at!r}"
+    shown = pathlib.Path(place[1]).read_bytes().decode("latin-1").split("\n")[int(place[2]) - 1][int(place[3]) - 1 :]
+    if not shown.startswith(case.at):
+        return f"the place is that of {shown[:30]!r}, and not of {case.at!r}"
     cause, _, remedy = text.partition("What to do: ")
     missing = [part for part, where in ((case.cause, cause), (case.remedy, remedy)) if part.lower() not in where.lower() or not where]
     missing += [part for part in case.more if part not in text]
@@ -177,7 +176,7 @@ def wrong_stops():
         (["expect", "k.maxj", "t.json", "r.report", "in.json"], 3, ["none.txt: the file of the input `x`"]),
         (["simulate", "top.v", "out.json"], 4, ["no/y.txt: the file of the output `y` that out.json names can't be opened: there is no folder no"]),
         (["simulate", "o.v", "run.json"], 0, []),
-        (["simulate", "o.v", "few.json"], 6, ["`done` was never 1", "output y: 0 words in y.txt (short)", "raise `edges`"]),
+        (["simulate", "o.v", "few.json"], 6, ["`done` was never 1", "output y: 0 words in y.txt, fewer than the run's 3 ticks", "raise `edges`"]),
         (["simulate", "o.v", "dry.json"], 6, ["input x: only 3 words in x.txt, for up to 5 ticks", "give `x` a word for each tick"]),
     ]
     put("in.json", RUN.replace("x.txt", "none.txt"))

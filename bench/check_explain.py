@@ -102,9 +102,9 @@ PLACES = [
     (b"x\n\n", "S3 3", "3:1:", None, None),
     (LONG, "S2 150", "1:151:", ".. " + "a" * 50 + "#" + "b" * 49 + " ..", " " * 53 + "^"),
     (b"{\n", "T1", "2:1: refused T1 (the end of the file)", None, None),
-    (b"maxjc-report 1\nkernel K nodes 2\n", "Q1 2", "2:", "kernel K nodes 2", "^" * 16),
-    (b"maxjc-report 1\n", "Q1 2", "2: refused Q1 (there is no such line)", None, None),
-    (b"  maxjc-report 1", "Q2 1", "1:", "  maxjc-report 1", "  " + "^" * 14),
+    (b"maxjc-report 1\nkernel K nodes 2\n", "Q1 2", "2:1:", "kernel K nodes 2", "^" * 16),
+    (b"maxjc-report 1\n", "Q1 2", "2:1: refused Q1 (there is no such line)", None, None),
+    (b"  maxjc-report 1", "Q2 1", "1:3:", "  maxjc-report 1", "  " + "^" * 14),
 ]
 
 
@@ -118,7 +118,7 @@ def wrong_places(folder):
             yield f"{line} of {data[:40]}: {first}, {shown}, and not {head}, {wanted}"
     (folder / "a b.txt").write_text("0\n1g\n")
     first, text, mark, *_ = explain.explained(f"refused U3 {folder}/a b.txt 2", ["simulate", "k.v", "run.json"])
-    if (first, text, mark) != (f"{folder}/a b.txt:2: refused U3", "  1g", "  ^^"):
+    if (first, text, mark) != (f"{folder}/a b.txt:2:1: refused U3", "  1g", "  ^^"):
         yield f"U3 of a name with a blank: {first}, {text}, {mark}"
 
 

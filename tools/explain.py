@@ -32,7 +32,7 @@ FILES = {
 ABOUT = {**dict.fromkeys("SEGPCBL", "SRC"), "T": "TABLE", "V": "TEXT", **dict.fromkeys("UX", "RUN"), "Q": "REPORT"}
 # where what is found out about a code is looked for
 MODULES = {**dict.fromkeys("SE", "source_finders"), **dict.fromkeys("GLCBPQ", "project_faults"), **dict.fromkeys("FTUX", "file_faults"), "V": "text_faults"}
-SECONDS = 15  # after which no more is looked for
+SECONDS = 10  # after which no more is looked for
 OUTCOME = re.compile(r"(?:guarded|unguarded kernel (\w+) node (\d+) tick (\d+))\n(?:balanced|unbalanced link (\d+) (dry|full) (\d+))")
 
 
@@ -100,13 +100,18 @@ def heading(code, path, place, values):
     """The file with line and column, as editors and other compilers have them, and the code."""
     parts, note = [name_of(path)] if path else [], place.note if place else ""
     if place:
-        parts += [str(place.line)] + ([] if place.column is None else [str(place.column + 1)])
+        parts += [str(place.line), str((indent(place.text) if place.column is None else place.column) + 1)]
     elif path and "LINE" in values:
         parts.append(values["LINE"])
     elif "PLACE" in values:
         note = f"byte {values['PLACE']}"
     note = f" ({note})" if note else ""
     return ["".join(part + ":" for part in parts) + f" refused {code}"[not parts :] + note]
+
+
+def indent(text):
+    """Where a line begins behind its blanks."""
+    return len(text) - len(text.lstrip()) if text.strip() else 0
 
 
 def sentence(text):

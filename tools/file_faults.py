@@ -31,7 +31,8 @@ def whole(value):
 def too_long(case):
     path = case.values["FILE"]
     name = next((name for name in case.files if case.file(name) == path), "")
-    return Finding(path, None, None, f"the file has {os.stat(path).st_size:,} bytes, and its limit is {LIMITS.get(name, 16_777_216):,}")
+    limit = LIMITS.get(name, 16_777_216)
+    return Finding(path, limit, None, f"the file has {os.stat(path).st_size:,} bytes, and its limit is {limit:,}")
 
 
 def not_json(case):

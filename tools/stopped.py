@@ -114,12 +114,7 @@ def not_done(case):
     ticks, ports = run["ticks"], ports_of_text(text)
     most = max(ticks.values(), default=0)
     lines = [f"the run made all {run['edges']} edges that its file allows, and `done` was never 1"]
-    left = {name: lines_in(file) for name, file in run["outputs"].items()}
-    most_left = max((count for count in left.values() if count is not None), default=0)
-    for name in ports.outputs:
-        count = left.get(name)
-        short = " (short)" if count is not None and (count < most_left or (count < most and len(ticks) == 1)) else ""
-        lines.append(f"  output {name}: {count} words in {name_of(run['outputs'][name])}{short}")
+    lines += [output_line(name, run["outputs"], most) for name in ports.outputs]
     dry = []
     for name in ports.inputs:
         count = lines_in(run["inputs"][name])
@@ -127,6 +122,15 @@ def not_done(case):
             dry.append(name)
             lines.append(f"  input {name}: only {count} words in {name_of(run['inputs'][name])}, for up to {most} ticks")
     return lines + [f"What to do: {remedy(run, most, dry)}"]
+
+
+def output_line(name, files, most):
+    """How many words an output has, beside the ticks of the run and the words of the others."""
+    counts = {other: lines_in(file) for other, file in files.items()}
+    count, others = counts[name], [other for key, other in counts.items() if key != name and other is not None]
+    short = [f"the run's {most} ticks"] if count is not None and count < most else []
+    short += [f"another output's {max(others)}"] if count is not None and others and count < max(others) else []
+    return f"  output {name}: {count} words in {name_of(files[name])}" + (f", fewer than {' and '.join(short)}" if short else "")
 
 
 def remedy(run, most, dry):
