@@ -3,7 +3,8 @@
 
 - each case of bench/refusal_cases.py by each of its commands; each row of docs/REFUSALS.md has one for each command that says it;
 - each habit of MaxJ and Java in bench/maxj_habits.txt: its refusal has a hint, and what the hint says to write instead is compiled;
-- each worked source of bench/building_sources.txt that is refused by a code E: which cause holds is told;
+- each worked source of bench/building_sources.txt that is refused by a code E: which cause holds is told; of random sources that break the
+  grammar, tokens that may stand at the place;
 - files that can't be opened, want of words, and `unguarded` and `unbalanced` runs.
 
     bench/check_causes.py              ends with status 1 where something is wrong; passed over where the program isn't built here
@@ -17,8 +18,8 @@ import subprocess
 import sys
 import tempfile
 
-import building_faults_trials
 import building_run
+import cause_trials
 import refusal_cases
 import report_rules
 from refusal_cases import COPY, ONE, RUN, VERILOG, Case, whole
@@ -223,7 +224,7 @@ def main():
     if not PROGRAM.exists():
         print("check_causes: the program isn't built here, passed over")
         return 0
-    found, codes = [*missing_codes(), *building_faults_trials.wrong_causes()], sys.argv[1:]
+    found, codes = [*missing_codes(), *cause_trials.wrong_causes(), *cause_trials.wrong_expectations()], sys.argv[1:]
     with tempfile.TemporaryDirectory() as folder:
         os.chdir(folder)
         found += wrong_cases(codes)

@@ -138,7 +138,7 @@ def other_arguments(frames, values):
 
 def no_variable(frames, values):
     word = frames[0]["node"].word
-    return f"no variable or field `{word}` can be set here{near(word, known_names(frames[0]['self']))}", [word, "undeclared"]
+    return f"no variable or field `{word}` can be set here{near(word, known_names(frames[0]['self']))}", ["undeclared"]
 
 
 def no_value(frames, values):
@@ -150,7 +150,8 @@ def no_value(frames, values):
         return f"`{path}` is no value here{near(path, [*running_modes()])}", [path, "no call"]
     if root == "this":
         return "`this` isn't looked into", ["this"]
-    return f"`{root}` isn't declared here{near(root, known_names(run))}", [path, root, "undeclared"]
+    keys = [path, root] if "." in path or path[0].isupper() else []
+    return f"`{root}` isn't declared here{near(root, known_names(run))}", [*keys, "undeclared"]
 
 
 def running_modes():
@@ -165,7 +166,7 @@ def no_part(frames, values):
 
 def no_object(frames, values):
     word = frames[0]["node"].word
-    return f"`new {word}(..)` makes nothing here: kernels are made in `addKernel(..)` of a manager, and nothing else is", [word]
+    return f"`new {word}(..)` makes nothing here: kernels are made in `addKernel(..)` of a manager, and nothing else is", [word, "no object"]
 
 
 def no_call(frames, values):
@@ -302,7 +303,7 @@ def no_sizes(frames, values):
 
 def no_special(frames, values):
     name = call_name(frames[0])
-    return f"`{name}` takes {SIGNATURES[name]}; something else stands here", [name]
+    return f"`{name}` takes {SIGNATURES[name]}; something else stands here", [name, "other kinds"]
 
 
 def wrong_kinds(frames, values):
@@ -311,7 +312,7 @@ def wrong_kinds(frames, values):
     name = call_name(caller)
     given = caller["values"]
     before = f" behind {told(given[0])}" if name in METHODS else ""
-    return f"`{name}` takes {SIGNATURES[name]}; here it gets {listed(given[len(before) > 0:])}{before}", [name]
+    return f"`{name}` takes {SIGNATURES[name]}; here it gets {listed(given[len(before) > 0:])}{before}", [name, "other kinds"]
 
 
 def wrong_feed(frames, values):

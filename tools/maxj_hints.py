@@ -22,15 +22,15 @@ NAMES = {
     "dfeRawBits": "use `dfeUInt(n)`",
     "mem Memory rom ram mem.alloc": "choose among constants, `control.mux(address, entry0, entry1, ..)` with 2 to 64 options; for words of "
     "earlier ticks use `stream.offset(x, -k)`",
-    "makeOffsetAutoLoop OffsetAutoLoop stream.makeOffsetAutoLoop": "write the distance as a number, `stream.offset(sum, -4)`: at least the "
-    "ticks that the loop's operations take by the latency table; where it is less, the refusal C2 says how many they take",
+    "makeOffsetAutoLoop OffsetAutoLoop stream.makeOffsetAutoLoop": "write the distance as a number, `stream.offset(sum, -4)`: at least as "
+    "many ticks as the loop's operations take. If it is too short, the refusal C2 says how many they take",
     "makeOffsetParam OffsetExpr makeOffsetConstraint": "write the offset as an `int` of the constructor: `stream.offset(x, -16)`",
     "slice": "for `n` bits from bit `k` on write `(x >> k).cast(dfeUInt(n))`",
     "cat #": "to put `a` above `b` of 8 bits write `(a.cast(dfeUInt(16)) << 8) | b.cast(dfeUInt(16))`",
     "DFEVector DFEVectorType DFEStruct DFEStructType DFEComplex DFEComplexType DFEArray DFEArrayType": ELEMENTS,
     "KernelMath.max KernelMath.min Math.max Math.min max min": "write `a > b ? a : b` for the greater of two, `a < b ? a : b` for the lesser one",
     "KernelMath.abs Math.abs abs": "write `x < 0 ? -x : x`",
-    "KernelMath Math": "write it as a method of your own: the greater of two is `a > b ? a : b`, a magnitude `x < 0 ? -x : x`; a square root, "
+    "KernelMath Math": "write a method of your own. The greater of two is `a > b ? a : b`, a magnitude `x < 0 ? -x : x`; a square root, "
     "a sine or a logarithm is a method of additions, products and choices",
     "Reductions Accumulator Reductions.accumulator makeAccumulator Accumulator.Params": f"write the sum with a feed: {FEED}",
     "Reductions.streamHold": "it takes a stream and a store; to set it anew write a feed: `DFEVar old = t.newInstance(this); DFEVar held = "
@@ -50,7 +50,7 @@ NAMES = {
     "shiftLeft shiftRight": "write `x << k` or `x >> k` with an `int` `k`",
     "pushPipeliningFactor popPipeliningFactor pipeline optimization.pipeline optimization.pushPipeliningFactor "
     "optimization.popPipeliningFactor optimization.pushDSPFactor optimization.popDSPFactor optimization.limitFanout optimization": TABLE,
-    "stream.offset": f"the offset is an `int` of the constructor; for one that a stream has, {CHOICE}, each a `stream.offset` of its own",
+    "stream.offset": f"the offset is an `int` of the constructor. For one that a stream has, {CHOICE}, each a `stream.offset` of its own",
     "io.scalarOutput scalarOutput": "write an output with a control that is 1 in the last tick: `io.output(\"y\", v, t, last)`",
     "io.forceOutput io.setRegister io.pushInputRegistering": "take it out: each port has its FIFO, and registers are placed by the schedule",
     "IOType setIO setKernel createSLiCInterface build config setBuildConfig addMaxFileConstant getCurrentKernel": BUILD,
@@ -98,6 +98,8 @@ FORMS = {
     "other count": "give the arguments that it takes",
     "other type": "give it a value of its type, or declare it as the type of the value",
     "other kind": "use values that the operator takes (docs/LANGUAGE.md, \"Expressions\")",
+    "other kinds": "give it values of these kinds",
+    "no object": "write what it does as methods of this class: a source is one file, and has kernels and a manager alone",
     "no feed": "connect a feed: `DFEVar v = dfeUInt(8).newInstance(this); v <== x;`",
     "no result": "give the method the type of the value in place of `void`, or write `return;`",
     "unset": "give it a value before it is read",

@@ -131,7 +131,7 @@ def wanted_at(source, tokens, place):
         pass
     if reader.at >= len(tokens) or tokens[reader.at].place != place:
         return ""
-    texts = list(reader.wanted.get(reader.at, {}))
+    texts = [text for text in reader.wanted.get(reader.at, {}) if may_stand(text, [token.text for token in tokens], reader.at)]
     operators = [text for text in texts if text in OPERATORS]
     if len(operators) > 4:
         texts = [text for text in texts if text not in OPERATORS] + ["an operator"]
@@ -140,6 +140,22 @@ def wanted_at(source, tokens, place):
         return ""
     words = [text if " " in text else f"`{text}`" for text in words]
     return ", ".join(words[:-1]) + " or " * (len(words) > 1) + "".join(words[-1:])
+
+
+def may_stand(text, texts, at):
+    """Whether a token that the parser looked for may stand there indeed: a constructor's head is narrower than that of a method."""
+    before = texts[max(0, at - 2) : at]
+    if before == [")", "{"] and opens_constructor(texts, at - 2):
+        return text == "super"
+    if text == "super" or (text == "[" and before[-1:] in (["KernelParameters"], ["EngineParameters"])):
+        return False
+    return not (text == "," and before[:1] == ["EngineParameters"] or text in ("=", ";") and before[:1] == ["void"])
+
+
+def opens_constructor(texts, at):
+    """Whether a closing parenthesis ends the parameters of a constructor."""
+    start = max((k for k in range(at) if texts[k] == "("), default=0)
+    return start > 0 and texts[start - 1] in class_names(texts) and texts[start - 2] != "new"
 
 
 OPERATORS = {sign for level in source_tree.LEVELS for sign in level} | {"?", ".", "[", "=", "+=", "-=", "*=", "++", "--", "<=="}
