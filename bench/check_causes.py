@@ -41,8 +41,11 @@ PLACE = re.compile(r"([^:]*):(\d+):(\d+): refused (\w+)")
 
 
 def says(*words):
-    """The status of the program and what it says."""
-    ran = subprocess.run([PROGRAM, *words], capture_output=True, cwd=".", timeout=120)
+    """The status of the program and what it says; no status where it takes too long."""
+    try:
+        ran = subprocess.run([PROGRAM, *words], capture_output=True, timeout=120)
+    except subprocess.TimeoutExpired:
+        return None, "nothing within 120 seconds"
     return ran.returncode, ran.stdout.decode()
 
 

@@ -9,6 +9,7 @@ program is needed; bench/check_causes.py looks at what is said of refusals of th
 
     bench/check_explain.py     ends with status 1 where something is wrong
 """
+import os
 import pathlib
 import re
 import subprocess
@@ -134,6 +135,8 @@ def wrong_odd(folder):
     odd += [["refused U2 a\nb", "simulate", "a", "/dev/zero"]]
     odd = [["1", *words] for words in odd] + [[], [""], ["x", ""], ["0", "unguarded", "expect"], ["0", "guarded\nunbalanced link 0 dry 0\n", "expect"]]
     odd += [[str(status), "", *words] for status in range(3, 7) for words in ([], ["other"], ["simulate"], ["expect", "a", "b", "c", str(folder)])]
+    os.mkfifo(folder / "pipe")
+    odd += [[status, "", "simulate", str(TOOL), str(folder / "pipe")] for status in "346"] + [["1", "refused U2 a", "simulate", "a", "/dev/zero"]]
     odd += [["6", "not done after 3 edges\n", "simulate", str(TOOL), str(TOOL)]]
     for words in odd:
         ran = subprocess.run([TOOL, *words], capture_output=True, cwd=folder, timeout=20)

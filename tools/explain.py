@@ -32,7 +32,7 @@ FILES = {
 ABOUT = {**dict.fromkeys("SEGPCBL", "SRC"), "T": "TABLE", "V": "TEXT", **dict.fromkeys("UX", "RUN"), "Q": "REPORT"}
 # where what is found out about a code is looked for
 MODULES = {**dict.fromkeys("SE", "source_finders"), **dict.fromkeys("GLCBPQ", "project_faults"), **dict.fromkeys("FTUX", "file_faults"), "V": "text_faults"}
-SECONDS = 10  # after which no more is looked for
+SECONDS, LONGEST = 10, 60  # of the processor, and of the clock, after which no more is looked for
 OUTCOME = re.compile(r"(?:guarded|unguarded kernel (\w+) node (\d+) tick (\d+))\n(?:balanced|unbalanced link (\d+) (dry|full) (\d+))")
 
 
@@ -156,9 +156,14 @@ def attempt(call, *arguments, otherwise=None):
         return otherwise
 
 
+def is_odd(word):
+    """Whether a word names what isn't a file, and may have no end."""
+    return os.path.exists(word) and not os.path.isfile(word)
+
+
 def looked_for(case):
     """What the finder of a code finds out, if there is one."""
-    if not case.words or case.code[:1] not in MODULES:
+    if not case.words or case.code[:1] not in MODULES or any(map(is_odd, case.words[1:])):
         return None
     finders = importlib.import_module(MODULES[case.code[0]]).FINDERS
     return finders[case.code](case) if case.code in finders else None
@@ -211,7 +216,9 @@ def told(status, said, words):
 def main():
     status, said, *words = sys.argv[1:] if len(sys.argv) > 2 else ["", ""]
     signal.signal(signal.SIGALRM, too_long)
-    signal.alarm(SECONDS)
+    signal.signal(signal.SIGPROF, too_long)
+    signal.alarm(LONGEST)
+    signal.setitimer(signal.ITIMER_PROF, SECONDS)
     for line in attempt(told, int(status), said, words, otherwise=[]):
         print(line, file=sys.stderr)
 

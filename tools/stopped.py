@@ -16,6 +16,8 @@ WRITTEN = {"compile": ("OUT", "REPORT")}
 def run_files(case, key):
     """(what, name) of each file that a run file names under `inputs` or `outputs`."""
     path = case.file("RUN")
+    if not path or not os.path.isfile(path):
+        return []
     try:
         found = json.loads(pathlib.Path(path).read_bytes())[key].items()
     except (OSError, TypeError, ValueError, KeyError, AttributeError):
@@ -100,6 +102,8 @@ def no_memory(case):
 
 def lines_in(path):
     """The lines of a file, or None where it can't be read."""
+    if not os.path.isfile(path):
+        return None
     try:
         with open(path, "rb") as file:
             return sum(1 for _ in file)
@@ -109,6 +113,8 @@ def lines_in(path):
 
 def not_done(case):
     """Status 6: what of the run is short."""
+    if not all(path and os.path.isfile(path) for path in (case.file("TEXT"), case.file("RUN"))):
+        return ["the run made all edges that its file allows, and `done` was never 1", "What to do: raise `edges` in the run file."]
     run = json.loads(pathlib.Path(case.file("RUN")).read_bytes())
     text = pathlib.Path(case.file("TEXT")).read_text("latin-1")
     ticks, ports = run["ticks"], ports_of_text(text)
