@@ -478,16 +478,19 @@ def graph_refusal(name, calls, nodes):
 
 @dataclass
 class Built:
-    """What a source builds: the line of its refusal or None, the calls of each kernel that was run, and the manager's run."""
+    """What a source builds: the line of its refusal or None, the calls of each kernel that was run, and the manager's run; the
+    runs of the kernels, and the refusal itself, with the calls that it came through."""
 
     line: str
     kernels: list
     manager: object = None
     steps: int = 0
+    runs: list = field(default_factory=list)
+    fault: Refusal = None
 
 
-def build(source):
-    """What the constructors of a source that breaks no code S do."""
+def build(source, Run=Run):
+    """What the constructors of a source that breaks no code S do. Another class of runs may note more of what they do."""
     classes = classes_of(source)
     kernel_classes = {class_.name: class_ for class_ in classes if not class_.manager}
     built = Built(None, [])
@@ -504,6 +507,7 @@ def build(source):
             wanted = [(class_.name, class_, [])]
         for name, class_, arguments in wanted:
             run = Run(class_)
+            built.runs.append(run)
             built.kernels.append((name, run.calls))
             try:
                 run.run(arguments)
@@ -513,5 +517,5 @@ def build(source):
             if refusal:
                 raise refusal
     except Refusal as refusal:
-        built.line = refusal.line
+        built.line, built.fault = refusal.line, refusal
     return built

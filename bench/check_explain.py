@@ -1,20 +1,17 @@
 #!/usr/bin/env python3
-"""Whether tools/explain.py says of each refusal what docs/REFUSALS.md says, and finds places in files; and whether the launcher
-passes on what the program says, and tells of builds. No proved program is needed: programs and an `rt` of a few lines stand for them.
+"""Whether tools/explain.py says of each refusal what docs/REFUSALS.md says where no more is known, and finds places in files. No
+program is needed; bench/check_causes.py looks at what is said of refusals of the program.
 
 - each row of the tables of codes, by a line that is made of its code and the names of its values, and by those of its example;
 - each code of the table of the code's own names has a row, and each row's code stands there;
 - files that were made up here, with the line, the column and the mark that were worked by hand;
-- odd words, files that aren't there, a page that isn't there: status 0, nothing on standard output, what is known on the other one;
-- the launcher with a terminal on standard error, and without one.
+- odd words, files that aren't there, a page that isn't there: status 0, nothing on standard output, what is known on the other one.
 
     bench/check_explain.py     ends with status 1 where something is wrong
 """
 import os
 import pathlib
-import pty
 import re
-import shutil
 import subprocess
 import sys
 import tempfile
@@ -105,10 +102,10 @@ PLACES = [
     (b"a\x1b[2Jb \xff\n", "S1 1", "1:2:", "a?[2Jb \ufffd", " ^"),
     (b"x\n\n", "S3 3", "3:1:", None, None),
     (LONG, "S2 150", "1:151:", ".. " + "a" * 50 + "#" + "b" * 49 + " ..", " " * 53 + "^"),
-    (b"{\n", "T1", " refused T1", None, None),
-    (b"maxjc-report 1\nkernel K nodes 2\n", "Q1 2", "2:", "kernel K nodes 2", "^" * 16),
-    (b"maxjc-report 1\n", "Q1 2", "2: refused Q1 (there is no such line)", None, None),
-    (b"  maxjc-report 1", "Q2 1", "1:", "  maxjc-report 1", "  " + "^" * 14),
+    (b"{\n", "T1", "2:1: refused T1 (the end of the file)", None, None),
+    (b"maxjc-report 1\nkernel K nodes 2\n", "Q1 2", "2:1:", "kernel K nodes 2", "^" * 16),
+    (b"maxjc-report 1\n", "Q1 2", "2:1: refused Q1 (there is no such line)", None, None),
+    (b"  maxjc-report 1", "Q2 1", "1:3:", "  maxjc-report 1", "  " + "^" * 14),
 ]
 
 
@@ -122,7 +119,7 @@ def wrong_places(folder):
             yield f"{line} of {data[:40]}: {first}, {shown}, and not {head}, {wanted}"
     (folder / "a b.txt").write_text("0\n1g\n")
     first, text, mark, *_ = explain.explained(f"refused U3 {folder}/a b.txt 2", ["simulate", "k.v", "run.json"])
-    if (first, text, mark) != (f"{folder}/a b.txt:2: refused U3", "  1g", "  ^^"):
+    if (first, text, mark) != (f"{folder}/a b.txt:2:1: refused U3", "  1g", "  ^^"):
         yield f"U3 of a name with a blank: {first}, {text}, {mark}"
 
 
@@ -130,12 +127,17 @@ def wrong_places(folder):
 
 
 def wrong_odd(folder):
-    odd = [[], [""], ["refused"], ["refused "], ["refused Z9"], ["done after 3 edges"], ["refused S3"]]
+    odd = [[""], ["refused"], ["refused "], ["refused Z9"], ["done after 3 edges"], ["refused S3"]]
     odd += [["refused S3 x", "check"]]
     odd += [["refused S3 4", "check"], ["refused S3 4", "check", str(folder)], ["refused S3 4", "other", "a", "b"]]
     odd += [["refused S3 " + "9" * 40, "check", str(TOOL)], ["refused Q1 " + "9" * 40, "check", "a", "b", str(TOOL)]]
     odd += [[b"refused T2 \xff\x1b[2J\nx", "check", "a", "b"], ["refused F1 \udcff"]]
     odd += [["refused U2 a\nb", "simulate", "a", "/dev/zero"]]
+    odd = [["1", *words] for words in odd] + [[], [""], ["x", ""], ["0", "unguarded", "expect"], ["0", "guarded\nunbalanced link 0 dry 0\n", "expect"]]
+    odd += [[str(status), "", *words] for status in range(3, 7) for words in ([], ["other"], ["simulate"], ["expect", "a", "b", "c", str(folder)])]
+    os.mkfifo(folder / "pipe")
+    odd += [[status, "", "simulate", str(TOOL), str(folder / "pipe")] for status in "346"] + [["1", "refused U2 a", "simulate", "a", "/dev/zero"]]
+    odd += [["6", "not done after 3 edges\n", "simulate", str(TOOL), str(TOOL)]]
     for words in odd:
         ran = subprocess.run([TOOL, *words], capture_output=True, cwd=folder, timeout=20)
         if ran.returncode or ran.stdout or b"Traceback" in ran.stderr or b"\x1b" in ran.stderr:
@@ -145,132 +147,9 @@ def wrong_odd(folder):
         yield f"without the page: {alone}"
 
 
-# The launcher
-
-SAYS = r"""#!/bin/bash
-case "$1" in
-  check) printf 'refused S2 2\n'; exit 1 ;;
-  zero) printf 'refused T2 a\0b\n'; exit 1 ;;
-  two) printf 'refused S2 2\nmore\n'; exit 1 ;;
-  usage) printf 'usage: ..\n'; exit 2 ;;
-  dies) kill -9 $$ ;;
-  silent) exit "$2" ;;
-esac
-"""
-# the words; what is said, and the status; how the explanation begins
-LAUNCHED = [
-    (["check", "k.maxj", "t", "r"], b"refused S2 2\n", 1, b"k.maxj:1:3: refused S2\r\n  a #\r\n    ^\r\n"),
-    (["check", "none.maxj", "t", "r"], b"refused S2 2\n", 1, b"none.maxj: refused S2 (byte 2)\r\n"),
-    (["zero"], b"refused T2 a\0b\n", 1, b""),
-    (["two"], b"refused S2 2\nmore\n", 1, b""),
-    (["usage"], b"usage: ..\n", 2, b""),
-    (["silent", "3"], b"", 3, b""),
-    (["silent", "0"], b"", 0, b""),
-]
-
-
-def launcher_in(folder):
-    """A copy of what the launcher needs, with a program of a few lines in place of the proved one."""
-    for part in ("maxjc", "crates.txt", "tools/explain.py", "docs/REFUSALS.md", "crates/maxjc/src/main.rt"):
-        (folder / part).parent.mkdir(parents=True, exist_ok=True)
-        shutil.copy2(TOP / part, folder / part)
-    program = folder / "crates/maxjc/out/maxjc"
-    program.parent.mkdir()
-    program.write_text(SAYS)
-    program.chmod(0o755)
-    return program
-
-
-def launched(folder, words, has_terminal, out=subprocess.PIPE, path=None):
-    """The status, what was said, and what standard error got."""
-    master, end = pty.openpty() if has_terminal else os.pipe()
-    seen = {**os.environ, **({"PATH": f"{path}:{os.environ['PATH']}"} if path else {})}
-    how = {"cwd": folder, "env": seen, "stdin": subprocess.DEVNULL, "timeout": 60}
-    ran = subprocess.run([folder / "maxjc", *words], stdout=out, stderr=end, **how)
-    os.close(end)
-    told = b""
-    try:
-        while piece := os.read(master, 4096):
-            told += piece
-    except OSError:  # so a terminal ends
-        pass
-    os.close(master)
-    return ran.returncode, ran.stdout, told
-
-
-def wrong_launches(folder):
-    launcher_in(folder)
-    (folder / "k.maxj").write_text("a #\n")
-    for words, wanted, status, begin in LAUNCHED:
-        for has_terminal in (True, False):
-            ended, said, told = launched(folder, words, has_terminal)
-            begins = told.startswith(begin) and (begin or not told) if has_terminal else not told
-            if (ended, said) != (status, wanted) or not begins:
-                yield f"maxjc {words}: status {ended}, {said}, {told}"
-    for has_terminal in (True, False):
-        if launched(folder, ["dies"], has_terminal)[0] not in (-9, 128 + 9):
-            yield "maxjc: a program that is killed ends as if it weren't"
-    with open("/dev/full", "wb") as full:
-        ended, _, told = launched(folder, ["usage"], True, out=full)
-    if ended != 4:
-        yield f"maxjc onto a full device: status {ended}, {told}"
-
-
-# Builds
-
-# an `rt` that finds one crate proved and proves others, in a copy without edits
-BUILDS = r"""#!/bin/bash
-[ "$*" = ci ] && [ -e crates.txt ] && [ -e HANDLES ] && [ -d .git ] && [ ! -e crates/mx_bits/must-fail ] || exit 9
-printf 'rt: mx_bits is kept: an earlier run\nrt: mx_bits: its tests are proved\nrt: grammar proved\n'
-if [ -n "$FAILS" ]; then
-  printf 'rt: maxjc_core NOT PROVED\n2 passed, 1 failed\n'
-  exit 1
-fi
-printf 'rt: maxjc proved\n4 passed, 0 failed\n'
-mkdir -p crates/maxjc/out
-printf '#!/bin/bash\necho built\n' >crates/maxjc/out/maxjc
-chmod +x crates/maxjc/out/maxjc
-"""
-
-
-def crates():
-    """The crates that the program is built of, itself among them."""
-    lines = [line.partition(":") for line in (TOP / "crates.txt").read_text().splitlines()]
-    uses, found, left = {name: below.split() for name, _, below in lines}, set(), ["maxjc"]
-    while left:
-        name = left.pop()
-        left += [] if name in found else uses.get(name, [])
-        found |= {name} & set(uses)
-    return found
-
-
-def wrong_builds(folder):
-    program, most = launcher_in(folder), len(crates())
-    for name in crates():
-        (folder / "crates" / name / "must-fail").mkdir(parents=True, exist_ok=True)
-    shutil.copy2(TOP / "HANDLES", folder)
-    (folder / "path").mkdir()
-    (folder / "path/rt").write_text(BUILDS)
-    (folder / "path/rt").chmod(0o755)
-    os.utime(program, (0, 0))
-    os.environ["FAILS"] = "1"
-    ended, said, told = launched(folder, [], False, path=folder / "path")
-    if ended != 70 or said or b"maxjc_core NOT PROVED" not in told or b"the build failed" not in told:
-        yield f"a build that fails: status {ended}, {said}, {told}"
-    for log in re.findall(rb"what it said is in (\S+)/log", told):
-        shutil.rmtree(log)
-    del os.environ["FAILS"]
-    ended, said, told = launched(folder, [], False, path=folder / "path")
-    done = [f"done with {name}, {most - count} of {most} crates left".encode() for count, name in enumerate(("mx_bits", "grammar", "maxjc"), 1)]
-    if (ended, said) != (0, b"built\n") or not all(line in told for line in done) or told.count(b"done with") != len(done):
-        yield f"a build: status {ended}, {said}, {told}"
-    if launched(folder, [], False, path="/nowhere") != (0, b"built\n", b""):
-        yield "a second call builds again"
-
-
 def main():
     found = list(wrong_rows())
-    for wrong in (wrong_places, wrong_odd, wrong_launches, wrong_builds):
+    for wrong in (wrong_places, wrong_odd):
         with tempfile.TemporaryDirectory() as folder:
             found += wrong(pathlib.Path(folder))
     for line in found:

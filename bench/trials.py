@@ -7,14 +7,23 @@ import sys
 import tempfile
 
 TOP = pathlib.Path(__file__).resolve().parent.parent
-# the program that is tried; MAXJC in the environment names another one
-PROGRAM = pathlib.Path(os.environ.get("MAXJC") or TOP / "crates/maxjc/out/maxjc").resolve()
+
+
+def ready_program():
+    """The program that is tried: that which MAXJC in the environment names, else the one that the launcher runs, where one is ready."""
+    if os.environ.get("MAXJC"):
+        return pathlib.Path(os.environ["MAXJC"]).resolve()
+    ready = subprocess.run([TOP / "tools/program.sh"], capture_output=True, text=True)
+    return pathlib.Path(ready.stdout.strip() or TOP / "build/program/proved/maxjc")
+
+
+PROGRAM = ready_program()
 
 
 def build():
-    """Has the program proved and built, where it isn't yet and the environment names no other one."""
-    if not os.environ.get("MAXJC"):
-        subprocess.run([str(TOP / "maxjc")], stdout=subprocess.DEVNULL)
+    """Has the program proved and built, where none is ready."""
+    if not PROGRAM.exists():
+        subprocess.run([TOP / "tools/prove"], stdout=subprocess.DEVNULL)
     if not PROGRAM.exists():
         sys.exit("the program isn't built here")
 
