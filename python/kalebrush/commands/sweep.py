@@ -1,0 +1,3 @@
+"""To come."""
+def add(c): pass
+def main(o): return 0
