@@ -15,6 +15,7 @@ A tool or package that is missing is passed over.
 """
 import os
 import pathlib
+import re
 import shutil
 import subprocess
 import sys
@@ -101,7 +102,7 @@ def spoiled(name, shell):
     changed = f"{int(lines[at], 16) ^ 1:0{len(lines[at])}x}"
     changes = [
         (memory, "\n".join([*lines[:at], changed, *lines[at + 1 :], ""]), "a changed word"),
-        (shell / f"{module}.v", wrapper.replace("_tlast = ", "_tlast = ~"), "another tlast"),
+        (shell / f"{module}.v", re.sub(r"_tlast = (.*);", r"_tlast = ~(\1);", wrapper), "another tlast"),
         (shell / f"tb_{module}.v", bench.replace("'h20, 32'h", "'h20, 32'h1"), "other ticks"),
     ]
     for path, text, told in changes:
