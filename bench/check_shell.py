@@ -3,8 +3,8 @@
 
 Of three examples (a picture; scalars and controls; a project of three kernels):
 
-- the testbench of the shell, in Icarus and in the program that Verilator builds of it, passes over the words that `expect` says,
-  in two runs one behind the other, without gaps and with many, and after resets of several lengths;
+- the testbench of the shell, in Icarus and as Verilator builds it, passes over the words that `expect` says, in two runs
+  one behind the other, without gaps and with many, and after resets of several lengths;
 - it fails where a word that is expected is changed, where `tlast` is at other words, and where the run has other ticks;
 - Verilator has nothing to warn of but what waivers.vlt names;
 - Yosys synthesizes it for iCE40, ECP5 and Xilinx devices.
@@ -40,7 +40,9 @@ PATIENCE = 900  # seconds for a tool
 def run(words, folder):
     """The status of a command, and what it says."""
     try:
-        done = subprocess.run(list(map(str, words)), cwd=folder, capture_output=True, text=True, env=surroundings(), timeout=PATIENCE)
+        done = subprocess.run(
+            list(map(str, words)), cwd=folder, capture_output=True, text=True, env=surroundings(), timeout=PATIENCE
+        )
     except subprocess.TimeoutExpired:
         return 124, f"{words[0]} hadn't ended after {PATIENCE} s"
     return done.returncode, done.stdout + done.stderr
@@ -50,9 +52,23 @@ def shell_of(name, folder):
     """Writes the shell of an example with its run; what is wrong, if anything is."""
     inputs, scalars, ticks = RUNS[name]
     source, table = EXAMPLES / name / f"{name}.maxj", EXAMPLES / f"tables/{TABLES[name]}.json"
-    words = [PYTHON, "-m", "kalebrush", "shell", folder / f"{name}.v", "--to", folder / "shell", "--source", source, "--table", table]
+    words = [
+        PYTHON,
+        "-m",
+        "kalebrush",
+        "shell",
+        folder / f"{name}.v",
+        "--to",
+        folder / "shell",
+        "--source",
+        source,
+        "--table",
+        table,
+    ]
     words += [word for port in inputs for word in ("--in", f"{port}={EXAMPLES / name / port}.txt")]
-    words += [word for scalar in scalars for word in ("--scalar", scalar)] + [word for count in ticks for word in ("--ticks", count)]
+    words += [word for scalar in scalars for word in ("--scalar", scalar)] + [
+        word for count in ticks for word in ("--ticks", count)
+    ]
     program = os.environ.get("MAXJC") or TOP / "maxjc"
     status, told = run([program, "compile", source, table, folder / f"{name}.v", folder / "report"], folder)
     if status:
@@ -64,7 +80,19 @@ def shell_of(name, folder):
 def icarus(name, shell):
     """The program of the testbench for Icarus, or None and what is wrong."""
     module = f"{name}_axi"
-    words = ["iverilog", "-g2005", "-Wall", "-Wno-timescale", "-s", f"tb_{module}", "-o", "tb.vvp", f"{name}.v", f"{module}.v", f"tb_{module}.v"]
+    words = [
+        "iverilog",
+        "-g2005",
+        "-Wall",
+        "-Wno-timescale",
+        "-s",
+        f"tb_{module}",
+        "-o",
+        "tb.vvp",
+        f"{name}.v",
+        f"{module}.v",
+        f"tb_{module}.v",
+    ]
     status, told = run(words, shell)
     return (None, f"iverilog: {told}") if status or "warning" in told else (["vvp", "-n", "tb.vvp"], "")
 
@@ -72,7 +100,16 @@ def icarus(name, shell):
 def verilated(name, shell):
     """The same for Verilator."""
     module = f"{name}_axi"
-    words = ["verilator", "--binary", "--timing", "-Wno-fatal", "-Wno-lint", "-Wno-STMTDLY", "--top-module", f"tb_{module}"]
+    words = [
+        "verilator",
+        "--binary",
+        "--timing",
+        "-Wno-fatal",
+        "-Wno-lint",
+        "-Wno-STMTDLY",
+        "--top-module",
+        f"tb_{module}",
+    ]
     status, told = run([*words, f"{name}.v", f"{module}.v", f"tb_{module}.v"], shell)
     return (None, f"verilator: {told[-2000:]}") if status else ([shell / f"obj_dir/Vtb_{module}"], "")
 
@@ -130,7 +167,10 @@ def linted(name, shell):
     module = f"{name}_axi"
     words = ["verilator", "--lint-only", "-Wall", "--top-module", module, "waivers.vlt", f"{name}.v", f"{module}.v"]
     status, told = run(words, shell)
-    print(f"{name}, verilator --lint-only -Wall: {'nothing to warn of' if status == 0 and not told else 'WARNS'}", flush=True)
+    print(
+        f"{name}, verilator --lint-only -Wall: {'nothing to warn of' if status == 0 and not told else 'WARNS'}",
+        flush=True,
+    )
     if status or told:
         yield f"{name}, verilator: {told[-2000:]}"
 

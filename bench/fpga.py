@@ -4,9 +4,9 @@
     bench/fpga.py [--seconds N]          six kernels of bench/hand, emitted and by hand: a table in Markdown
     bench/fpga.py --example FOLDER ..    each folder's source by its table: a table in Markdown
 
-For iCE40 (HX8K) the design is placed and routed with three seeds, and the clock is that of the slowest path, from the lowest seed to
-the highest; for ECP5 and Xilinx the cells are those after synthesis. `--seconds` is the limit of time for each call of a tool (600).
-A dash stands where a tool didn't end, or where the device is too small. Runs are niced, one tool at a time.
+For iCE40 (HX8K) the design is placed and routed with three seeds; the clock is given from the slowest of them to the
+fastest. For ECP5 and Xilinx 7 the cells are those after synthesis. `--seconds` is the limit of time for each call of a
+tool (600). A dash stands where a tool didn't end, or where the device is too small. Tools run niced, one at a time.
 """
 import argparse
 import json
@@ -28,16 +28,30 @@ STAT = re.compile(r"^ +([A-Z$]\w+) +(\d+)$", re.M)
 OPERATIONS = "add sub mul div neg and or xor not eq ne lt le gt ge mux round".split()
 # the latencies by which each kernel is compiled; those that aren't named are 0
 LATENCIES = {
-    "running_sum": {}, "gauss": {"add": 1}, "histogram": {}, "cordic": {"add": 1, "sub": 1}, "fir": {"mul": 1},
+    "running_sum": {},
+    "gauss": {"add": 1},
+    "histogram": {},
+    "cordic": {"add": 1, "sub": 1},
+    "fir": {"mul": 1},
     "exponential": {"mul": 3, "add": 1},
 }
-# of each family: the command of Yosys, and the cells that are LUTs (with how many each takes), flip-flops, block RAMs, and DSPs
+# of each family: the command of Yosys, and the cells that are LUTs (with how many each takes), flip-flops, block RAMs and
+# DSPs
 FAMILIES = {
     "iCE40": ("synth_ice40", {"SB_LUT4": 1}, r"SB_DFF", {"SB_RAM40_4K": 1}, {}),
-    "ECP5": ("synth_ecp5", {"LUT4": 1, "CCU2C": 2, "TRELLIS_DPR16X4": 4}, r"TRELLIS_FF", {"DP16KD": 1, "PDPW16KD": 1}, {"MULT18X18D": 1}),
+    "ECP5": (
+        "synth_ecp5",
+        {"LUT4": 1, "CCU2C": 2, "TRELLIS_DPR16X4": 4},
+        r"TRELLIS_FF",
+        {"DP16KD": 1, "PDPW16KD": 1},
+        {"MULT18X18D": 1},
+    ),
     "Xilinx": (
-        "synth_xilinx", {**{f"LUT{n}": 1 for n in range(1, 7)}, "SRL16E": 1, "SRLC32E": 1, "RAM32M": 4, "RAM64M": 4, "RAM32X1D": 2},
-        r"FD[RSCP]E", {"RAMB18E1": 1, "RAMB36E1": 2}, {"DSP48E1": 1},
+        "synth_xilinx",
+        {**{f"LUT{n}": 1 for n in range(1, 7)}, "SRL16E": 1, "SRLC32E": 1, "RAM32M": 4, "RAM64M": 4, "RAM32X1D": 2},
+        r"FD[RSCP]E",
+        {"RAMB18E1": 1, "RAMB36E1": 2},
+        {"DSP48E1": 1},
     ),
 }
 
@@ -63,7 +77,13 @@ class Tools:
     def run(self, words):
         """What a tool says, or None where it fails or doesn't end."""
         try:
-            done = subprocess.run(["nice", "-n", "15", *map(str, words)], cwd=self.folder, capture_output=True, text=True, timeout=self.seconds)
+            done = subprocess.run(
+                ["nice", "-n", "15", *map(str, words)],
+                cwd=self.folder,
+                capture_output=True,
+                text=True,
+                timeout=self.seconds,
+            )
         except subprocess.TimeoutExpired:
             return None
         return done.stdout if done.returncode == 0 else None
@@ -87,7 +107,12 @@ class Tools:
     def placed(self, cells):
         """Places and routes the last text for iCE40, with each seed."""
         for seed in SEEDS:
-            if self.run(["nextpnr-ice40", *DEVICE, "--json", "net.json", "--seed", seed, "-q", "--report", "report.json"]) is None:
+            if (
+                self.run(
+                    ["nextpnr-ice40", *DEVICE, "--json", "net.json", "--seed", seed, "-q", "--report", "report.json"]
+                )
+                is None
+            ):
                 return
             report = json.loads((self.folder / "report.json").read_text())
             cells.clocks.append(max(clock["achieved"] for clock in report["fmax"].values()))
@@ -120,8 +145,9 @@ def table_of(latencies, folder):
     return path
 
 
-HEAD = """| design | | iCE40: LUT4 | registers | block RAM | logic cells | MHz | ECP5: LUT4 | registers | block RAM | DSP | Xilinx: LUT | registers | block RAM | DSP |
-|---|---|---|---|---|---|---|---|---|---|---|---|---|---|---|"""
+COLUMNS = ["iCE40: LUT4", "registers", "block RAM", "logic cells", "MHz"]
+COLUMNS += ["ECP5: LUT4", "registers", "block RAM", "DSP", "Xilinx: LUT", "registers", "block RAM", "DSP"]
+HEAD = "| design | | " + " | ".join(COLUMNS) + " |\n" + "|---" * (2 + len(COLUMNS)) + "|"
 
 
 def row(name, kind, found):
@@ -145,7 +171,7 @@ def sides(name, folder):
 
 
 def source_and_table(example):
-    """The source of an example's folder, and its table: its own, that of its page's commands, or the one of no latencies."""
+    """The source of an example's folder, and its table: its own, that of its page, or the one without latencies."""
     folder = pathlib.Path(example).resolve()
     (source,) = folder.glob("*.maxj")
     own = folder / "table.json"

@@ -14,6 +14,15 @@ from kalebrush.project import Comparison, Difference, Expected, Project, Simulat
 from kalebrush.types import WordType
 
 __all__ = [
-    "Comparison", "Difference", "Expected", "KalebrushError", "ProgramError", "Project", "Refusal", "Simulated", "ValueRefused", "WordType",
+    "Comparison",
+    "Difference",
+    "Expected",
+    "KalebrushError",
+    "ProgramError",
+    "Project",
+    "Refusal",
+    "Simulated",
+    "ValueRefused",
+    "WordType",
 ]
 __version__ = "1.0"

@@ -24,14 +24,16 @@ def parser() -> argparse.ArgumentParser:
     commands = top.add_subparsers(dest="command", required=True, metavar="COMMAND")
     for name, told in COMMANDS.items():
         module = importlib.import_module(f"kalebrush.commands.{name}")
-        command = commands.add_parser(name, help=told, description=module.__doc__, formatter_class=argparse.RawDescriptionHelpFormatter)
+        command = commands.add_parser(
+            name, help=told, description=module.__doc__, formatter_class=argparse.RawDescriptionHelpFormatter
+        )
         module.add(command)
         command.set_defaults(main=module.main)
     return top
 
 
 def main(words: list[str] | None = None) -> int:
-    """Runs a command: 0 where all is well, 1 where something is refused or differs, 2 where the words are no command."""
+    """Runs a command: 0 where all is well, 1 where something is refused or differs, 2 for wrong words."""
     options = parser().parse_args(words)
     try:
         return options.main(options)

@@ -1,7 +1,7 @@
 """Values in files: pictures (PNG, PGM), tables (CSV), arrays of NumPy (.npy), and files of words.
 
-A file may have a part behind `#`: of a picture a channel (`r`, `g`, `b` or `a`), of a table a column. The shape that a file
-of inputs has is that of an output with as many values.
+A file may have a part behind `#`: of a picture a channel (`r`, `g`, `b` or `a`), of a table a column. An output with as
+many values as a file of inputs gets the shape of that file.
 """
 from __future__ import annotations
 
@@ -183,7 +183,9 @@ class Writer:
             write_pgm(place.path, self._picture(output), output.type)
         elif place.kind in PICTURES:
             if place.part:
-                self.channels.setdefault(place.path, {})[place.part] = _points(self._picture(output), WordType("uint", 8))
+                self.channels.setdefault(place.path, {})[place.part] = _points(
+                    self._picture(output), WordType("uint", 8)
+                )
             else:
                 save_picture(place.path, self._picture(output), output.type)
         else:
@@ -213,7 +215,15 @@ def write_csv(place: Place, output: Output) -> None:
     with open(place.path, "w", newline="", encoding="utf-8") as file:
         file.write(f"{place.part or output.name}\n")
         for cell, unknown in zip(cells, output.undefined):
-            shown = "" if unknown else int(cell) if isinstance(cell, bool) else float(cell) if output.type.kind == "fix" else cell
+            shown = (
+                ""
+                if unknown
+                else int(cell)
+                if isinstance(cell, bool)
+                else float(cell)
+                if output.type.kind == "fix"
+                else cell
+            )
             file.write(f"{shown}\n" if shown != "" else '""\n')
 
 

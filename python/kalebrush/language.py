@@ -26,7 +26,9 @@ def bench(name: str) -> ModuleType:
     try:
         return importlib.import_module(name)
     except ModuleNotFoundError as error:
-        raise KalebrushError(f"the folder bench/ of the repository isn't beside this package ({error.name} is missing)") from error
+        raise KalebrushError(
+            f"the folder bench/ of the repository isn't beside this package ({error.name} is missing)"
+        ) from error
 
 
 @dataclass(frozen=True)
@@ -68,7 +70,10 @@ class Link:
 
 @dataclass
 class Design:
-    """The project that a source builds. `joins` are pairs of ends, (kernel's number or CPU, name), the reading end first."""
+    """The project that a source builds.
+
+    `joins` are pairs of ends, (kernel's number or CPU, name), the reading end first.
+    """
 
     kernels: list[Kernel]
     joins: list[tuple]

@@ -43,9 +43,10 @@ def page(project: Project, run: RunShown | None = None) -> str:
     body = "\n".join(parts)
     title = escaped(project.source.stem)
     style, script = ((HERE / name).read_text(encoding="utf-8") for name in ("page.css", "page.js"))
-    foot = f"<footer>Written by kalebrush {__version__} from what maxjc says. The program is proved; this page isn't part of that.</footer>"
-    head = f'<!DOCTYPE html>\n<html lang="en"><head><meta charset="utf-8"><title>{title}</title>\n<style>\n{style}</style></head>'
-    return f"{head}\n<body>\n{body}\n{foot}\n<script>\n{script}</script>\n</body></html>\n"
+    told = "from what maxjc says. The program is proved; this page isn't part of that."
+    foot = f"<footer>Written by kalebrush {__version__} {told}</footer>"
+    head = f'<html lang="en"><head><meta charset="utf-8"><title>{title}</title>\n<style>\n{style}</style></head>'
+    return f"<!DOCTYPE html>\n{head}\n<body>\n{body}\n{foot}\n<script>\n{script}</script>\n</body></html>\n"
 
 
 def heading(project: Project, run: RunShown | None) -> str:
@@ -93,12 +94,18 @@ def source_table(source: list[str], kernel: Kernel, schedule: Schedule) -> str:
     for number, text in enumerate(source, 1):
         nodes = of_line.get(number, [])
         bits = sum(node.fifo_bits for node in nodes)
-        heat = f'<span class="heat" style="background: rgba(224,138,30,{bits / most:.2f})">{bits} bits</span>' if bits else ""
+        heat = (
+            f'<span class="heat" style="background: rgba(224,138,30,{bits / most:.2f})">{bits} bits</span>'
+            if bits
+            else ""
+        )
         title = escaped(", ".join(f"{node.number} {node.label}" for node in nodes[:40]))
         cells = f'<td class="line">{number}</td><td class="code">{escaped(text) or " "}</td>'
         cells += f'<td class="time" title="{title}">{track(nodes, last)}</td><td class="number">{heat}</td>'
         rows.append(f'<tr id="{kernel.name}:{number}">{cells}</tr>')
-    head = '<thead><tr><th></th><th></th><th>ticks 0 to ' + str(last) + '</th><th class="number">FIFOs</th></tr></thead>'
+    head = (
+        "<thead><tr><th></th><th></th><th>ticks 0 to " + str(last) + '</th><th class="number">FIFOs</th></tr></thead>'
+    )
     return f"<table>{head}<tbody>{''.join(rows)}</tbody></table>"
 
 
@@ -111,7 +118,9 @@ def track(nodes: list[Node], last: int) -> str:
         end = node.time + node.latency
         bars[f'<i style="left:{100 * node.time / last:.2f}%;width:{100 * node.latency / last:.2f}%"></i>'] = None
         if node.waits:
-            bars[f'<i class="wait" style="left:{100 * end / last:.2f}%;width:{100 * node.waits / last:.2f}%"></i>'] = None
+            bars[
+                f'<i class="wait" style="left:{100 * end / last:.2f}%;width:{100 * node.waits / last:.2f}%"></i>'
+            ] = None
     return f'<div class="track">{"".join(bars)}</div>' if bars else ""
 
 
@@ -121,8 +130,19 @@ def node_table(schedule: Schedule) -> str:
     head = "".join(f'<th data-sort="" class="{"" if name == "what" else "number"}">{name}</th>' for name in names)
     rows = []
     for node in schedule.nodes:
-        values = [node.number, node.label, node.line, node.width, node.time if node.is_timed else "", node.latency, node.waits, node.fifo_bits]
-        cells = "".join(f'<td class="{"" if at == 1 else "number"}">{escaped(value)}</td>' for at, value in enumerate(values))
+        values = [
+            node.number,
+            node.label,
+            node.line,
+            node.width,
+            node.time if node.is_timed else "",
+            node.latency,
+            node.waits,
+            node.fifo_bits,
+        ]
+        cells = "".join(
+            f'<td class="{"" if at == 1 else "number"}">{escaped(value)}</td>' for at, value in enumerate(values)
+        )
         rows.append(f'<tr class="node" id="{schedule.name}.{node.number}" data-line="{node.line}">{cells}</tr>')
     table = f"<table><thead><tr>{head}</tr></thead><tbody>{''.join(rows)}</tbody></table>"
     return f'<h2>Nodes of {schedule.name}</h2>\n<div class="scroll">{table}</div>'
@@ -144,9 +164,18 @@ def links(project: Project) -> str:
         left, wide = 100 * link.written / last, 100 * (link.read - link.written) / last
         bar = f'<div class="track"><i class="wait" style="left:{left:.2f}%;width:{wide:.2f}%"></i></div>'
         port = project.design.kernels[ends.writer].outputs[ends.output]
-        cells = [ends.number, f"{names[ends.writer]}.{ends.output}", f"{names[ends.reader]}.{ends.input}", port.type, link.depth]
-        rows.append("<tr>" + "".join(f"<td>{escaped(cell)}</td>" for cell in cells) + f'<td class="time">{bar}</td></tr>')
-    head = f"<tr><th>link</th><th>from</th><th>to</th><th>type</th><th>depth</th><th>first word waits, edges 0 to {last}</th></tr>"
+        cells = [
+            ends.number,
+            f"{names[ends.writer]}.{ends.output}",
+            f"{names[ends.reader]}.{ends.input}",
+            port.type,
+            link.depth,
+        ]
+        rows.append(
+            "<tr>" + "".join(f"<td>{escaped(cell)}</td>" for cell in cells) + f'<td class="time">{bar}</td></tr>'
+        )
+    names = ("link", "from", "to", "type", "depth", f"first word waits, edges 0 to {last}")
+    head = "<tr>" + "".join(f"<th>{name}</th>" for name in names) + "</tr>"
     return f"<h2>Links</h2>\n<table><thead>{head}</thead><tbody>{''.join(rows)}</tbody></table>"
 
 
@@ -165,10 +194,25 @@ def words(project: Project, run: RunShown) -> str:
         drawn = picture(values, shape, of) if shape else line(values)
         shown.append(f"<p>{kind} {escaped(name)}, {escaped(of)}, {len(values)} words</p>{drawn}")
     parts += shown
-    parts.append('<nav><button data-words="value" class="on">values</button><button data-words="hex">words</button></nav>')
-    columns = [(f"in {name}", project.inputs[name].type.encode(values), values, None, None) for name, values in run.inputs.items()]
-    columns += [(f"out {name}", found.words[name], found[name], wanted.words[name], wanted.undefined[name]) for name in found]
-    parts.append(word_table(columns, {**{f"in {n}": p.type for n, p in project.inputs.items()}, **{f"out {n}": p.type for n, p in project.outputs.items()}}))
+    parts.append(
+        '<nav><button data-words="value" class="on">values</button><button data-words="hex">words</button></nav>'
+    )
+    columns = [
+        (f"in {name}", project.inputs[name].type.encode(values), values, None, None)
+        for name, values in run.inputs.items()
+    ]
+    columns += [
+        (f"out {name}", found.words[name], found[name], wanted.words[name], wanted.undefined[name]) for name in found
+    ]
+    parts.append(
+        word_table(
+            columns,
+            {
+                **{f"in {n}": p.type for n, p in project.inputs.items()},
+                **{f"out {n}": p.type for n, p in project.outputs.items()},
+            },
+        )
+    )
     return "\n".join(parts)
 
 
@@ -190,9 +234,13 @@ def word_table(columns: list[tuple], types: dict[str, WordType]) -> str:
             word, value = f"{int(encoded[number]):0{types[name].digits}x}", shown_value(values[number])
             cells.append(f'<td class="{kind}" data-hex="{word}" data-value="{value}">{value}</td>')
         rows.append(f"<tr>{''.join(cells)}</tr>")
-    head = '<th class="number">word</th>' + "".join(f'<th class="number">{escaped(column[0])}</th>' for column in columns)
+    head = '<th class="number">word</th>' + "".join(
+        f'<th class="number">{escaped(column[0])}</th>' for column in columns
+    )
     more = f'<p class="legend">The first {MOST_WORDS} of {count} words.</p>' if count > MOST_WORDS else ""
-    return f'<div class="scroll"><table><thead><tr>{head}</tr></thead><tbody>{"".join(rows)}</tbody></table></div>{more}'
+    return (
+        f'<div class="scroll"><table><thead><tr>{head}</tr></thead><tbody>{"".join(rows)}</tbody></table></div>{more}'
+    )
 
 
 def shown_value(value: Any) -> str:
@@ -216,7 +264,8 @@ def line(values: Any) -> str:
     points = " ".join(f"{x:.1f},{y:.1f}" for x, y in zip(xs, ys))
     told = f'<p class="legend">{low:g} to {high:g}</p>'
     style = 'fill="none" stroke="#2f6db3" stroke-width="1.2" vector-effect="non-scaling-stroke"'
-    return f'<svg class="line" viewBox="0 0 1000 90" preserveAspectRatio="none"><polyline points="{points}" {style}/></svg>{told}'
+    head = '<svg class="line" viewBox="0 0 1000 90" preserveAspectRatio="none">'
+    return f'{head}<polyline points="{points}" {style}/></svg>{told}'
 
 
 def picture(values: Any, shape: tuple[int, ...], of: WordType) -> str:
@@ -231,8 +280,11 @@ def picture(values: Any, shape: tuple[int, ...], of: WordType) -> str:
         image = Image.fromarray(np.dstack([(points >> shift & 255).astype(np.uint8) for shift in (16, 8, 0)]), "RGB")
     else:
         heights = plain.astype(float)
-        low, high = (0.0, 255.0) if of.width <= 8 and not of.signed and of.kind == "uint" else (heights.min(), heights.max())
+        low, high = (
+            (0.0, 255.0) if of.width <= 8 and not of.signed and of.kind == "uint" else (heights.min(), heights.max())
+        )
         image = Image.fromarray(np.clip(255 * (heights - low) / ((high - low) or 1), 0, 255).astype(np.uint8), "L")
     kept = io.BytesIO()
     image.save(kept, "PNG")
-    return f'<div class="pictures"><img alt="" src="data:image/png;base64,{base64.b64encode(kept.getvalue()).decode()}"></div>'
+    data = base64.b64encode(kept.getvalue()).decode()
+    return f'<div class="pictures"><img alt="" src="data:image/png;base64,{data}"></div>'

@@ -22,7 +22,9 @@ def pyplot() -> Any:
     except ModuleNotFoundError:
         raise KalebrushError("plots need Matplotlib (apt install python3-matplotlib)") from None
     matplotlib.use("Agg")
-    matplotlib.rcParams.update({"font.size": 9, "axes.spines.top": False, "axes.spines.right": False, "svg.fonttype": "none"})
+    matplotlib.rcParams.update(
+        {"font.size": 9, "axes.spines.top": False, "axes.spines.right": False, "svg.fonttype": "none"}
+    )
     from matplotlib import pyplot as plot
 
     return plot
@@ -56,14 +58,18 @@ def schedule_figure(schedule: Schedule) -> Any:
 
 def fifo_figure(schedules: list[Schedule]) -> Any:
     """The FIFO bits behind each node, the most first."""
-    found = [(node.fifo_bits, schedule.name, node) for schedule in schedules for node in schedule.nodes if node.fifo_bits]
+    found = [
+        (node.fifo_bits, schedule.name, node) for schedule in schedules for node in schedule.nodes if node.fifo_bits
+    ]
     found.sort(key=lambda entry: -entry[0])
     shown = found[:MOST_BARS]
     figure, axes = pyplot().subplots(figsize=(8, 1.2 + 0.24 * max(1, len(shown))))
     for row, (bits, _, node) in enumerate(shown):
         axes.barh(row, bits, color=KEPT, height=0.6)
         axes.annotate(f" {node.waits} × {node.width} = {bits}", (bits, row), va="center", fontsize=7, color=INK)
-    axes.set_yticks(range(len(shown)), [f"{name}: {node.number} {node.label} (line {node.line})" for _, name, node in shown])
+    axes.set_yticks(
+        range(len(shown)), [f"{name}: {node.number} {node.label} (line {node.line})" for _, name, node in shown]
+    )
     axes.invert_yaxis()
     axes.set_xlabel("bits")
     total = sum(bits for bits, _, _ in found)
@@ -85,7 +91,9 @@ def links_figure(project: Project) -> Any:
         axes.barh(row, max(link.read - link.written, 0.2), left=link.written, color=KEPT, height=0.35)
         axes.annotate(f" depth {link.depth}", (link.read, row), va="center", fontsize=8)
         ends = link.link
-        labels.append(f"link {ends.number}: {kernels[ends.writer].name}.{ends.output} to {kernels[ends.reader].name}.{ends.input}")
+        labels.append(
+            f"link {ends.number}: {kernels[ends.writer].name}.{ends.output} to {kernels[ends.reader].name}.{ends.input}"
+        )
     axes.set_yticks(range(len(labels)), labels)
     axes.invert_yaxis()
     axes.set_xlabel("edge of the ideal run; a kernel's bar is its pipeline, a link's bar the wait of its first word")
@@ -125,13 +133,19 @@ def sweep_figure(points: list[Any]) -> Any:
     """Bits, edges and throughput of a sweep, over its tables."""
     tables = list(dict.fromkeys(point.table for point in points))
     figure, axes = pyplot().subplots(1, 3, figsize=(11, 3.2))
-    bits = [next((point.bits for point in points if point.table == table and point.bits is not None), 0) for table in tables]
+    bits = [
+        next((point.bits for point in points if point.table == table and point.bits is not None), 0) for table in tables
+    ]
     axes[0].bar(range(len(tables)), bits, color=KEPT)
     axes[0].set_title("FIFO bits", loc="left")
     axes[0].set_xticks(range(len(tables)), tables, rotation=30, ha="right")
     for table in tables:
         for at, name in ((1, "edges"), (2, "throughput")):
-            shown = [(point.ticks, getattr(point, name), point.stalls) for point in points if point.table == table and point.edges]
+            shown = [
+                (point.ticks, getattr(point, name), point.stalls)
+                for point in points
+                if point.table == table and point.edges
+            ]
             shown.sort()
             axes[at].plot([entry[0] for entry in shown], [entry[1] for entry in shown], "o", label=table, markersize=4)
     for at, name in ((1, "edges until done"), (2, "ticks an edge")):

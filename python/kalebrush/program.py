@@ -56,7 +56,9 @@ def _started(words: list[str], folder: pathlib.Path, watch: Watch | None) -> tup
     surroundings = {**os.environ, "MAXJC_EXPLAIN": "1"}
     with tempfile.TemporaryFile("w+") as out, tempfile.TemporaryFile("w+") as err:
         try:
-            child = subprocess.Popen(words, cwd=folder, stdin=subprocess.DEVNULL, stdout=out, stderr=err, env=surroundings)
+            child = subprocess.Popen(
+                words, cwd=folder, stdin=subprocess.DEVNULL, stdout=out, stderr=err, env=surroundings
+            )
         except OSError as error:
             raise KalebrushError(f"{words[0]} can't be started: {error.strerror}") from error
         try:

@@ -43,7 +43,9 @@ class Compiled:
 class Streams(Mapping):
     """The values of each output, by its name; `words` has the words of each."""
 
-    def __init__(self, ports: Mapping[str, Port], found: Mapping[str, tuple[np.ndarray, np.ndarray]], has_masks: bool) -> None:
+    def __init__(
+        self, ports: Mapping[str, Port], found: Mapping[str, tuple[np.ndarray, np.ndarray]], has_masks: bool
+    ) -> None:
         self.ports, self.words = dict(ports), {name: pair[0] for name, pair in found.items()}
         self.undefined = {name: pair[1] for name, pair in found.items()}
         self._values = {
@@ -102,7 +104,10 @@ class Difference:
 
 @dataclass
 class Comparison:
-    """A simulation beside what is expected: the first difference of each output, and how many words agree or are undefined."""
+    """A simulation beside what is expected: the first difference of each output.
+
+    `agreeing` and `undefined` count words.
+    """
 
     simulated: Simulated
     expected: Expected
@@ -119,8 +124,8 @@ class Comparison:
 class Project:
     """A source and a latency table.
 
-    `source` is the path of a file. `table` is the path of one, or the table itself as a dictionary, or None for the table
-    by which no operation takes a tick. `progress` says whether long runs show a bar; None: on a terminal.
+    `source` is the path of a file. `table` is the path of one, or the table itself as a dictionary, or None for the
+    table by which no operation takes a tick. `progress` says whether long runs show a bar; None: on a terminal.
     """
 
     def __init__(self, source: str | pathlib.Path, table: Any = None, progress: bool | None = None) -> None:
@@ -155,7 +160,7 @@ class Project:
         return self.compile()
 
     def compile(self, out: str | pathlib.Path | None = None, report: str | pathlib.Path | None = None) -> Compiled:
-        """Compiles the source; a refusal is raised as `Refusal`. The text and the report are written to files that are named."""
+        """Compiles the source; a refusal is raised as `Refusal`. Files that are named get the text and the report."""
         files = [self.folder / "design.v", self.folder / "design.report"]
         lines, _ = program.run(["compile", self.source, self.table_path, *files], self.folder)
         bits, depths = {}, []
@@ -171,7 +176,7 @@ class Project:
         return Compiled(bits, depths, *texts)
 
     def check(self, report: str | pathlib.Path | None = None) -> dict[str, int]:
-        """Checks a report, or the one that `compile` writes: the bits of each kernel, than which no schedule needs fewer."""
+        """Checks a report, or that of `compile`: the bits of each kernel, than which no schedule needs fewer."""
         path = pathlib.Path(report).resolve() if report else self.folder / "design.report"
         if not report:
             path.write_text(self.compiled.report)
@@ -214,7 +219,9 @@ class Project:
                 raise ValueRefused(f"ticks are of the kernels {', '.join(names)}")
             return {name: int(ticks[name]) for name in names}
         if ticks is None:
-            counts = {np.size(inputs[name]) for name, port in self.inputs.items() if not port.is_controlled and name in inputs}
+            counts = {
+                np.size(inputs[name]) for name, port in self.inputs.items() if not port.is_controlled and name in inputs
+            }
             if len(counts) != 1:
                 raise ValueRefused(f"the number of ticks must be given: inputs have {sorted(counts) or 'no'} words")
             (ticks,) = counts
@@ -233,8 +240,15 @@ class Project:
         return Expected(self.outputs, run.read(self.outputs), lines)
 
     def simulate(
-        self, inputs: Values, ticks: Ticks = None, scalars: Values | None = None, *, stalls: int = 0, fill: int = 0,
-        edges: int | None = None, text: str | pathlib.Path | None = None,
+        self,
+        inputs: Values,
+        ticks: Ticks = None,
+        scalars: Values | None = None,
+        *,
+        stalls: int = 0,
+        fill: int = 0,
+        edges: int | None = None,
+        text: str | pathlib.Path | None = None,
     ) -> Simulated:
         """The words that leave the compiled text, or another text with its ports, in a simulation.
 
@@ -252,10 +266,8 @@ class Project:
             bar.close()
         return Simulated(self.outputs, run.read(self.outputs), lines[-1])
 
-    def compare(
-        self, inputs: Values, ticks: Ticks = None, scalars: Values | None = None, **more: Any
-    ) -> Comparison:
-        """Simulates and expects the same run: the first word of each output that differs. `more` is that of `simulate`."""
+    def compare(self, inputs: Values, ticks: Ticks = None, scalars: Values | None = None, **more: Any) -> Comparison:
+        """Simulates and expects one run: the first word of each output that differs. `more` is that of `simulate`."""
         simulated = self.simulate(inputs, ticks, scalars, **more)
         return self.compared(simulated, self.expect(inputs, ticks, scalars), inputs, ticks, scalars)
 
@@ -278,7 +290,9 @@ class Project:
     def encoded(self, inputs: Values) -> dict[str, np.ndarray]:
         """The words of the values of each input."""
         if set(inputs) != set(self.inputs):
-            raise ValueRefused(f"the inputs are {', '.join(self.inputs) or 'none'}, and not {', '.join(inputs) or 'none'}")
+            raise ValueRefused(
+                f"the inputs are {', '.join(self.inputs) or 'none'}, and not {', '.join(inputs) or 'none'}"
+            )
         found = {}
         for name, values in inputs.items():
             try:
@@ -308,7 +322,9 @@ class Project:
 class Run:
     """A folder of its own with the files of a run."""
 
-    def __init__(self, project: Project, encoded: dict[str, np.ndarray], ticks: dict[str, int], scalars: dict[str, str]) -> None:
+    def __init__(
+        self, project: Project, encoded: dict[str, np.ndarray], ticks: dict[str, int], scalars: dict[str, str]
+    ) -> None:
         self._temporary = tempfile.TemporaryDirectory(prefix="run-", dir=project.folder)
         self.folder, self.ticks = pathlib.Path(self._temporary.name), ticks
         self.spec: dict[str, Any] = {
@@ -329,7 +345,9 @@ class Run:
 
     def read(self, ports: Mapping[str, Port]) -> dict[str, tuple[np.ndarray, np.ndarray]]:
         """The words that left by each output, and which are undefined."""
-        return {name: words.read_words(self.folder / f"out.{name}.txt", port.type.width) for name, port in ports.items()}
+        return {
+            name: words.read_words(self.folder / f"out.{name}.txt", port.type.width) for name, port in ports.items()
+        }
 
     def watch(self, bar: Bar, ports: Mapping[str, Port]) -> Callable[[], None]:
         """Shows how much of the outputs is written."""

@@ -11,7 +11,10 @@ CONTROLLED_DEPTH = 512  # of a link with a control at one of its ends
 
 @dataclass(frozen=True)
 class Node:
-    """A node in a schedule: it begins its first word at `time`, has it `latency` ticks later, and the word waits `waits` ticks."""
+    """A node in a schedule.
+
+    It begins its first word at `time`, has it `latency` ticks later, and then the word waits `waits` ticks.
+    """
 
     number: int
     label: str

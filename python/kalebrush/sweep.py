@@ -55,7 +55,9 @@ class Point:
 HEAD = ["table", "stalls", "ticks", "FIFO bits", "link words", "edges", "ticks an edge", "refused"]
 
 
-def tasks(source: str, tables: dict[str, dict], stalls: list[int], ticks: list[int], inputs: dict, scalars: dict) -> list[Task]:
+def tasks(
+    source: str, tables: dict[str, dict], stalls: list[int], ticks: list[int], inputs: dict, scalars: dict
+) -> list[Task]:
     """All combinations. Inputs are repeated where a run has more ticks than they have words."""
     found = []
     for (name, table), pattern, count in itertools.product(tables.items(), stalls, ticks):

@@ -79,12 +79,16 @@ class WordType:
             self._refuse(array, int(np.argmax(wrong)))
         if self.width > NATIVE:
             return np.array([int(number) & ((1 << self.width) - 1) for number in numerators], object)
-        return numerators.astype(np.int64 if self.signed else np.uint64).view(np.uint64) & np.uint64((1 << self.width) - 1)
+        return numerators.astype(np.int64 if self.signed else np.uint64).view(np.uint64) & np.uint64(
+            (1 << self.width) - 1
+        )
 
     def _numerators(self, array: np.ndarray) -> np.ndarray:
         """The numbers over `2^frac`, as integers, in a type that holds them all."""
         if array.dtype.kind == "b":
-            return array.astype(np.int64) << self.frac if self.width < NATIVE else array.astype(object) * (1 << self.frac)
+            return (
+                array.astype(np.int64) << self.frac if self.width < NATIVE else array.astype(object) * (1 << self.frac)
+            )
         if self.frac == 0 and array.dtype.kind in "iu":
             return array
         if array.dtype.kind in "iuf" and self.width <= EXACT_FLOAT:

@@ -62,7 +62,9 @@ def _joined(values: np.ndarray, width: int) -> np.ndarray:
     if width > NATIVE:
         marks = DIGITS[values].tobytes().decode()
         size = values.shape[1]
-        return _checked(np.array([int(marks[at : at + size], 16) for at in range(0, len(marks), size)], object), width, "the words")
+        return _checked(
+            np.array([int(marks[at : at + size], 16) for at in range(0, len(marks), size)], object), width, "the words"
+        )
     words = np.zeros(len(values), np.uint64)
     for place in range(values.shape[1]):
         words = (words << np.uint64(4)) | values[:, place].astype(np.uint64)

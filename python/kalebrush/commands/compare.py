@@ -23,8 +23,12 @@ def add(command: argparse.ArgumentParser) -> None:
     """The words of the command."""
     add_project(command)
     add_run(command)
-    command.add_argument("--text", metavar="FILE", help="the Verilog text that is simulated, in place of the compiled one")
-    command.add_argument("--got", action="append", default=[], metavar="PORT=FILE", help="the words that left, of each output")
+    command.add_argument(
+        "--text", metavar="FILE", help="the Verilog text that is simulated, in place of the compiled one"
+    )
+    command.add_argument(
+        "--got", action="append", default=[], metavar="PORT=FILE", help="the words that left, of each output"
+    )
 
 
 def main(options: argparse.Namespace) -> int:

@@ -22,11 +22,19 @@ def add_project(command: argparse.ArgumentParser) -> None:
 
 def add_run(command: argparse.ArgumentParser) -> None:
     """The words that say a run."""
-    command.add_argument("--in", dest="inputs", action="append", default=[], metavar="PORT=FILE", help="the values of an input")
+    command.add_argument(
+        "--in", dest="inputs", action="append", default=[], metavar="PORT=FILE", help="the values of an input"
+    )
     command.add_argument("--scalar", action="append", default=[], metavar="NAME=VALUE", help="the value of a scalar")
-    command.add_argument("--ticks", action="append", default=[], metavar="[KERNEL=]N", help="the ticks of all kernels, or of one")
-    command.add_argument("--stalls", type=int, default=0, metavar="N", help="the number of a pattern of stalls (0: none)")
-    command.add_argument("--fill", type=lambda word: int(word, 16), default=0, metavar="HEX", help="what registers hold at first")
+    command.add_argument(
+        "--ticks", action="append", default=[], metavar="[KERNEL=]N", help="the ticks of all kernels, or of one"
+    )
+    command.add_argument(
+        "--stalls", type=int, default=0, metavar="N", help="the number of a pattern of stalls (0: none)"
+    )
+    command.add_argument(
+        "--fill", type=lambda word: int(word, 16), default=0, metavar="HEX", help="what registers hold at first"
+    )
     command.add_argument("--edges", type=int, metavar="N", help="the most clock edges")
 
 
@@ -71,7 +79,9 @@ class Given:
     def output(self, streams: Streams, name: str) -> Output:
         """An output as it goes to a file."""
         values, undefined = streams[name], streams.undefined[name]
-        return Output(name, streams.ports[name].type, values, streams.words[name], undefined, self.shape_of(values.size))
+        return Output(
+            name, streams.ports[name].type, values, streams.words[name], undefined, self.shape_of(values.size)
+        )
 
 
 def project_of(options: argparse.Namespace) -> Project:

@@ -37,7 +37,9 @@ def main(options: argparse.Namespace) -> int:
         figures["links"] = plots.links_figure(project)
     if "words" in options.only and options.inputs:
         run = given(options, project)
-        figures["words"] = plots.words_figure(run.inputs, project.simulate(run.inputs, run.ticks, run.scalars, **run.more), project)
+        figures["words"] = plots.words_figure(
+            run.inputs, project.simulate(run.inputs, run.ticks, run.scalars, **run.more), project
+        )
     folder.mkdir(parents=True, exist_ok=True)
     for name, figure in figures.items():
         print(plots.save(figure, folder / f"{name}.{options.format}"))

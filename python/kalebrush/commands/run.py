@@ -2,9 +2,9 @@
 
     python3 -m kalebrush run blur.maxj --in x=picture.png --out y=smooth.png
 
-Files are pictures (.png, .pgm), tables (.csv), arrays (.npy) or words (any other name). `FILE#r` is a channel of a picture
-and `FILE#price` a column of a table. A picture is read line by line, and an output with as many words is written in its
-shape.
+Files are pictures (.png, .pgm), tables (.csv), arrays (.npy) or words (any other name). `FILE#r` is a channel of a
+picture and `FILE#price` a column of a table. A picture is read line by line, and an output with as many words is written
+in its shape.
 """
 from __future__ import annotations
 
@@ -20,10 +20,14 @@ def add(command: argparse.ArgumentParser) -> None:
     """The words of the command."""
     add_project(command)
     add_run(command)
-    command.add_argument("--out", dest="outputs", action="append", default=[], metavar="PORT=FILE", help="where an output goes")
+    command.add_argument(
+        "--out", dest="outputs", action="append", default=[], metavar="PORT=FILE", help="where an output goes"
+    )
     command.add_argument("--width", type=int, metavar="N", help="the points of a line, of pictures that leave")
     command.add_argument("--no-expect", action="store_true", help="simulates alone")
-    command.add_argument("--no-simulate", action="store_true", help="writes the expected words; undefined ones are 0, empty or x")
+    command.add_argument(
+        "--no-simulate", action="store_true", help="writes the expected words; undefined ones are 0, empty or x"
+    )
 
 
 def main(options: argparse.Namespace) -> int:

@@ -1,4 +1,4 @@
-"""Writes a shell around a text that `maxjc compile` wrote, into a folder: AXI ports, and what simulators and tools need.
+"""Writes a shell around a text that `maxjc compile` wrote: AXI ports, and what simulators and tools need.
 
     python3 -m kalebrush shell top.v --to shell
     python3 -m kalebrush shell top.v --to shell --source k.maxj --table t.json --in x=x.txt
@@ -69,7 +69,12 @@ def signed_of(project: Project) -> frozenset[str]:
 
 
 def write_shell(
-    folder: pathlib.Path, top: Top, module: str, text: tuple[str, str], project: Project | None = None, run: RunWords | None = None,
+    folder: pathlib.Path,
+    top: Top,
+    module: str,
+    text: tuple[str, str],
+    project: Project | None = None,
+    run: RunWords | None = None,
     mhz: float = 100.0,
 ) -> list[str]:
     """Writes the files of a shell: their names. `text` is the name of the compiled text and what it holds."""

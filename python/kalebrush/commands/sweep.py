@@ -1,10 +1,10 @@
-"""Compiles and simulates by several tables, patterns of stalls and numbers of ticks: a table of bits, edges and throughput.
+"""Compiles and simulates by several tables, patterns of stalls and ticks: a table of bits, edges and throughput.
 
     python3 -m kalebrush sweep fir.maxj --tables zero.json one.json --stalls 0 1 2 --ticks 100 1000 --in x=x.txt
     python3 -m kalebrush sweep fir.maxj --tables zero.json one.json --scheduler tcp://there:8786 --plot sweep.svg
 
-Runs go on here in several processes, or where a dask.distributed scheduler sends them. Its workers need this package and
-the program: start them with the same PYTHONPATH. An input without a file gets random words.
+Runs go on here in several processes, or where a dask.distributed scheduler sends them. Its workers need this package
+and the program: start them with the same PYTHONPATH. An input without a file gets random words.
 """
 from __future__ import annotations
 
@@ -24,10 +24,14 @@ from kalebrush.project import Project, zero_table
 def add(command: argparse.ArgumentParser) -> None:
     """The words of the command."""
     command.add_argument("source", help="the source, NAME.maxj")
-    command.add_argument("--tables", nargs="+", default=[], metavar="TABLE", help="latency tables (none: no operation takes a tick)")
+    command.add_argument(
+        "--tables", nargs="+", default=[], metavar="TABLE", help="latency tables (none: no operation takes a tick)"
+    )
     command.add_argument("--stalls", nargs="+", type=int, default=[0], metavar="N", help="patterns of stalls (0)")
     command.add_argument("--ticks", nargs="+", type=int, default=[1000], metavar="N", help="numbers of ticks (1000)")
-    command.add_argument("--in", dest="inputs", action="append", default=[], metavar="PORT=FILE", help="the values of an input")
+    command.add_argument(
+        "--in", dest="inputs", action="append", default=[], metavar="PORT=FILE", help="the values of an input"
+    )
     command.add_argument("--scalar", action="append", default=[], metavar="NAME=VALUE", help="the value of a scalar")
     command.add_argument("--processes", type=int, metavar="N", help="how many run at once here")
     command.add_argument("--scheduler", metavar="ADDRESS", help="the address of a dask.distributed scheduler")
@@ -44,7 +48,11 @@ def main(options: argparse.Namespace) -> int:
     inputs = _inputs(source, options)
     scalars = {name: number(value) for name, value in pairs(options.scalar, "a scalar").items()}
     found = sweep.tasks(source, tables, options.stalls, options.ticks, inputs, scalars)
-    points = sweep.measured_there(found, options.scheduler) if options.scheduler else sweep.measured_here(found, options.processes)
+    points = (
+        sweep.measured_there(found, options.scheduler)
+        if options.scheduler
+        else sweep.measured_here(found, options.processes)
+    )
     print(sweep.markdown(points), end="")
     if options.json:
         pathlib.Path(options.json).write_text(sweep.json_text(points))
@@ -73,6 +81,8 @@ def _inputs(source: str, options: argparse.Namespace) -> dict[str, np.ndarray]:
         if name in named:
             found[name], _ = files.read(Place.of(named[name]), name, port.type)
         else:
-            words = [int.from_bytes(noise.bytes(16), "little") >> (128 - port.type.width) for _ in range(max(options.ticks))]
+            words = [
+                int.from_bytes(noise.bytes(16), "little") >> (128 - port.type.width) for _ in range(max(options.ticks))
+            ]
             found[name] = port.type.decode(np.array(words, np.uint64 if port.type.width <= 64 else object))
     return found

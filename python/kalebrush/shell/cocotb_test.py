@@ -72,7 +72,8 @@ async def offer(dut, name, found):
 
 async def accept(dut, name, left):
     """Accepts the words of an output, with gaps."""
-    data, valid, ready, last = (getattr(dut, f"m_axis_{{name}}_{{end}}") for end in ("tdata", "tvalid", "tready", "tlast"))
+    ends = ("tdata", "tvalid", "tready", "tlast")
+    data, valid, ready, last = (getattr(dut, f"m_axis_{{name}}_{{end}}") for end in ends)
     while True:
         ready.value = int(random.random() >= STALL)
         await cocotb.triggers.RisingEdge(dut.aclk)
@@ -144,6 +145,11 @@ def cocotb_test(top: Top, module: str, run: RunWords) -> str:
         for address, low, high in register.parts():
             settings.append((address, values[register.net] >> low & (1 << (high - low + 1)) - 1))
     return TEST.format(
-        module=module, inputs=[(stream.name, len(run.inputs[stream.name])) for stream in top.inputs], outputs=outputs,
-        settings=settings, control=registers.CONTROL, status=registers.STATUS, cycles=registers.CYCLES,
+        module=module,
+        inputs=[(stream.name, len(run.inputs[stream.name])) for stream in top.inputs],
+        outputs=outputs,
+        settings=settings,
+        control=registers.CONTROL,
+        status=registers.STATUS,
+        cycles=registers.CYCLES,
     )

@@ -136,7 +136,9 @@ def core_file(top: Top, module: str, text: str, has_run: bool) -> str:
     memories += [f"{kind}_{stream.name}.mem" for stream in top.outputs for kind in ("out", "known")]
     lines = "\n".join(f"      - {name}: {{file_type: user, copyto: {name}}}" for name in memories)
     return CORE.format(
-        name=f"kalebrush::{module}:1.0", text=text, module=module,
+        name=f"kalebrush::{module}:1.0",
+        text=text,
+        module=module,
         bench_files=BENCH_FILES.format(module=module, words=lines) if has_run else "",
         bench_target=BENCH_TARGET.format(module=module) if has_run else "",
     )
@@ -148,24 +150,37 @@ def register_table(top: Top) -> str:
         (registers.CONTROL, "control", "write 1 to bit 0: start a run"),
         (registers.STATUS, "status", "bit 0: a run is going on; bit 1: the last run is done"),
         (registers.CYCLES, "cycles", "the clock cycles of the run, bits 31 to 0; bits 63 to 32 behind them"),
-        (registers.HOLD, "hold", "bit K holds kernel K: " + ", ".join(f"{n} {name}" for n, name in enumerate(top.kernels))),
+        (
+            registers.HOLD,
+            "hold",
+            "bit K holds kernel K: " + ", ".join(f"{n} {name}" for n, name in enumerate(top.kernels)),
+        ),
     ]
     for register in map_of(top).values:
         for address, low, high in register.parts():
             rows.append((address, register.told, f"bits {high} to {low}"))
-    return "| address | register | |\n|---|---|---|\n" + "".join(f"| 0x{at:02x} | {name} | {told} |\n" for at, name, told in rows)
+    return "| address | register | |\n|---|---|---|\n" + "".join(
+        f"| 0x{at:02x} | {name} | {told} |\n" for at, name, told in rows
+    )
 
 
 def page(top: Top, module: str, text: str, has_run: bool) -> str:
     """The page of the folder."""
-    lines = [f"# {module}\n", f"AXI ports around `{top.module}` of `{text}`. All ports go by `aclk`; `aresetn` is low for one edge or more.\n"]
+    lines = [
+        f"# {module}\n",
+        f"AXI ports around `{top.module}` of `{text}`. The clock is `aclk`; `aresetn` is low for one edge or more.\n",
+    ]
     lines.append("| stream | bits | bus |\n|---|---|---|")
     lines += [f"| input `{stream.name}` | {stream.width} | `s_axis_{stream.name}` |" for stream in top.inputs]
     lines += [f"| output `{stream.name}` | {stream.width} | `m_axis_{stream.name}` |" for stream in top.outputs]
     lines += ["", register_table(top), "Ticks and scalars can't be written while a run is going on.\n", "```"]
     if has_run:
-        lines.append(f"iverilog -g2005 -s tb_{module} -o tb.vvp {text} {module}.v tb_{module}.v && vvp tb.vvp +stall=64 +seed=1")
-        lines.append(f"verilator --binary --timing -Wno-fatal -Wno-lint --top-module tb_{module} {text} {module}.v tb_{module}.v")
+        lines.append(
+            f"iverilog -g2005 -s tb_{module} -o tb.vvp {text} {module}.v tb_{module}.v && vvp tb.vvp +stall=64 +seed=1"
+        )
+        lines.append(
+            f"verilator --binary --timing -Wno-fatal -Wno-lint --top-module tb_{module} {text} {module}.v tb_{module}.v"
+        )
         lines.append("make -f cocotb.mk")
     lines.append(f"verilator --lint-only -Wall --top-module {module} waivers.vlt {text} {module}.v")
     lines.append(f'yosys -p "read_verilog {text} {module}.v; synth_ice40 -top {module} -json {module}.json"')

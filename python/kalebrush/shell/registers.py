@@ -56,6 +56,8 @@ def map_of(top: Top) -> Map:
         values.append(Register(f"ticks_{kernel}", f"ticks of {kernel}", TICK_BITS, at))
         at += 4 * values[-1].words
     for number, scalar in enumerate(top.scalars):
-        values.append(Register(scalar_net(number, scalar), f"scalar {scalar.name} of {scalar.kernel}", scalar.width, at))
+        values.append(
+            Register(scalar_net(number, scalar), f"scalar {scalar.name} of {scalar.kernel}", scalar.width, at)
+        )
         at += 4 * values[-1].words
     return Map(values, max(6, (at - 1).bit_length()))

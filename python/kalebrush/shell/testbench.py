@@ -14,7 +14,7 @@ from kalebrush.shell.top import Stream, Top
 
 @dataclass
 class RunWords:
-    """A run: ticks by kernel, scalars by `KERNEL.NAME`, the words of inputs, and those of outputs with which are undefined."""
+    """A run: ticks by kernel, scalars by `KERNEL.NAME`, the words of inputs, and of outputs with the undefined ones."""
 
     ticks: dict[str, int]
     scalars: dict[str, int] = field(default_factory=dict)
@@ -34,7 +34,9 @@ def write_words(run: RunWords, top: Top, folder: pathlib.Path) -> None:
     """Writes the words that go in and come out, as `$readmemh` reads them, and which of the latter are defined."""
     for stream in top.inputs:
         found = run.inputs[stream.name]
-        words.write_words(folder / f"in_{stream.name}.mem", found if len(found) else np.zeros(1, np.uint64), stream.width)
+        words.write_words(
+            folder / f"in_{stream.name}.mem", found if len(found) else np.zeros(1, np.uint64), stream.width
+        )
     for stream in top.outputs:
         found, undefined = run.outputs[stream.name]
         empty = len(found) == 0
@@ -208,7 +210,9 @@ def testbench(top: Top, module: str, run: RunWords) -> str:
         loads.append(f'    $readmemh("out_{stream.name}.mem", words_out_{stream.name});')
         loads.append(f'    $readmemh("known_{stream.name}.mem", known_out_{stream.name});')
         counts.append(f"      if (at_out_{stream.name} != {count}) fail({port}, at_out_{stream.name});")
-        joined += [f".m_axis_{stream.name}_{end}(m_out_{stream.name}_{end})" for end in ("tdata", "tvalid", "tready", "tlast")]
+        joined += [
+            f".m_axis_{stream.name}_{end}(m_out_{stream.name}_{end})" for end in ("tdata", "tvalid", "tready", "tlast")
+        ]
     values, settings = run.values(top), []
     for register in found.values:
         for address, low, high in register.parts():
@@ -216,9 +220,17 @@ def testbench(top: Top, module: str, run: RunWords) -> str:
             settings.append(f"      write('h{address:x}, 32'h{word:x});  // {register.told}")
     longest = max([*run.ticks.values(), *(len(found) for found in run.inputs.values())])
     return BENCH.format(
-        module=module, last=found.address_bits - 1, streams="".join(streams), joined="".join(f",\n    {end}" for end in joined),
-        loads="\n".join(loads), settings="\n".join(settings), counts="\n".join(counts), control=registers.CONTROL,
-        status=registers.STATUS, cycles=registers.CYCLES, most_edges=200_000 + 400 * longest,
+        module=module,
+        last=found.address_bits - 1,
+        streams="".join(streams),
+        joined="".join(f",\n    {end}" for end in joined),
+        loads="\n".join(loads),
+        settings="\n".join(settings),
+        counts="\n".join(counts),
+        control=registers.CONTROL,
+        status=registers.STATUS,
+        cycles=registers.CYCLES,
+        most_edges=200_000 + 400 * longest,
     )
 
 
@@ -231,7 +243,14 @@ def _input(stream: Stream, port: int, count: int) -> str:
     at = f"words_{name}[at_{name}]"
     word = f"{{{{{spare}{{1'b1}}}}, {at}}}" if spare else at
     return INPUT.format(
-        name=name, bits=_range(stream.width), last=max(count, 1) - 1, bus=_range(wide), width=wide, word=word, count=count, port=port
+        name=name,
+        bits=_range(stream.width),
+        last=max(count, 1) - 1,
+        bus=_range(wide),
+        width=wide,
+        word=word,
+        count=count,
+        port=port,
     )
 
 
@@ -242,6 +261,12 @@ def _output(stream: Stream, port: int, count: int, is_whole: bool, is_signed: bo
     front = f"{{{spare}{{{sign}}}}}" if is_signed else f"{spare}'d0"
     word = f"{{{front}, {at}}}" if spare else at
     return OUTPUT.format(
-        name=name, bits=_range(stream.width), last=max(count, 1) - 1, bus=_range(wide), word=word, count=count, port=port,
+        name=name,
+        bits=_range(stream.width),
+        last=max(count, 1) - 1,
+        bus=_range(wide),
+        word=word,
+        count=count,
+        port=port,
         is_whole=f"1'b{int(is_whole)}",
     )

@@ -81,7 +81,7 @@ def read_top(text: str) -> Top:
 
 
 def owners_of(items: str) -> dict[tuple[str, str], str]:
-    """The kernel of each stream of the CPU, by (`in` or `out`, name): its FIFO and the kernel's instance share a net."""
+    """The kernel of each stream, by (`in` or `out`, name): its FIFO and the kernel's instance share a net."""
     instances = {name: dict(JOINED.findall(joined)) for _, name, joined in INSTANCE.findall(items)}
     nets = {}
     for name, joined in instances.items():

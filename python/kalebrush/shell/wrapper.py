@@ -6,14 +6,28 @@ from kalebrush.shell.registers import Map, map_of, scalar_net
 from kalebrush.shell.top import TICK_BITS, Stream, Top
 
 LITE = [
-    ("input", "awaddr", "address"), ("input", "awvalid", 1), ("output", "awready", 1), ("input", "wdata", 32), ("input", "wstrb", 4),
-    ("input", "wvalid", 1), ("output", "wready", 1), ("output", "bresp", 2), ("output", "bvalid", 1), ("input", "bready", 1),
-    ("input", "araddr", "address"), ("input", "arvalid", 1), ("output", "arready", 1), ("output", "rdata", 32), ("output", "rresp", 2),
-    ("output", "rvalid", 1), ("input", "rready", 1),
+    ("input", "awaddr", "address"),
+    ("input", "awvalid", 1),
+    ("output", "awready", 1),
+    ("input", "wdata", 32),
+    ("input", "wstrb", 4),
+    ("input", "wvalid", 1),
+    ("output", "wready", 1),
+    ("output", "bresp", 2),
+    ("output", "bvalid", 1),
+    ("input", "bready", 1),
+    ("input", "araddr", "address"),
+    ("input", "arvalid", 1),
+    ("output", "arready", 1),
+    ("output", "rdata", 32),
+    ("output", "rresp", 2),
+    ("output", "rvalid", 1),
+    ("input", "rready", 1),
 ]
 
 HEAD = """// {module}: AXI ports around {top}, written by `python3 -m kalebrush shell`.
-// Streams move while a run is going on. A host sets ticks and scalars, writes 1 to the control register, and waits for done.
+// Streams move while a run is going on. A host sets ticks and scalars, writes 1 to the control register,
+// and waits for done.
 """
 
 CONTROL = """
@@ -97,17 +111,29 @@ def bits(width: int) -> str:
 
 def header(top: Top, module: str, found: Map) -> str:
     """The module's ports. Vivado reads which buses go by the clock from the attribute."""
-    buses = ["s_axil", *(f"s_axis_{stream.name}" for stream in top.inputs), *(f"m_axis_{stream.name}" for stream in top.outputs)]
+    buses = [
+        "s_axil",
+        *(f"s_axis_{stream.name}" for stream in top.inputs),
+        *(f"m_axis_{stream.name}" for stream in top.outputs),
+    ]
     clock = f'(* X_INTERFACE_PARAMETER = "ASSOCIATED_BUSIF {":".join(buses)}, ASSOCIATED_RESET aresetn" *)\n  '
     ports = [clock + "input wire aclk", "input wire aresetn"]
     for way, name, width in LITE:
         ports.append(f"{way} wire {bits(found.address_bits if width == 'address' else width)}s_axil_{name}")
     for stream in top.inputs:
         begin = f"s_axis_{stream.name}"
-        ports += [f"input wire {bits(8 * stream.bytes)}{begin}_tdata", f"input wire {begin}_tvalid", f"output wire {begin}_tready"]
+        ports += [
+            f"input wire {bits(8 * stream.bytes)}{begin}_tdata",
+            f"input wire {begin}_tvalid",
+            f"output wire {begin}_tready",
+        ]
     for stream in top.outputs:
         begin = f"m_axis_{stream.name}"
-        ports += [f"output wire {bits(8 * stream.bytes)}{begin}_tdata", f"output wire {begin}_tvalid", f"input wire {begin}_tready"]
+        ports += [
+            f"output wire {bits(8 * stream.bytes)}{begin}_tdata",
+            f"output wire {begin}_tvalid",
+            f"input wire {begin}_tready",
+        ]
         ports.append(f"output wire {begin}_tlast")
     return f"module {module} (\n  " + ",\n  ".join(ports) + "\n);\n"
 
@@ -135,7 +161,9 @@ def written(net: str, when: str, wide: int, address: int, low: int, width: int) 
     for byte in range((width + 7) // 8):
         first, last = 8 * byte, min(8 * byte + 8, width) - 1
         test = f"write_address == {wide}'h{address:x} & s_axil_wstrb[{byte}]{when}"
-        target = net if width == 1 and low == 0 and net != "held" else f"{net}{part(low + first, low + last, width, low)}"
+        target = (
+            net if width == 1 and low == 0 and net != "held" else f"{net}{part(low + first, low + last, width, low)}"
+        )
         source = f"s_axil_wdata{part(first, last, 32, 0)}"
         lines.append(f"      if ({test}) {target} <= {source};\n")
     return "".join(lines)
@@ -151,11 +179,21 @@ def part(first: int, last: int, width: int, low: int) -> str:
 def read_choice(top: Top, found: Map) -> str:
     """The word that a read gives, by its address."""
     wide, count = found.address_bits, len(top.kernels)
-    rows = [(registers.STATUS, "{30'd0, finished, running}"), (registers.CYCLES, "cycles[31:0]"), (registers.CYCLES + 4, "cycles[63:32]")]
+    rows = [
+        (registers.STATUS, "{30'd0, finished, running}"),
+        (registers.CYCLES, "cycles[31:0]"),
+        (registers.CYCLES + 4, "cycles[63:32]"),
+    ]
     rows.append((registers.HOLD, padded("held", count)))
     for register in found.values:
         for address, low, high in register.parts():
-            name = register.net if register.width == 1 else f"{register.net}[{high}:{low}]" if high > low else f"{register.net}[{low}]"
+            name = (
+                register.net
+                if register.width == 1
+                else f"{register.net}[{high}:{low}]"
+                if high > low
+                else f"{register.net}[{low}]"
+            )
             rows.append((address, padded(name, high - low + 1)))
     lines = [f"      {wide}'h{address:x}: chosen = {word};\n" for address, word in rows]
     return "  always @(*)\n    case (read_address)\n" + "".join(lines) + "      default: chosen = 32'd0;\n    endcase\n"
@@ -167,7 +205,7 @@ def padded(name: str, width: int) -> str:
 
 
 def input_logic(stream: Stream) -> str:
-    """An input: at most as many words as its kernel has ticks are taken, so those of the next run stay where they are."""
+    """An input: it takes at most as many words as its kernel has ticks, so those of the next run stay outside."""
     name = stream.name
     return f"""
   // Input {name}, of {stream.width} bits.
@@ -217,7 +255,10 @@ def core(top: Top) -> str:
     for stream in top.outputs:
         name = stream.name
         ready = f"running & m_axis_{name}_tready"
-        joined += [(f"out${name}$data", f"out_word_{name}"), (f"out${name}$valid", f"out_valid_{name}"), (f"out${name}$ready", ready)]
+        joined += [
+            (f"out${name}$data", f"out_word_{name}"),
+            (f"out${name}$valid", f"out_valid_{name}"),
+            (f"out${name}$ready", ready),
+        ]
     joined.append(("done", "core_done"))
     return f"\n  {top.module} core (\n    " + ",\n    ".join(f".{port}({net})" for port, net in joined) + "\n  );\n"
-
