@@ -3,8 +3,11 @@ from __future__ import annotations
 
 import json
 import pathlib
+import shutil
 import tempfile
+import weakref
 from collections.abc import Callable, Iterator, Mapping
+from contextlib import closing
 from dataclasses import dataclass, field
 from functools import cached_property
 from typing import Any
@@ -131,8 +134,8 @@ class Project:
     def __init__(self, source: str | pathlib.Path, table: Any = None, progress: bool | None = None) -> None:
         self.source = pathlib.Path(source).resolve()
         self.progress = progress
-        self._temporary = tempfile.TemporaryDirectory(prefix="kalebrush-")
-        self.folder = pathlib.Path(self._temporary.name)
+        self.folder = pathlib.Path(tempfile.mkdtemp(prefix="kalebrush-"))
+        weakref.finalize(self, shutil.rmtree, self.folder, ignore_errors=True)
         self._table = table
 
     @classmethod
@@ -174,6 +177,12 @@ class Project:
             if path:
                 pathlib.Path(path).write_text(text, encoding="utf-8")
         return Compiled(bits, depths, *texts)
+
+    @property
+    def text_path(self) -> pathlib.Path:
+        """The file of the compiled text."""
+        _ = self.compiled
+        return self.folder / "design.v"
 
     def check(self, report: str | pathlib.Path | None = None) -> dict[str, int]:
         """Checks a report, or that of `compile`: the bits of each kernel, than which no schedule needs fewer."""
@@ -229,15 +238,12 @@ class Project:
 
     def expect(self, inputs: Values, ticks: Ticks = None, scalars: Values | None = None) -> Expected:
         """The words that the source says of a run, worked out without hardware. Undefined ones are masked."""
-        run = self._run(inputs, ticks, scalars)
-        (run.folder / "design.report").write_text(self.compiled.report)
         bar = Bar("expect", self.progress)
         words_of_command = ["expect", self.source, self.table_path, "design.report", "run.json"]
-        try:
+        with self._run(inputs, ticks, scalars) as run, closing(bar):
+            (run.folder / "design.report").write_text(self.compiled.report)
             lines, _ = program.run(words_of_command, run.folder, lambda: bar.update(None))
-        finally:
-            bar.close()
-        return Expected(self.outputs, run.read(self.outputs), lines)
+            return Expected(self.outputs, run.read(self.outputs), lines)
 
     def simulate(
         self,
@@ -255,16 +261,14 @@ class Project:
         `stalls` is the number of a pattern of stalls, 0 for none; `fill` the word that registers and memories hold at
         first; `edges` the most clock edges, by default enough for every balanced run.
         """
-        run = self._run(inputs, ticks, scalars)
-        run.spec |= {"pattern": stalls, "fill": f"{fill:x}", "edges": edges or self._most_edges(run.ticks, stalls)}
-        run.write()
-        design = pathlib.Path(text).resolve() if text else self.folder / "design.v"
         bar = Bar("simulate", self.progress)
-        try:
+        design = pathlib.Path(text).resolve() if text else self.text_path
+        with self._run(inputs, ticks, scalars) as run, closing(bar):
+            most = edges or self._most_edges(run.ticks, stalls)
+            run.spec |= {"pattern": stalls, "fill": f"{fill:x}", "edges": most}
+            run.write()
             lines, _ = program.run(["simulate", design, "run.json"], run.folder, run.watch(bar, self.outputs))
-        finally:
-            bar.close()
-        return Simulated(self.outputs, run.read(self.outputs), lines[-1])
+            return Simulated(self.outputs, run.read(self.outputs), lines[-1])
 
     def compare(self, inputs: Values, ticks: Ticks = None, scalars: Values | None = None, **more: Any) -> Comparison:
         """Simulates and expects one run: the first word of each output that differs. `more` is that of `simulate`."""
@@ -325,8 +329,7 @@ class Run:
     def __init__(
         self, project: Project, encoded: dict[str, np.ndarray], ticks: dict[str, int], scalars: dict[str, str]
     ) -> None:
-        self._temporary = tempfile.TemporaryDirectory(prefix="run-", dir=project.folder)
-        self.folder, self.ticks = pathlib.Path(self._temporary.name), ticks
+        self.folder, self.ticks = pathlib.Path(tempfile.mkdtemp(prefix="run-", dir=project.folder)), ticks
         self.spec: dict[str, Any] = {
             "ticks": ticks,
             "inputs": {name: f"in.{name}.txt" for name in encoded},
@@ -338,6 +341,12 @@ class Run:
         for name, found in encoded.items():
             words.write_words(self.folder / f"in.{name}.txt", found, project.inputs[name].type.width)
         self.write()
+
+    def __enter__(self) -> Run:
+        return self
+
+    def __exit__(self, *_: object) -> None:
+        shutil.rmtree(self.folder, ignore_errors=True)
 
     def write(self) -> None:
         """Writes the run file."""
