@@ -1,7 +1,7 @@
 """What a source builds: its ports with their types, and the nodes of its kernels with their lines.
 
-The constructors are evaluated by bench/building_run.py, which was written from docs/LANGUAGE.md. The program has accepted a
-source before it is read here.
+The constructors are evaluated by bench/building_run.py, which was written from docs/LANGUAGE.md. The program has
+accepted a source before it is read here.
 """
 from __future__ import annotations
 

@@ -4,7 +4,7 @@ const all = (query, from = document) => Array.from(from.querySelectorAll(query))
 
 function showKernel(name) {
   all("[data-kernel]").forEach((part) => { part.hidden = part.dataset.kernel !== name; });
-  all("nav button").forEach((button) => button.classList.toggle("on", button.dataset.show === name));
+  all("nav button[data-show]").forEach((button) => button.classList.toggle("on", button.dataset.show === name));
 }
 
 function markNode(kernel, number) {

@@ -30,5 +30,5 @@ def main(options: argparse.Namespace) -> int:
         path.write_text(page(project, shown), encoding="utf-8")
     except OSError as error:
         raise KalebrushError(f"{path} can't be written: {error.strerror}") from None
-    print(f"{path}: {path.stat().st_size} bytes")
+    print(path)
     return 0 if shown is None or shown.comparison.agrees else 1

@@ -45,7 +45,8 @@ def write_words(run: RunWords, top: Top, folder: pathlib.Path) -> None:
         words.write_words(folder / f"known_{stream.name}.mem", known, 1)
 
 
-BENCH = """// Drives {module} over the words of a run, twice, with random gaps on every stream; prints PASS or FAIL.
+BENCH = """// Drives {module} over the words of a run, broken off once and then whole twice, with random gaps on every
+// stream; prints PASS or FAIL.
 // +stall=N: a stream waits in N of 256 edges (default 64); +seed=N; +reset=N: edges of reset (default 5).
 `timescale 1ns/1ps
 module tb_{module};
@@ -79,7 +80,7 @@ module tb_{module};
     edges <= edges + 1;
     if (edges > {most_edges}) begin
       $display("FAIL {module}: no end after %0d edges", edges);
-      $finish;
+      $finish(0);
     end
   end
 
@@ -133,6 +134,13 @@ module tb_{module};
     end
   endtask
 
+  // What a run is given.
+  task set;
+    begin
+{settings}
+    end
+  endtask
+
   initial begin
     if ($value$plusargs("stall=%d", stall)) begin end
     if ($value$plusargs("seed=%d", seed)) begin end
@@ -142,8 +150,17 @@ module tb_{module};
 {loads}
     repeat (resets) @(negedge aclk);
     aresetn = 1'b1;
+    // A run that a reset breaks off leaves nothing behind.
+    set;
+    clear = 1'b0;
+    write('h{control:x}, 32'h1);
+    repeat (40) @(negedge aclk);
+    clear = 1'b1;
+    aresetn = 1'b0;
+    repeat (resets) @(negedge aclk);
+    aresetn = 1'b1;
     for (run_number = 0; run_number < runs; run_number = run_number + 1) begin
-{settings}
+      set;
       clear = 1'b0;
       write('h{control:x}, 32'h1);
       read('h{status:x});
@@ -156,7 +173,7 @@ module tb_{module};
     end
     if (failures == 0) $display("PASS {module}");
     else $display("FAIL {module}: %0d failures", failures);
-    $finish;
+    $finish(0);
   end
 endmodule
 """
@@ -185,6 +202,7 @@ OUTPUT = """
   wire {bus}wanted_{name} = {word};
   always @(posedge aclk) begin
     m_{name}_tready <= ~waits({port});
+    if (~aresetn & m_{name}_tvalid !== 1'b0) fail({port}, -1);
     if (clear) at_{name} <= 0;
     else if (m_{name}_tvalid & m_{name}_tready) begin
       at_{name} <= at_{name} + 1;

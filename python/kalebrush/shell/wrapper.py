@@ -33,6 +33,7 @@ HEAD = """// {module}: AXI ports around {top}, written by `python3 -m kalebrush 
 CONTROL = """
   // A run: the core is in reset between runs, and nothing is offered to it then.
   reg running, finished;
+  wire active = running & aresetn;
   reg [63:0] cycles;
   wire core_done;
   wire start = write & (write_address == {address_bits}'h{control:x}) & s_axil_wstrb[0] & s_axil_wdata[0] & ~running;
@@ -56,7 +57,7 @@ CONTROL = """
 WRITES = """
   // Writes: address and data are taken in one edge, and then the response is given.
   reg responds;
-  wire write = s_axil_awvalid & s_axil_wvalid & ~responds;
+  wire write = aresetn & s_axil_awvalid & s_axil_wvalid & ~responds;
   wire [{last}:0] write_address = {{s_axil_awaddr[{last}:2], 2'b00}};
   assign s_axil_awready = write;
   assign s_axil_wready = write;
@@ -72,7 +73,7 @@ READS = """
   reg answers;
   reg [31:0] answer, chosen;
   wire [{last}:0] read_address = {{s_axil_araddr[{last}:2], 2'b00}};
-  assign s_axil_arready = s_axil_arvalid & ~answers;
+  assign s_axil_arready = aresetn & s_axil_arvalid & ~answers;
   assign s_axil_rdata = answer;
   assign s_axil_rresp = 2'b00;
   assign s_axil_rvalid = answers;
@@ -210,7 +211,7 @@ def input_logic(stream: Stream) -> str:
     return f"""
   // Input {name}, of {stream.width} bits.
   reg [{TICK_BITS - 1}:0] in_count_{name};
-  wire in_open_{name} = running & (in_count_{name} != ticks_{stream.kernel});
+  wire in_open_{name} = active & (in_count_{name} != ticks_{stream.kernel});
   wire in_ready_{name};
   assign s_axis_{name}_tready = in_open_{name} & in_ready_{name};
   always @(posedge aclk)
@@ -232,7 +233,7 @@ def output_logic(stream: Stream, is_signed: bool) -> str:
   wire {bits(stream.width)}out_word_{name};
   wire out_valid_{name};
   assign m_axis_{name}_tdata = {word};
-  assign m_axis_{name}_tvalid = running & out_valid_{name};
+  assign m_axis_{name}_tvalid = active & out_valid_{name};
   assign m_axis_{name}_tlast = out_count_{name} + {TICK_BITS}'d1 == ticks_{stream.kernel};
   always @(posedge aclk)
     if (~running) out_count_{name} <= {TICK_BITS}'d0;
@@ -254,7 +255,7 @@ def core(top: Top) -> str:
         joined += [(f"in${name}$data", data), (f"in${name}$valid", valid), (f"in${name}$ready", f"in_ready_{name}")]
     for stream in top.outputs:
         name = stream.name
-        ready = f"running & m_axis_{name}_tready"
+        ready = f"active & m_axis_{name}_tready"
         joined += [
             (f"out${name}$data", f"out_word_{name}"),
             (f"out${name}$valid", f"out_valid_{name}"),
