@@ -1,8 +1,8 @@
 #!/usr/bin/env python3
-"""Whether the package of python/ does what docs/PYTHON.md says.
+"""Whether the package of python/ does what docs/PYTHON.md and docs/USE_THE_DESIGN.md say.
 
 - its tests (python/tests);
-- each command and each program of the page, in a folder of their own: what they say is what stands there;
+- each command and each program of these pages, in a folder of their own: what they say is what stands there;
 - a page of an example in a headless browser: its script runs, a node of the address marks its line, and nothing is loaded;
 - a sweep by a dask.distributed scheduler with two workers: the same table as by processes here.
 
@@ -22,27 +22,29 @@ import tempfile
 import time
 
 from python_package import PYTHON, has, surroundings
-from trials import TOP, build
+from trials import PROGRAM, TOP, build
 
-PAGE = TOP / "docs/PYTHON.md"
+PAGES = [TOP / "docs/PYTHON.md", TOP / "docs/USE_THE_DESIGN.md"]
 BLOCK = re.compile(r"^```([^\n]*)\n(.*?)^```$", re.M | re.S)
-NAMED = re.compile(r"`([\w.]+)`[^`]*:?\s*$")
 FILES = {"java": re.compile(r"`(\w+\.maxj)`"), "python": re.compile(r"`(\w+\.py)`")}
-# the packages that a command of the page needs
+# the packages and the programs that a command of a page needs
 NEEDS = {"plot": "matplotlib", "sweep": "matplotlib", ".png": "PIL"}
+TOOLS = ("iverilog", "verilator", "yosys")
 PATIENCE = 600
 
 
 def environment():
     """The environment of a command: `python3` is the interpreter that has NumPy."""
     folder = tempfile.mkdtemp()
-    os.symlink(PYTHON, pathlib.Path(folder) / "python3")
+    script = pathlib.Path(folder) / "python3"
+    script.write_text(f'#!/bin/sh\nexec {PYTHON} "$@"\n')
+    script.chmod(0o755)
     return surroundings(PATH=f"{folder}:{os.environ['PATH']}"), folder
 
 
-def steps():
-    """(kind, text of the block, name of its file or None), in the order of the page."""
-    page, at = PAGE.read_text(), 0
+def steps(path):
+    """(kind, text of the block, name of its file or None), in the order of a page."""
+    page, at = path.read_text(), 0
     for block in BLOCK.finditer(page):
         kind, text = block[1].strip(), block[2]
         names = FILES[kind].findall(page[at : block.start()]) if kind in FILES else []
@@ -51,16 +53,23 @@ def steps():
 
 
 class Page:
-    """The page's steps, in a folder."""
+    """A page's steps, in a folder in which the repository's folders and the program are found."""
 
     def __init__(self, work, seen):
         self.work, self.seen, self.wrong, self.count, self.last = work, seen, [], 0, None
         for name in ("examples", "python"):
             (work / name).symlink_to(TOP / name)
+        launcher = work / "maxjc"
+        launcher.write_text(f'#!/bin/sh\nexec {PROGRAM} "$@"\n')
+        launcher.chmod(0o755)
 
     def missing(self, line):
-        """A package that a command needs and that isn't installed."""
-        return next((package for word, package in NEEDS.items() if word in line and not has(PYTHON, package)), None)
+        """What a command needs and isn't installed."""
+        tools = [tool for tool in TOOLS if tool in line.split() and not shutil.which(tool)]
+        return next(
+            (package for word, package in NEEDS.items() if word in line and not has(PYTHON, package)),
+            *tools[:1] or [None],
+        )
 
     def run(self, words):
         """What a command says."""
@@ -92,14 +101,17 @@ class Page:
             self.wrong.append(f"{line} says {said}, and not {list(wanted)}")
 
 
-def wrong_page(seen):
-    """What is wrong of the page."""
-    with tempfile.TemporaryDirectory() as work:
-        page = Page(pathlib.Path(work), seen)
-        for step in steps():
-            page.step(*step)
-    print(f"{PAGE.name}: {page.count} commands and programs, {len(page.wrong)} say something else", flush=True)
-    return page.wrong
+def wrong_pages(seen):
+    """What is wrong of the pages."""
+    found = []
+    for path in PAGES:
+        with tempfile.TemporaryDirectory() as work:
+            page = Page(pathlib.Path(work), seen)
+            for step in steps(path):
+                page.step(*step)
+        print(f"{path.name}: {page.count} commands and programs, {len(page.wrong)} say something else", flush=True)
+        found += page.wrong
+    return found
 
 
 def wrong_tests(seen):
@@ -216,7 +228,7 @@ def main():
     build()
     seen, folder = environment()
     try:
-        found = [line for part in (wrong_tests, wrong_page, wrong_browser, wrong_cluster) for line in part(seen)]
+        found = [line for part in (wrong_tests, wrong_pages, wrong_browser, wrong_cluster) for line in part(seen)]
     finally:
         shutil.rmtree(folder)
     for line in found:

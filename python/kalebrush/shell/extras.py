@@ -179,7 +179,7 @@ def page(top: Top, module: str, text: str, has_run: bool) -> str:
             f"iverilog -g2005 -s tb_{module} -o tb.vvp {text} {module}.v tb_{module}.v && vvp tb.vvp +stall=64 +seed=1"
         )
         lines.append(
-            f"verilator --binary --timing -Wno-fatal -Wno-lint --top-module tb_{module} {text} {module}.v tb_{module}.v"
+            f"verilator --binary --timing -Wno-fatal -Wno-lint -Wno-STMTDLY -Wno-TIMESCALEMOD --top-module tb_{module} {text} {module}.v tb_{module}.v"
         )
         lines.append("make -f cocotb.mk")
     lines.append(f"verilator --lint-only -Wall --top-module {module} waivers.vlt {text} {module}.v")
