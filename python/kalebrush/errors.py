@@ -3,7 +3,7 @@ from __future__ import annotations
 
 import re
 
-HEADING = re.compile(r"^(?P<file>.*?):(?P<line>\d+):(?:(?P<column>\d+):)? ?(?:refused )?")
+HEADING = re.compile(r"^(?:(?P<file>.*?):)?(?:(?P<line>\d+):)?(?:(?P<column>\d+):)? ?refused [A-Z]\d+\b")
 REMEDY = re.compile(r"\b(?:What to do|Remedy|Hint): ?", re.I)
 
 
@@ -30,6 +30,9 @@ class ProgramError(KalebrushError):
         super().__init__("\n".join(filter(None, [f"maxjc {words[0] if words else ''}: {reason}", told.strip()])))
         self.status, self.words, self.told = status, words, told
 
+    def __reduce__(self) -> tuple:
+        return ProgramError, (self.status, self.words, self.told)
+
 
 class Refusal(KalebrushError):
     """The program refused a source, a table, a text, a run or a report.
@@ -47,15 +50,19 @@ class Refusal(KalebrushError):
         self._read()
         super().__init__(f"{line}\n{self.explanation}".strip())
 
+    def __reduce__(self) -> tuple:
+        return Refusal, (self.said, self.explanation, self.file)
+
     def _read(self) -> None:
-        """Takes the place, the cause and the remedy from the explanation."""
-        first, _, rest = self.explanation.partition("\n")
-        place = HEADING.match(first)
-        if place:
-            self.file, self.line = place["file"], int(place["line"])
-            self.column = int(place["column"]) if place["column"] else None
-        elif first.endswith(f": refused {self.code}"):
-            self.file = first[: -len(f": refused {self.code}")]
-        prose = [line for line in rest.splitlines() if line.strip() and not line.startswith("  ")]
+        """Takes the place, the cause and the remedy from the explanation, which may have other lines before it."""
+        lines = self.explanation.splitlines()
+        at = next((number for number, line in enumerate(lines) if HEADING.match(line)), None)
+        if at is None:
+            return
+        place = HEADING.match(lines[at])
+        self.file = place["file"] or self.file
+        self.line, self.column = (int(place[part]) if place[part] else None for part in ("line", "column"))
+        self.explanation = "\n".join(lines[at:])
+        prose = [line for line in lines[at + 1 :] if line.strip() and not line.startswith("  ")]
         cause, *remedy = REMEDY.split(" ".join(prose), maxsplit=1)
         self.cause, self.remedy = cause.strip(), (remedy or [""])[0].strip()

@@ -8,6 +8,7 @@ from __future__ import annotations
 import os
 import pathlib
 import shutil
+import signal
 import subprocess
 import sys
 import tempfile
@@ -44,27 +45,27 @@ def run(words: list[str], folder: pathlib.Path, watch: Watch | None = None) -> t
     """
     said, told, status = _started(find() + words, folder, watch)
     lines = said.splitlines()
+    if status in (DONE, EDGES_OUT):
+        return lines, status
+    told = told if told.strip() else _explanation(status, said, words, folder)
     if status == REFUSED and lines and lines[-1].startswith("refused "):
-        raise Refusal(lines[-1], _explanation(told, lines[-1], words, folder), _file_of(words))
-    if status not in (DONE, EDGES_OUT):
-        raise ProgramError(status, words, told)
-    return lines, status
+        raise Refusal(lines[-1], told, str(words[1]) if len(words) > 1 else None)
+    raise ProgramError(status, list(map(str, words)), told)
 
 
 def _started(words: list[str], folder: pathlib.Path, watch: Watch | None) -> tuple[str, str, int]:
     """What a program says on standard output and on standard error, and its status."""
     surroundings = {**os.environ, "MAXJC_EXPLAIN": "1"}
     with tempfile.TemporaryFile("w+") as out, tempfile.TemporaryFile("w+") as err:
+        streams = {"stdin": subprocess.DEVNULL, "stdout": out, "stderr": err}
         try:
-            child = subprocess.Popen(
-                words, cwd=folder, stdin=subprocess.DEVNULL, stdout=out, stderr=err, env=surroundings
-            )
+            child = subprocess.Popen(words, cwd=folder, env=surroundings, start_new_session=True, **streams)
         except OSError as error:
             raise KalebrushError(f"{words[0]} can't be started: {error.strerror}") from error
         try:
             _wait(child, watch)
-        except BaseException:
-            child.kill()
+        except BaseException:  # the launcher may have started the program as a child of its own
+            os.killpg(child.pid, signal.SIGKILL)
             child.wait()
             raise
         out.seek(0)
@@ -81,16 +82,10 @@ def _wait(child: subprocess.Popen, watch: Watch | None) -> None:
             watch()
 
 
-def _file_of(words: list[str]) -> str | None:
-    return words[1] if len(words) > 1 else None
-
-
-def _explanation(told: str, line: str, words: list[str], folder: pathlib.Path) -> str:
-    """What the launcher told of a refusal, or else what tools/explain.py tells of it."""
-    if told.strip():
-        return told
+def _explanation(status: int, said: str, words: list, folder: pathlib.Path) -> str:
+    """What tools/explain.py tells of a command that didn't do its work, where the program itself tells nothing."""
     tool = TOP / "tools/explain.py"
     if not tool.is_file():
         return ""
-    done = subprocess.run([sys.executable, str(tool), line, *words], cwd=folder, capture_output=True, text=True)
-    return done.stderr
+    told = [sys.executable, str(tool), str(status), said, *map(str, words)]
+    return subprocess.run(told, cwd=folder, capture_output=True, text=True).stderr

@@ -3,16 +3,11 @@ import os
 import pathlib
 import unittest
 
-from kalebrush import program
-
 TOP = pathlib.Path(__file__).resolve().parents[2]
 EXAMPLES = TOP / "examples"
 ONE = EXAMPLES / "tables/one.json"
-IS_BUILT = (
-    bool(os.environ.get("MAXJC"))
-    or (TOP / "crates/maxjc/out/maxjc").exists()
-    or program.find()[0] != str(TOP / "maxjc")
-)
+BUILT = (TOP / "crates/maxjc/out/maxjc", TOP / "boot")
+IS_BUILT = bool(os.environ.get("MAXJC")) or any(path.exists() for path in BUILT)
 
 needs_program = unittest.skipUnless(IS_BUILT, "the program isn't built here")
 

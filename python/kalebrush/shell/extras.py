@@ -175,12 +175,10 @@ def page(top: Top, module: str, text: str, has_run: bool) -> str:
     lines += [f"| output `{stream.name}` | {stream.width} | `m_axis_{stream.name}` |" for stream in top.outputs]
     lines += ["", register_table(top), "Ticks and scalars can't be written while a run is going on.\n", "```"]
     if has_run:
-        lines.append(
-            f"iverilog -g2005 -s tb_{module} -o tb.vvp {text} {module}.v tb_{module}.v && vvp tb.vvp +stall=64 +seed=1"
-        )
-        lines.append(
-            f"verilator --binary --timing -Wno-fatal -Wno-lint -Wno-STMTDLY -Wno-TIMESCALEMOD --top-module tb_{module} {text} {module}.v tb_{module}.v"
-        )
+        sources = f"{text} {module}.v tb_{module}.v"
+        lines.append(f"iverilog -g2005 -s tb_{module} -o tb.vvp {sources} && vvp tb.vvp +stall=64 +seed=1")
+        flags = "--binary --timing -Wno-fatal -Wno-lint -Wno-STMTDLY -Wno-TIMESCALEMOD"
+        lines.append(f"verilator {flags} --top-module tb_{module} {sources}")
         lines.append("make -f cocotb.mk")
     lines.append(f"verilator --lint-only -Wall --top-module {module} waivers.vlt {text} {module}.v")
     lines.append(f'yosys -p "read_verilog {text} {module}.v; synth_ice40 -top {module} -json {module}.json"')
