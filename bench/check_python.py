@@ -3,12 +3,13 @@
 
 - its tests (python/tests);
 - each command and each program of these pages, in a folder of their own: what they say is what stands there;
-- a page of an example in a headless browser: its script runs, a node of the address marks its line, and nothing is loaded;
+- a page of an example in a headless browser: its script runs, a node of the address marks its line, and nothing is
+  loaded;
 - a sweep by a dask.distributed scheduler with two workers: the same table as by processes here.
 
 What needs a package or a program that is missing is passed over.
 
-    bench/check_python.py     ends with status 1 where something is wrong; MAXJC in the environment names another program
+    bench/check_python.py     ends with status 1 where something is wrong; MAXJC names another program
 """
 import os
 import pathlib
@@ -116,7 +117,7 @@ def wrong_pages(seen):
 
 def wrong_tests(seen):
     """What fails of the tests."""
-    words = ["python3", "-m", "unittest", "discover", "-t", ".", "-s", "tests"]
+    words, seen = ["python3", "-m", "unittest", "discover", "-t", ".", "-s", "tests"], {**seen, "MAXJC": str(PROGRAM)}
     done = subprocess.run(words, cwd=TOP / "python", capture_output=True, text=True, env=seen, timeout=PATIENCE)
     last = [line for line in done.stderr.splitlines() if line.strip()]
     print(f"python/tests: {' '.join(last[-2:])}", flush=True)

@@ -35,8 +35,8 @@ LATENCIES = {
     "fir": {"mul": 1},
     "exponential": {"mul": 3, "add": 1},
 }
-# of each family: the command of Yosys, and the cells that are LUTs (with how many each takes), flip-flops, block RAMs and
-# DSPs
+# of each family: the command of Yosys, and the cells that are LUTs (with how many each takes), flip-flops, block RAMs
+# and DSPs
 FAMILIES = {
     "iCE40": ("synth_ice40", {"SB_LUT4": 1}, r"SB_DFF", {"SB_RAM40_4K": 1}, {}),
     "ECP5": (

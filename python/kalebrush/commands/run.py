@@ -3,8 +3,8 @@
     python3 -m kalebrush run blur.maxj --in x=picture.png --out y=smooth.png
 
 Files are pictures (.png, .pgm), tables (.csv), arrays (.npy) or words (any other name). `FILE#r` is a channel of a
-picture and `FILE#price` a column of a table. A picture is read line by line, and an output with as many words is written
-in its shape.
+picture and `FILE#price` a column of a table. A picture is read line by line, and an output with as many words is
+written in its shape.
 """
 from __future__ import annotations
 
