@@ -17,6 +17,7 @@ import os
 import pathlib
 import re
 import shutil
+import signal
 import subprocess
 import sys
 import tempfile
@@ -38,14 +39,16 @@ PATIENCE = 900  # seconds for a tool
 
 
 def run(words, folder):
-    """The status of a command, and what it says."""
+    """The status of a command, and what it says; where it doesn't end, what it started is ended too."""
+    kinds = {"stdout": subprocess.PIPE, "stderr": subprocess.STDOUT, "text": True, "start_new_session": True}
+    tool = subprocess.Popen(list(map(str, words)), cwd=folder, env=surroundings(), **kinds)
     try:
-        done = subprocess.run(
-            list(map(str, words)), cwd=folder, capture_output=True, text=True, env=surroundings(), timeout=PATIENCE
-        )
+        said, _ = tool.communicate(timeout=PATIENCE)
     except subprocess.TimeoutExpired:
+        os.killpg(tool.pid, signal.SIGKILL)
+        tool.communicate()
         return 124, f"{words[0]} hadn't ended after {PATIENCE} s"
-    return done.returncode, done.stdout + done.stderr
+    return tool.returncode, said
 
 
 def shell_of(name, folder):

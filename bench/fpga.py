@@ -10,9 +10,11 @@ tool (600). A dash stands where a tool didn't end, or where the device is too sm
 """
 import argparse
 import json
+import os
 import pathlib
 import re
 import shutil
+import signal
 import subprocess
 import sys
 import tempfile
@@ -22,7 +24,8 @@ import example_page
 from trials import PROGRAM, TOP, build
 
 HAND = TOP / "bench/hand"
-SEEDS = (1, 2, 3)
+SEEDS, MOST_SEEDS = 3, 8  # how many seeds are to end, and how many are tried: the placer may not end by one
+PLACING = 240  # seconds for a seed at the most
 DEVICE = ["--hx8k", "--package", "ct256", "--pcf-allow-unconstrained", "--freq", "150", "--timing-allow-fail"]
 STAT = re.compile(r"^ +([A-Z$]\w+) +(\d+)$", re.M)
 OPERATIONS = "add sub mul div neg and or xor not eq ne lt le gt ge mux round".split()
@@ -74,19 +77,17 @@ class Tools:
     def __init__(self, folder, seconds):
         self.folder, self.seconds = folder, seconds
 
-    def run(self, words):
-        """What a tool says, or None where it fails or doesn't end."""
+    def run(self, words, seconds=None):
+        """What a tool says, or None where it fails or doesn't end; then what it started is ended too."""
+        kinds = {"stdout": subprocess.PIPE, "stderr": subprocess.DEVNULL, "text": True, "start_new_session": True}
+        tool = subprocess.Popen(["nice", "-n", "15", *map(str, words)], cwd=self.folder, **kinds)
         try:
-            done = subprocess.run(
-                ["nice", "-n", "15", *map(str, words)],
-                cwd=self.folder,
-                capture_output=True,
-                text=True,
-                timeout=self.seconds,
-            )
+            said, _ = tool.communicate(timeout=seconds or self.seconds)
         except subprocess.TimeoutExpired:
+            os.killpg(tool.pid, signal.SIGKILL)
+            tool.communicate()
             return None
-        return done.stdout if done.returncode == 0 else None
+        return said if tool.returncode == 0 else None
 
     def cells(self, text, top, family):
         """The cells of a text on a family, or None."""
@@ -105,18 +106,17 @@ class Tools:
         return Cells(total(luts), flops, total(rams), total(dsps))
 
     def placed(self, cells):
-        """Places and routes the last text for iCE40, with each seed."""
-        for seed in SEEDS:
-            if (
-                self.run(
-                    ["nextpnr-ice40", *DEVICE, "--json", "net.json", "--seed", seed, "-q", "--report", "report.json"]
-                )
-                is None
-            ):
-                return
+        """Places and routes the last text for iCE40, by as many seeds as are to end."""
+        seconds = min(self.seconds, PLACING)
+        for seed in range(1, MOST_SEEDS + 1):
+            words = ["nextpnr-ice40", *DEVICE, "--json", "net.json", "--seed", seed, "-q", "--report", "report.json"]
+            if self.run(words, seconds) is None:
+                continue
             report = json.loads((self.folder / "report.json").read_text())
             cells.clocks.append(max(clock["achieved"] for clock in report["fmax"].values()))
             cells.logic = report["utilization"]["ICESTORM_LC"]["used"]
+            if len(cells.clocks) == SEEDS:
+                return
 
     def measured(self, text, top):
         """The cells of a text on each family, None where a tool gave none."""
