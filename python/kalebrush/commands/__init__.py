@@ -1,0 +1,1 @@
+"""The commands, a module each, with `add` for its words and `main` for its work."""

@@ -1,0 +1,1 @@
+"""A shell around a compiled text: AXI ports with plain names, a testbench, and what tools need."""
