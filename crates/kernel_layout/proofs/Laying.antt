@@ -1,10 +1,8 @@
 -- The layout, from its parts.
-use Rattle.std.proofs.Common.{arith, ◌≡◌, ◌∙◌, ⊎_elim, inl, inr, ◌<◌, ◌≤◌, ◌+◌, ◌-◌, ◌^◌, ℕ, zero, suc, List, [], ◌∷◌, length, get_or, refl, sym, ap, subst}
-use Rattle.std.specs.Prelude.{pos, ◌≤ℤ◌, slice_index, slice_index_or, All, Contains, Option, Some, None, ◌↔◌}
-use Rattle.std.proofs.lemmas.Bool.{cases_lt}
+use Rattle.std.proofs.Common.{arith, ◌≡◌, ◌∙◌, ◌<◌, ◌≤◌, ◌^◌, ℕ, zero, suc, List, [], ◌∷◌, length, get_or, refl, sym, ap, subst}
+use Rattle.std.specs.Prelude.{pos, ◌≤ℤ◌, slice_index_or, Contains, Option, Some, None, ◌↔◌}
 use Rattle.std.specs.List.Sorted.{IsStrictlyIncreasing}
 use Rattle.std.proofs.lemmas.Int.{ints}
-use Rattle.std.proofs.lemmas.List.Elements.{Contains-get_or}
 use Rattle.cycle_find.specs.Constraints.{Numbers}
 use Rattle.fifo_sharing.specs.declared.chain.Chain.{Chain}
 use Rattle.fifo_sharing.specs.Chains.{IsDelayOf, producers, AreChains}

@@ -1,5 +1,5 @@
 -- The module of a kernel has few parts.
-use Rattle.std.proofs.Common.{◌∙◌, ◌+◌, ◌*◌, ◌≤◌, List, length, sym, ap, arith}
+use Rattle.std.proofs.Common.{◌∙◌, ◌*◌, ◌≤◌, List, length, sym, ap, arith}
 use Rattle.std.specs.Prelude.{ℤ}
 use Rattle.rtl_ir.specs.declared.design.Module.{Module}
 use Rattle.rtl_ir.specs.Ports.{PortView, port_view}

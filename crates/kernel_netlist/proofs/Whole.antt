@@ -1,5 +1,5 @@
 -- From a least schedule of a kernel to its module.
-use Rattle.std.proofs.Common.{◌≡◌, ◌∙◌, ℕ, ◌+◌, ◌*◌, ◌≤◌, ◌<◌, ◌^◌, List, length, sym, ap, subst, arith}
+use Rattle.std.proofs.Common.{◌≡◌, ◌∙◌, ℕ, ◌*◌, ◌≤◌, ◌<◌, ◌^◌, List, length, sym, ap, subst, arith}
 use Rattle.std.specs.Prelude.{pos, ◌≤ℤ◌, slice_index, Result, Ok, Err, IfErr}
 use Rattle.std.proofs.lemmas.Int.{ints}
 use Rattle.std.specs.Result.{IsErrAnd}

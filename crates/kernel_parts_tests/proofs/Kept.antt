@@ -27,7 +27,6 @@ use Rattle.std.proofs.Common.{
   length-append,
 }
 use Rattle.std.specs.Prelude.{All, codes}
-use Rattle.std.specs.List.Sorted.{IsStrictlyIncreasing}
 use Rattle.std.proofs.lemmas.Bool.{ne_eqb}
 use Rattle.rtl_ir.specs.declared.design.Module.{Module}
 use Rattle.rtl_build.specs.declared.signal.Signal.{Signal}

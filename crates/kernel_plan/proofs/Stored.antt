@@ -1,6 +1,6 @@
 -- What the words of a node that wait keep: its FIFO. What its pipeline keeps: its latency.
-use Rattle.std.proofs.Common.{◌≡◌, ◌∙◌, ◌⊎◌, ⊎_elim, inl, inr, ℕ, zero, suc, ◌+◌, ◌*◌, ◌<◌, ◌≤◌, Bool, true, false, List, [], ◌∷◌, length, get_or, refl, ap, sym, arith}
-use Rattle.std.specs.Prelude.{Contains, ℤ, pos, ◌+ℤ◌, ◌*ℤ◌, ◌≤ℤ◌, ◌==◌, Option, Some, None, if◌then◌else◌, unsigned_abs, int_lt}
+use Rattle.std.proofs.Common.{◌≡◌, ◌∙◌, ◌⊎◌, ⊎_elim, ℕ, zero, suc, ◌+◌, ◌*◌, ◌<◌, ◌≤◌, Bool, true, false, List, [], ◌∷◌, length, get_or, refl, ap, sym, arith}
+use Rattle.std.specs.Prelude.{Contains, ℤ, pos, ◌*ℤ◌, ◌≤ℤ◌, ◌==◌, Option, Some, None, if◌then◌else◌, unsigned_abs, int_lt}
 use Rattle.std.specs.Int.{int_max}
 use Rattle.std.specs.List.Sorted.{IsStrictlyIncreasing}
 use Rattle.std.proofs.Math.IntN.{pos-*ℤ-pos}

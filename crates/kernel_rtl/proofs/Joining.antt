@@ -28,7 +28,7 @@ use Rattle.std.proofs.Common.{
   arith,
   ⊎_elim,
 }
-use Rattle.std.specs.Prelude.{ℤ, pos, All, Contains, slice_index}
+use Rattle.std.specs.Prelude.{ℤ, pos, All, slice_index}
 use Rattle.std.proofs.lemmas.Bool.{cases_Bool, false≢true}
 use Rattle.std.proofs.lemmas.List.Elements.{All-append}
 use Rattle.std.proofs.lemmas.List.{get_or_default}

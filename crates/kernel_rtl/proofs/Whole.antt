@@ -39,7 +39,6 @@ use Rattle.rtl_ir.specs.Ports.{ports_of}
 use Rattle.rtl_ir.proofs.Grow.{width_kept}
 use Rattle.rtl_build.specs.Wires.{is_output}
 use Rattle.rtl_build.specs.declared.signal.Signal.{Signal}
-use Rattle.rtl_delays.specs.declared.elements.Element.{Element}
 use Rattle.rtl_delays.specs.Extends.{Extends, AddsNoRegister, KeepsStill}
 use Rattle.rtl_delays.specs.Driven.{is_driven}
 use Rattle.rtl_delays.specs.Delays.{of_net}

@@ -25,7 +25,6 @@ use Rattle.std.proofs.Common.{
   sym,
   subst,
   arith,
-  inr,
   ⊎_elim,
 }
 use Rattle.std.specs.Prelude.{ℤ, pos, ◌-ℤ◌, Contains}

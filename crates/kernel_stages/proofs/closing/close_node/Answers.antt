@@ -1,7 +1,6 @@
-use Rattle.std.proofs.Common.{◌≡◌, ◌+◌, ◌*◌, ◌++◌, List, length, get_or, sym, ap, ◌∙◌, subst, arith}
+use Rattle.std.proofs.Common.{◌≡◌, get_or, sym, ap, ◌∙◌, subst, arith}
 use Rattle.std.specs.Prelude.{All}
 use Rattle.rtl_build.specs.declared.signal.Signal.{Signal}
-use Rattle.rtl_delays.specs.declared.elements.Element.{Element}
 use Rattle.rtl_delays.specs.Elements.{HasElement, AreFree}
 use Rattle.rtl_delays.proofs.Extends.{extends_on, still_on}
 use Rattle.rtl_delays.proofs.Undriven.{undriven_on}

@@ -1,11 +1,10 @@
-use Rattle.std.proofs.Common.{◌≡◌, ◌+◌, ◌*◌, List, ℕ, length, sym, ap, ◌∙◌, subst, arith}
-use Rattle.std.specs.Prelude.{All}
+use Rattle.std.proofs.Common.{◌≡◌, ◌*◌, length, sym, ap, ◌∙◌, subst, arith}
 use Rattle.std.proofs.lemmas.List.Elements.{All-append}
 use Rattle.rtl_delays.specs.Elements.{shown}
 use Rattle.rtl_delays.proofs.Extends.{extends_on}
 use Rattle.rtl_delays.proofs.Undriven.{undriven_on}
 use Rattle.rtl_delays.proofs.Started.{frees_kept}
-use Rattle.kernel_stages.specs.Numbers.{up_to, AreRising, last_from}
+use Rattle.kernel_stages.specs.Numbers.{up_to, AreRising}
 use Rattle.kernel_stages.specs.Starting.{AddsChain}
 use Rattle.kernel_stages.proofs.Pipelines.{registers_rise, registers_length, registers_last, registers_rings, registers_pointers}
 use Rattle.kernel_stages.proofs.Freeing.{registers_both, frees_both}

@@ -1,4 +1,4 @@
-use Rattle.std.proofs.Common.{◌≡◌, ◌+◌, ◌-◌, ◌≤◌, sym, ap, ◌∙◌, arith}
+use Rattle.std.proofs.Common.{◌-◌, sym, ap, ◌∙◌, arith}
 use Rattle.kernel_wiring.proofs.Stages.{stage_least, wait_among, late_ready, late_rest, rest_is}
 use Rattle.kernel_wiring.specs.Words.{late_of}
 use Rattle.kernel_wiring.proofs.taps.late_signal.Goals as goal
