@@ -336,16 +336,7 @@ module _ (kernel : Kernel) (a b : Module) (ports : KernelSignals) (p : HasKernel
 
 word_there : (k : Kind) → is_offset k ≡ false → has_word k ≡ true
 word_there (K.Offset ticks) h = absurd (false≢true (sym h))
-word_there K.Input h = refl
-word_there K.Output h = refl
-word_there K.Scalar h = refl
-word_there (K.Constant word) h = refl
-word_there (K.Operation op mode amount) h = refl
-word_there K.Feed h = refl
-word_there K.Hold h = refl
-word_there K.Counter h = refl
-word_there K.Chain h = refl
-word_there (K.Part place) h = refl
+word_there _ h = refl
 
 -- a node with a latency, or whose word waits, is no offset
 late_node : (nodes : List Node) (ticks : ℕ → ℕ) (times : Numbers) (u : ℕ) → All (IsEdge nodes) (edges_of nodes)

@@ -133,42 +133,15 @@ has_number is_kind k (x ∷ xs) (suc i) lt h = by_test (has_number is_kind (k + 
 
 pub is_the_input : (k : Kind) → is_input k ≡ true → k ≡ K.Input
 is_the_input K.Input h = refl
-is_the_input K.Output h = absurd (false≢true h)
-is_the_input K.Scalar h = absurd (false≢true h)
-is_the_input (K.Constant word) h = absurd (false≢true h)
-is_the_input (K.Operation op mode amount) h = absurd (false≢true h)
-is_the_input (K.Offset ticks) h = absurd (false≢true h)
-is_the_input K.Feed h = absurd (false≢true h)
-is_the_input K.Hold h = absurd (false≢true h)
-is_the_input K.Counter h = absurd (false≢true h)
-is_the_input K.Chain h = absurd (false≢true h)
-is_the_input (K.Part place) h = absurd (false≢true h)
+is_the_input _ h = absurd (false≢true h)
 
 pub is_the_output : (k : Kind) → is_output k ≡ true → k ≡ K.Output
 is_the_output K.Output h = refl
-is_the_output K.Input h = absurd (false≢true h)
-is_the_output K.Scalar h = absurd (false≢true h)
-is_the_output (K.Constant word) h = absurd (false≢true h)
-is_the_output (K.Operation op mode amount) h = absurd (false≢true h)
-is_the_output (K.Offset ticks) h = absurd (false≢true h)
-is_the_output K.Feed h = absurd (false≢true h)
-is_the_output K.Hold h = absurd (false≢true h)
-is_the_output K.Counter h = absurd (false≢true h)
-is_the_output K.Chain h = absurd (false≢true h)
-is_the_output (K.Part place) h = absurd (false≢true h)
+is_the_output _ h = absurd (false≢true h)
 
 pub is_the_scalar : (k : Kind) → is_scalar k ≡ true → k ≡ K.Scalar
 is_the_scalar K.Scalar h = refl
-is_the_scalar K.Input h = absurd (false≢true h)
-is_the_scalar K.Output h = absurd (false≢true h)
-is_the_scalar (K.Constant word) h = absurd (false≢true h)
-is_the_scalar (K.Operation op mode amount) h = absurd (false≢true h)
-is_the_scalar (K.Offset ticks) h = absurd (false≢true h)
-is_the_scalar K.Feed h = absurd (false≢true h)
-is_the_scalar K.Hold h = absurd (false≢true h)
-is_the_scalar K.Counter h = absurd (false≢true h)
-is_the_scalar K.Chain h = absurd (false≢true h)
-is_the_scalar (K.Part place) h = absurd (false≢true h)
+is_the_scalar _ h = absurd (false≢true h)
 
 -- the inputs are nodes that are inputs
 pub record IsNodeOf (nodes : List Node) (of : Kind) (n : ℕ) : Type 0 where

@@ -347,16 +347,7 @@ module _ (l m n : Module) (nodes : List Node) (ticks : ℕ → ℕ) (times : Num
 
   taps_offset : (k : Kind) → has_taps k ≡ true → is_offset k ≡ false
   taps_offset (K.Offset ahead) h = absurd (false≢true h)
-  taps_offset K.Input h = refl
-  taps_offset K.Output h = refl
-  taps_offset K.Scalar h = refl
-  taps_offset (K.Constant word) h = refl
-  taps_offset (K.Operation op mode amount) h = refl
-  taps_offset K.Feed h = refl
-  taps_offset K.Hold h = refl
-  taps_offset K.Counter h = refl
-  taps_offset K.Chain h = refl
-  taps_offset (K.Part place) h = refl
+  taps_offset _ h = refl
 
   node_built : IsPosition n run.net ports.reset.net storage.position.net → (v : ℕ) → v < length nodes
       → NodeBuilt n nodes ticks now nets run.net (standing layout storage.delays words rank) v

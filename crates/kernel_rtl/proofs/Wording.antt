@@ -9,7 +9,6 @@ use Rattle.std.proofs.Common.{
   true,
   false,
   cond,
-  eqb,
   List,
   [],
   ◌∷◌,
@@ -32,8 +31,6 @@ use Rattle.std.proofs.lemmas.Bool.{false≢true}
 use Rattle.std.proofs.lemmas.List.Elements.{All-nil, All-cons, All-append}
 use Rattle.std.proofs.lemmas.List.{get_or_default}
 use Rattle.rtl_ir.specs.declared.design.Module.{Module}
-use Rattle.rtl_ir.specs.Value.{Family, Contents}
-use Rattle.rtl_ir.specs.Grow.{Holds}
 use Rattle.rtl_build.specs.declared.signal.Signal.{Signal}
 use Rattle.rtl_delays.specs.declared.elements.Element.{Element}
 use Rattle.rtl_delays.specs.Elements.{shown, HasElement}
@@ -62,9 +59,9 @@ use Rattle.kernel_types.specs.Types.{counts}
 use Rattle.kernel_states.specs.States.{has_state, state_at, IsState, IsStateRegister, AreStates}
 use Rattle.kernel_wiring.specs.declared.timing.Timing.{Timing}
 use Rattle.kernel_wiring.specs.Words.{has_word, is_wired, is_given, signal_at, reads_at, taps_at, control_at, IsWordOf, AreGiven, AreLate, IsLaidOut, IsReadIn}
-use Rattle.kernel_wiring.specs.OneNode.{IsWired}
 use Rattle.kernel_wiring.specs.AllNodes.{AddsNodes}
 use Rattle.kernel_wiring.specs.Controls.{AreThere}
+use Rattle.kernel_wiring.proofs.Stepping.{wired_on}
 use Rattle.kernel_rtl.specs.declared.storage.Storage.{Storage}
 use Rattle.kernel_rtl.specs.Planned.{widths_of}
 use Rattle.kernel_rtl.specs.Words.{
@@ -193,12 +190,7 @@ are_given m nodes ports states words streams stand given = record {
     by_kind n lt K.Hold e has = kept n lt (ap has_state e)
     by_kind n lt K.Counter e has = kept n lt (ap has_state e)
     by_kind n lt K.Chain e has = kept n lt (ap has_state e)
-    by_kind n lt K.Output e has = absurd (false≢true has)
-    by_kind n lt (K.Constant word) e has = absurd (false≢true has)
-    by_kind n lt (K.Operation op mode amount) e has = absurd (false≢true has)
-    by_kind n lt (K.Offset ticks) e has = absurd (false≢true has)
-    by_kind n lt K.Feed e has = absurd (false≢true has)
-    by_kind n lt (K.Part place) e has = absurd (false≢true has)
+    by_kind n lt _ e has = absurd (false≢true has)
 
 pub input_ports : (m : Module) (nodes : List Node) (ports : KernelSignals) → HasStreams m nodes ports
     → All (λ (port : StreamSignals). IsNodeOf nodes K.Input port.node) ports.inputs
@@ -280,34 +272,6 @@ are_there m nodes layout late words o laid shows same n lt i d li =
 
 -- ---- all of it
 
--- wires in a larger module, and what a hold keeps by another name
-wired_on : (m n : Module) (nodes : List Node) (timing : Timing) (taps : List ℕ) (kept kept' net v : ℕ) (k : Kind)
-    → ((c : Contents) (f : Family) → Holds n c f → Holds m c f) → (k ≡ K.Hold → kept ≡ kept') → IsWired m nodes timing taps kept net v k
-    → IsWired n nodes timing taps kept' net v k
-wired_on m n nodes timing taps kept kept' net v K.Output before same w = w
-wired_on m n nodes timing taps kept kept' net v (K.Constant word) before same w = λ c f h. w c f (before c f h)
-wired_on m n nodes timing taps kept kept' net v (K.Operation op mode amount) before same w = λ c f h. w c f (before c f h)
-wired_on m n nodes timing taps kept kept' net v K.Feed before same w = w
-wired_on m n nodes timing taps kept kept' net v (K.Part place) before same w = record {
-  chain = w.chain;
-  first = w.first;
-  shows = λ c f h. w.shows c f (before c f h);
-}
-wired_on m n nodes timing taps kept kept' net v K.Hold before same w = record {
-  from = w.from;
-  first = w.first;
-  store = w.store;
-  second = w.second;
-  on = w.on;
-  stores = λ c f h. w.stores c f (before c f h);
-  shows = λ c f h. w.shows c f (before c f h) ∙ ap (λ x. cond (eqb (f w.on) 1) (f w.from) (f x)) (same refl);
-}
-wired_on m n nodes timing taps kept kept' net v K.Input before same w = tt
-wired_on m n nodes timing taps kept kept' net v K.Scalar before same w = tt
-wired_on m n nodes timing taps kept kept' net v (K.Offset ticks) before same w = tt
-wired_on m n nodes timing taps kept kept' net v K.Counter before same w = tt
-wired_on m n nodes timing taps kept kept' net v K.Chain before same w = tt
-
 -- counters get no wires
 counts_given : (k : Kind) → counts k ≡ true → is_wired k ≡ false
 counts_given K.Counter h = refl
@@ -315,12 +279,7 @@ counts_given K.Chain h = refl
 counts_given K.Input h = refl
 counts_given K.Scalar h = refl
 counts_given (K.Offset ticks) h = refl
-counts_given K.Output h = absurd (false≢true h)
-counts_given (K.Constant word) h = absurd (false≢true h)
-counts_given (K.Operation op mode amount) h = absurd (false≢true h)
-counts_given K.Feed h = absurd (false≢true h)
-counts_given K.Hold h = absurd (false≢true h)
-counts_given (K.Part place) h = absurd (false≢true h)
+counts_given _ h = absurd (false≢true h)
 
 given_moved : {A : Type 0} (node : A → ℕ) (word : A → Signal) (ports : List A) (before after : List Signal) (n : ℕ)
     → signal_at after n ≡ signal_at before n → IsGivenBy node word ports before n → IsGivenBy node word ports after n

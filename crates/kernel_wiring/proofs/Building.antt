@@ -186,55 +186,23 @@ module _ (nodes : List Node) (layout : Layout) (late : List (List Signal)) (word
   copy_takes : (k : Kind) → is_copy k ≡ true → takes k 0 ≡ true
   copy_takes K.Output e = refl
   copy_takes K.Feed e = refl
-  copy_takes K.Input e = absurd (cc)
-  copy_takes K.Scalar e = absurd (cc)
-  copy_takes (K.Constant word) e = absurd (cc)
-  copy_takes (K.Operation op mode amount) e = absurd (cc)
-  copy_takes (K.Offset ticks) e = absurd (cc)
-  copy_takes K.Hold e = absurd (cc)
-  copy_takes K.Counter e = absurd (cc)
-  copy_takes K.Chain e = absurd (cc)
-  copy_takes (K.Part place) e = absurd (cc)
+  copy_takes _ e = absurd (cc)
 
   copy_wired : (k : Kind) → is_copy k ≡ true → is_wired k ≡ true
   copy_wired K.Output e = refl
   copy_wired K.Feed e = refl
-  copy_wired K.Input e = absurd (cc)
-  copy_wired K.Scalar e = absurd (cc)
-  copy_wired (K.Constant word) e = absurd (cc)
-  copy_wired (K.Operation op mode amount) e = absurd (cc)
-  copy_wired (K.Offset ticks) e = absurd (cc)
-  copy_wired K.Hold e = absurd (cc)
-  copy_wired K.Counter e = absurd (cc)
-  copy_wired K.Chain e = absurd (cc)
-  copy_wired (K.Part place) e = absurd (cc)
+  copy_wired _ e = absurd (cc)
 
   copy_is : (m : Module) (taps : List ℕ) (kept net : ℕ) (k : Kind) → is_copy k ≡ true → slice_get taps 0 ≡ Some net
       → IsWired m nodes timing taps kept net n k
   copy_is m taps kept net K.Output e q = q
   copy_is m taps kept net K.Feed e q = q
-  copy_is m taps kept net K.Input e q = absurd (cc)
-  copy_is m taps kept net K.Scalar e q = absurd (cc)
-  copy_is m taps kept net (K.Constant word) e q = absurd (cc)
-  copy_is m taps kept net (K.Operation op mode amount) e q = absurd (cc)
-  copy_is m taps kept net (K.Offset ticks) e q = absurd (cc)
-  copy_is m taps kept net K.Hold e q = absurd (cc)
-  copy_is m taps kept net K.Counter e q = absurd (cc)
-  copy_is m taps kept net K.Chain e q = absurd (cc)
-  copy_is m taps kept net (K.Part place) e q = absurd (cc)
+  copy_is m taps kept net _ e q = absurd (cc)
 
   copy_like : (k : Kind) → is_copy k ≡ true → is_like k ≡ true
   copy_like K.Output e = refl
   copy_like K.Feed e = refl
-  copy_like K.Input e = absurd (cc)
-  copy_like K.Scalar e = absurd (cc)
-  copy_like (K.Constant word) e = absurd (cc)
-  copy_like (K.Operation op mode amount) e = absurd (cc)
-  copy_like (K.Offset ticks) e = absurd (cc)
-  copy_like K.Hold e = absurd (cc)
-  copy_like K.Counter e = absurd (cc)
-  copy_like K.Chain e = absurd (cc)
-  copy_like (K.Part place) e = absurd (cc)
+  copy_like _ e = absurd (cc)
 
   -- a node whose word is its first operand's has one
   pub copy_reads : (m : Module) → AreTyped nodes → n < length nodes → IsReadable m nodes layout late words n → is_copy (kind_at nodes n) ≡ true
@@ -331,8 +299,4 @@ not_wired (K.Operation op mode amount) a b c d p h = absurd (c op mode amount re
 not_wired K.Feed a b c d p h = absurd (d refl)
 not_wired K.Hold a b c d p h = absurd (h refl)
 not_wired (K.Part place) a b c d p h = absurd (p place refl)
-not_wired K.Input a b c d p h = refl
-not_wired K.Scalar a b c d p h = refl
-not_wired (K.Offset ticks) a b c d p h = refl
-not_wired K.Counter a b c d p h = refl
-not_wired K.Chain a b c d p h = refl
+not_wired _ a b c d p h = refl

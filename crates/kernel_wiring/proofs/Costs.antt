@@ -52,16 +52,7 @@ numbers_counted is_kind k (n ∷ nodes) =
 -- a node is an input, an output or a scalar, or none of these
 one_port : (k : Kind) → one_if (is_input k) + one_if (is_output k) + one_if (is_scalar k) ≤ 1
 one_port K.Input = omega arith
-one_port K.Output = omega arith
-one_port K.Scalar = omega arith
-one_port (K.Constant word) = omega arith
-one_port (K.Operation op mode amount) = omega arith
-one_port (K.Offset ticks) = omega arith
-one_port K.Feed = omega arith
-one_port K.Hold = omega arith
-one_port K.Counter = omega arith
-one_port K.Chain = omega arith
-one_port (K.Part place) = omega arith
+one_port _ = omega arith
 
 pub few_ports : (nodes : List Node)
     → count_if is_input nodes + count_if is_output nodes + count_if is_scalar nodes ≤ length nodes
@@ -155,16 +146,7 @@ few_words all (x ∷ xs) =
         let few = few_wires op (map (type_at all) operands) in
         let long = length-map operands (type_at all) in
         omega (arith, few, long)
-    one K.Input operands = omega arith
-    one K.Output operands = omega arith
-    one K.Scalar operands = omega arith
-    one (K.Constant word) operands = omega arith
-    one (K.Offset ticks) operands = omega arith
-    one K.Feed operands = omega arith
-    one K.Hold operands = omega arith
-    one K.Counter operands = omega arith
-    one K.Chain operands = omega arith
-    one (K.Part place) operands = omega arith
+    one _ operands = omega arith
 
 module _ (nodes : List Node) (kernel : ∥ AreKernel nodes ∥₁) where
   pub nets_few : all_nets nodes ≤ 18 + nets_a_part * (length nodes + operand_count nodes)

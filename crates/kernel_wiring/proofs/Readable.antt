@@ -54,42 +54,19 @@ use Rattle.kernel_types.specs.Types.{is_like, AreTyped}
 -- all nodes but offsets have words
 stays_word : (k : Kind) → is_offset k ≡ false → has_word k ≡ true
 stays_word (K.Offset ticks) f = absurd (false≢true (sym f))
-stays_word K.Output f = refl
-stays_word K.Chain f = refl
-stays_word K.Input f = refl
-stays_word K.Scalar f = refl
-stays_word (K.Constant word) f = refl
-stays_word (K.Operation op mode amount) f = refl
-stays_word K.Feed f = refl
-stays_word K.Hold f = refl
-stays_word K.Counter f = refl
-stays_word (K.Part place) f = refl
+stays_word _ f = refl
 
 wired_stays : (k : Kind) → is_wired k ≡ true → is_offset k ≡ false
 wired_stays (K.Offset ticks) e = absurd (false≢true e)
-wired_stays K.Output e = refl
-wired_stays K.Chain e = refl
-wired_stays K.Input e = refl
-wired_stays K.Scalar e = refl
-wired_stays (K.Constant word) e = refl
-wired_stays (K.Operation op mode amount) e = refl
-wired_stays K.Feed e = refl
-wired_stays K.Hold e = refl
-wired_stays K.Counter e = refl
-wired_stays (K.Part place) e = refl
+wired_stays _ e = refl
 
 pub takes_wired : (k : Kind) (place : ℕ) → takes k place ≡ true → is_wired k ≡ true
-takes_wired K.Output place e = refl
-takes_wired (K.Constant word) place e = refl
-takes_wired (K.Operation op mode amount) place e = refl
-takes_wired K.Feed place e = refl
 takes_wired (K.Offset ticks) place e = absurd (false≢true e)
 takes_wired K.Chain place e = absurd (false≢true e)
 takes_wired K.Input place e = absurd (false≢true e)
 takes_wired K.Scalar place e = absurd (false≢true e)
-takes_wired K.Hold place e = refl
 takes_wired K.Counter place e = absurd (false≢true e)
-takes_wired (K.Part at) place e = refl
+takes_wired _ place e = refl
 
 -- a direct read is among those of the graph
 pub direct_has : (rs : List Read) (p : ℕ) → p < length rs → (get_or rs p no_read).behind ≡ 0

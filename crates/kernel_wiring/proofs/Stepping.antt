@@ -149,69 +149,57 @@ control_bit m K.Input (s ∷ signals) bit = bit 0 refl (omega arith)
 control_bit m K.Output [] bit = tt
 control_bit m K.Output (s ∷ []) bit = tt
 control_bit m K.Output (s ∷ c ∷ signals) bit = bit 1 refl (omega arith)
-control_bit m K.Scalar signals bit = tt
-control_bit m (K.Constant word) signals bit = tt
-control_bit m (K.Operation op mode amount) signals bit = tt
-control_bit m (K.Offset ticks) signals bit = tt
-control_bit m K.Feed signals bit = tt
-control_bit m K.Hold signals bit = tt
-control_bit m K.Counter signals bit = tt
-control_bit m K.Chain signals bit = tt
-control_bit m (K.Part place) signals bit = tt
+control_bit m _ signals bit = tt
 
 -- ---- what a module keeps
+
+-- wires in a larger module, and what a hold keeps by another name
+pub wired_on : (m n : Module) (nodes : List Node) (timing : Timing) (taps : List ℕ) (kept kept' net v : ℕ) (k : Kind)
+    → ((c : Contents) (f : Family) → Holds n c f → Holds m c f) → (k ≡ K.Hold → kept ≡ kept') → IsWired m nodes timing taps kept net v k
+    → IsWired n nodes timing taps kept' net v k
+wired_on m n nodes timing taps kept kept' net v K.Output before same w = w
+wired_on m n nodes timing taps kept kept' net v (K.Constant word) before same w = λ c f h. w c f (before c f h)
+wired_on m n nodes timing taps kept kept' net v (K.Operation op mode amount) before same w = λ c f h. w c f (before c f h)
+wired_on m n nodes timing taps kept kept' net v K.Feed before same w = w
+wired_on m n nodes timing taps kept kept' net v (K.Part place) before same w = record {
+  chain = w.chain;
+  first = w.first;
+  shows = λ c f h. w.shows c f (before c f h);
+}
+wired_on m n nodes timing taps kept kept' net v K.Hold before same w = record {
+  from = w.from;
+  first = w.first;
+  store = w.store;
+  second = w.second;
+  on = w.on;
+  stores = λ c f h. w.stores c f (before c f h);
+  shows = λ c f h. w.shows c f (before c f h) ∙ ap (λ x. cond (eqb (f w.on) 1) (f w.from) (f x)) (same refl);
+}
+wired_on m n nodes timing taps kept kept' net v _ before same w = tt
 
 wired_kept : (m n : Module) → ((c : Contents) (f : Family) → Holds n c f → Holds m c f)
     → (nodes : List Node) (timing : Timing) (taps : List ℕ) (kept net v : ℕ) (k : Kind) → IsWired m nodes timing taps kept net v k
     → IsWired n nodes timing taps kept net v k
-wired_kept m n before nodes timing taps kept net v K.Output h = h
-wired_kept m n before nodes timing taps kept net v (K.Constant word) h = λ c f q. h c f (before c f q)
-wired_kept m n before nodes timing taps kept net v (K.Operation op mode amount) h = λ c f q. h c f (before c f q)
-wired_kept m n before nodes timing taps kept net v K.Feed h = h
-wired_kept m n before nodes timing taps kept net v (K.Part place) h =
-    record { chain = h.chain; first = h.first; shows = λ c f q. h.shows c f (before c f q) }
-wired_kept m n before nodes timing taps kept net v K.Hold h = record {
-  from = h.from;
-  first = h.first;
-  store = h.store;
-  second = h.second;
-  on = h.on;
-  stores = λ c f q. h.stores c f (before c f q);
-  shows = λ c f q. h.shows c f (before c f q);
-}
-wired_kept m n before nodes timing taps kept net v K.Input h = tt
-wired_kept m n before nodes timing taps kept net v K.Scalar h = tt
-wired_kept m n before nodes timing taps kept net v (K.Offset ticks) h = tt
-wired_kept m n before nodes timing taps kept net v K.Counter h = tt
-wired_kept m n before nodes timing taps kept net v K.Chain h = tt
+wired_kept m n before nodes timing taps kept net v k h =
+    wired_on m n nodes timing taps kept kept net v k before (λ e. refl) h
 
 none_wired : (m : Module) (nodes : List Node) (timing : Timing) (taps : List ℕ) (kept net v : ℕ) (k : Kind) → is_wired k ≡ false
     → IsWired m nodes timing taps kept net v k
-none_wired m nodes timing taps kept net v K.Output e = absurd (false≢true (sym e))
-none_wired m nodes timing taps kept net v (K.Constant word) e = absurd (false≢true (sym e))
-none_wired m nodes timing taps kept net v (K.Operation op mode amount) e = absurd (false≢true (sym e))
-none_wired m nodes timing taps kept net v K.Feed e = absurd (false≢true (sym e))
-none_wired m nodes timing taps kept net v K.Hold e = absurd (false≢true (sym e))
-none_wired m nodes timing taps kept net v (K.Part place) e = absurd (false≢true (sym e))
 none_wired m nodes timing taps kept net v K.Input e = tt
 none_wired m nodes timing taps kept net v K.Scalar e = tt
 none_wired m nodes timing taps kept net v (K.Offset ticks) e = tt
 none_wired m nodes timing taps kept net v K.Counter e = tt
 none_wired m nodes timing taps kept net v K.Chain e = tt
+none_wired m nodes timing taps kept net v _ e = absurd (false≢true (sym e))
 
 -- a word that gets no wires is given
 given_word : (k : Kind) → has_word k ≡ true → is_wired k ≡ false → is_given k ≡ true
-given_word K.Output h e = absurd (false≢true (sym e))
-given_word (K.Constant word) h e = absurd (false≢true (sym e))
-given_word (K.Operation op mode amount) h e = absurd (false≢true (sym e))
-given_word K.Feed h e = absurd (false≢true (sym e))
-given_word K.Hold h e = absurd (false≢true (sym e))
-given_word (K.Part place) h e = absurd (false≢true (sym e))
 given_word (K.Offset ticks) h e = absurd (false≢true h)
 given_word K.Input h e = refl
 given_word K.Scalar h e = refl
 given_word K.Counter h e = refl
 given_word K.Chain h e = refl
+given_word _ h e = absurd (false≢true (sym e))
 
 word_kept : {m n : Module} {nodes : List Node} {v : ℕ} {s : Signal} → Extends m n → IsWordOf m nodes v s → IsWordOf n nodes v s
 word_kept {s = s} e h = record { signal = e.keeps s h.signal; bits = h.bits }
