@@ -10,7 +10,8 @@ use Rattle.rtl_delays.specs.declared.elements.Element.{Element}
 use Rattle.rtl_delays.specs.declared.elements.Element.TheVariants.{Register, Ring}
 use Rattle.rtl_delays.specs.Elements.{advances_of, starting_nets, starting_mems, closing_nets, HasElement, IsLean, pointer_bits}
 use Rattle.rtl_delays.proofs.Pointers.{pointer_is, pointer_only}
-use Rattle.kernel_stages.specs.Numbers.{differences, last_from, rings_from, ring_count, register_count, wait_count, AreRising, place_bits, pointer_bits as stage_bits, pipeline_bits, all_word_bits, all_pointer_bits}
+use Rattle.kernel_stages.specs.Numbers.{differences, last_from, rings_from, ring_count, register_count, wait_count}
+use Rattle.kernel_stages.specs.Numbers.{AreRising, place_bits, pointer_bits as stage_bits, pipeline_bits, all_word_bits, all_pointer_bits}
 use Rattle.kernel_stages.specs.Chains.{ring_delays}
 
 -- each of these numbers is above the one before it, by at most 2^28, and the first one above `prior`

@@ -1,5 +1,6 @@
 -- The bytes of the names in a module, by how long the names of its ports are and those that it gives.
-use Rattle.std.proofs.Common.{◌≡◌, ◌∙◌, ◌⊎◌, inl, inr, ⊎_elim, ℕ, zero, suc, ◌+◌, ◌*◌, ◌<◌, ◌≤◌, Bool, true, false, ◌||◌, if◌then◌else◌, List, [], ◌∷◌, length, Option, Some, None, get_or, eqb, refl, sym, ap, subst, arith}
+use Rattle.std.proofs.Common.{◌≡◌, ◌∙◌, ◌⊎◌, inl, inr, ⊎_elim, ℕ, zero, suc, ◌+◌, ◌*◌, ◌<◌, ◌≤◌, Bool, true, false}
+use Rattle.std.proofs.Common.{◌||◌, if◌then◌else◌, List, [], ◌∷◌, length, Option, Some, None, get_or, eqb, refl, sym, ap, subst, arith}
 use Rattle.std.specs.Prelude.{map, slice_get, nat_lt}
 use Rattle.std.specs.List.{All, AllByRecursion, IsDistinct, list_any, sum_by}
 use Rattle.std.proofs.lemmas.Bool.{cases_lt, eqb-true, true≢false}
