@@ -34,18 +34,9 @@ role_of K.Scalar = 3
 role_of _ = 0
 
 role_kept : (so_far : List Call) (n : ℕ) (call : Call) (kind : Kind) → IsKind so_far n call kind → role_of kind ≡ role_by call
-role_kept so_far n (C.Input name t control) kind i = ap role_of i
-role_kept so_far n (C.Output name value control t) kind i = ap role_of i
-role_kept so_far n (C.Scalar name t) kind i = ap role_of i
 role_kept so_far n (C.Constant bits t) kind i = ap role_of i.1
-role_kept so_far n (C.Operation op mode amount args t) kind i = ap role_of i
-role_kept so_far n (C.Offset value k t) kind i = ap role_of i
-role_kept so_far n (C.Feed t) kind i = ap role_of i
 role_kept so_far n (C.Connect feed value) kind i = absurd i
-role_kept so_far n (C.Hold value store t) kind i = ap role_of i
-role_kept so_far n (C.Counter d) kind i = ap role_of i
-role_kept so_far n C.Chain kind i = ap role_of i
-role_kept so_far n (C.ChainDigit chain d) kind i = ap role_of i
+role_kept so_far n _ kind i = ap role_of i
 
 -- ---- no port has the name of an earlier one of its kind
 

@@ -12,14 +12,12 @@ use Rattle.rtl_ir.specs.declared.design.Module.{Module}
 use Rattle.rtl_ir.specs.Ports.{PortView, host_input_ports, host_output_ports}
 use Rattle.stream_graph.specs.LookUps.{node_at, kind_at, width_at, no_node}
 use Rattle.stream_graph.proofs.NodeLemmas.{orderly}
-use Rattle.kernel_control.specs.Ports.{numbers_from, port_shape, scalar_ports}
+pub use Rattle.stream_graph.proofs.Numbers.{drop_front}
+use Rattle.kernel_control.specs.Ports.{port_shape, scalar_ports}
 use Rattle.kernel_ports.specs.declared.signals.NodeSignal.{NodeSignal}
 use Rattle.kernel_ports.specs.declared.signals.StreamSignals.{StreamSignals}
 use Rattle.kernel_ports.specs.Added.{AddsPorts, scalar_at, stream_at, scalars_at, streams_at}
 use Rattle.kernel_ports.proofs.Adding.{AreLeft, fewer_left}
-
-pub drop_front : {A : Type 0} (xs : List A) (i : ℕ) (d : A) → i < length xs → drop i xs ≡ get_or xs i d ∷ drop (i + 1) xs
-drop_front xs i d h = rw (add-one, drop-cons xs i d) refl
 
 pub none_after : {A : Type 0} (xs : List A) (i : ℕ) → length xs ≤ i → drop i xs ≡ []
 none_after [] zero h = refl
@@ -103,25 +101,3 @@ module _ (nodes : List Node) (ns : List ℕ) (i : ℕ) (lt : i < length ns) wher
       ∙ ap (λ n. made ++ stream_at (get_or ns i 0) k (width_at nodes (get_or ns i 0)) ∷ streams_at nodes n (drop (i + 1) ns)) a
       ∙ ap (λ l. made ++ streams_at nodes k l) (sym (drop_front ns i 0 lt))
       ∙ e
-
--- ---- the numbers of nodes
-
-next_number : (is_kind : Kind → Bool) (k : ℕ) (nodes : List Node) → k < length nodes
-    → numbers_from is_kind k (drop k nodes)
-    ≡ (if is_kind (kind_at nodes k) then k ∷ numbers_from is_kind (k + 1) (drop (k + 1) nodes) else numbers_from is_kind (k + 1) (drop (k + 1) nodes))
-next_number is_kind k nodes lt = ap (numbers_from is_kind k) (drop_front nodes k no_node lt)
-
-pub number_taken : (is_kind : Kind → Bool) (k : ℕ) (nodes : List Node) (made all : List ℕ) → k < length nodes → is_kind (kind_at nodes k) ≡ true
-    → made ++ numbers_from is_kind k (drop k nodes) ≡ all → (made ++ k ∷ []) ++ numbers_from is_kind (k + 1) (drop (k + 1) nodes) ≡ all
-number_taken is_kind k nodes made all lt e h =
-    append_assoc made (k ∷ []) (numbers_from is_kind (k + 1) (drop (k + 1) nodes))
-    ∙ ap (λ b. made ++ (if b then k ∷ numbers_from is_kind (k + 1) (drop (k + 1) nodes) else numbers_from is_kind (k + 1) (drop (k + 1) nodes))) (sym e)
-    ∙ ap (λ l. made ++ l) (sym (next_number is_kind k nodes lt))
-    ∙ h
-
-pub number_passed : (is_kind : Kind → Bool) (k : ℕ) (nodes : List Node) (made all : List ℕ) → k < length nodes → is_kind (kind_at nodes k) ≡ false
-    → made ++ numbers_from is_kind k (drop k nodes) ≡ all → made ++ numbers_from is_kind (k + 1) (drop (k + 1) nodes) ≡ all
-number_passed is_kind k nodes made all lt e h =
-    ap (λ b. made ++ (if b then k ∷ numbers_from is_kind (k + 1) (drop (k + 1) nodes) else numbers_from is_kind (k + 1) (drop (k + 1) nodes))) (sym e)
-    ∙ ap (λ l. made ++ l) (sym (next_number is_kind k nodes lt))
-    ∙ h

@@ -6,7 +6,6 @@
 
 mod laws;
 mod ports;
-mod role;
 mod signals;
 mod streams;
 

@@ -1,12 +1,11 @@
 // The module of the ports alone.
-ghost use Rattle.std.specs.Prelude.{◌≡◌, ◌<◌, length, map, All, IfOk, OnOk, IsTrue};
-ghost use Rattle.rtl_ir.specs.Ports.{is_plain_name, host_input_ports, host_output_ports};
+ghost use Rattle.std.specs.Prelude.{◌≡◌, ◌<◌, length, map, All, IfOk, OnOk};
+ghost use Rattle.rtl_ir.specs.Ports.{host_input_ports, host_output_ports};
 ghost use Rattle.rtl_delays.specs.Partial.{HasPortsAlone};
 ghost use Rattle.kernel_control.specs.Ports.{port_shape, scalar_ports, module_ports};
 ghost use Rattle.kernel_ports.specs.Added.{AddsPorts, scalars_at, streams_at, signals_of};
 ghost use Rattle.kernel_ports.specs.HasKernelPorts.{HasKernelPorts};
 
-use crate::role::Role;
 use crate::signals::{KernelSignals, NodeSignal, StreamSignals};
 use crate::streams::{
     add_input_stream, add_output_stream, add_own_input, add_own_output, add_scalar, joined,
@@ -21,7 +20,7 @@ fn add_scalars(
     alloc: Global,
     netlist: &mut Netlist,
     kernel: &Kernel,
-    nodes: &[u32],
+    nodes: &[NodeId],
 ) -> Result<List<NodeSignal>, NoMemory>
     requires alone { HasPortsAlone netlist.old }
     requires nodes { All (λ n. n < length kernel.now.nodes) nodes.now }
@@ -32,9 +31,9 @@ fn add_scalars(
 {
     let mut made = List::new(alloc);
     for node in nodes {
-        let id = NodeId::new(*node);
+        let id = *node;
         let width = kernel.node(id).t.width();
-        made.push(add_scalar(alloc, netlist, *node, kernel.port_name(id), width)?)?;
+        made.push(add_scalar(alloc, netlist, id.number(), kernel.port_name(id), width)?)?;
     }
     Ok(made)
 }
@@ -44,7 +43,7 @@ fn add_inputs(
     alloc: Global,
     netlist: &mut Netlist,
     kernel: &Kernel,
-    nodes: &[u32],
+    nodes: &[NodeId],
 ) -> Result<List<StreamSignals>, NoMemory>
     requires alone { HasPortsAlone netlist.old }
     requires nodes { All (λ n. n < length kernel.now.nodes) nodes.now }
@@ -55,9 +54,9 @@ fn add_inputs(
 {
     let mut made = List::new(alloc);
     for node in nodes {
-        let id = NodeId::new(*node);
+        let id = *node;
         let width = kernel.node(id).t.width();
-        made.push(add_input_stream(alloc, netlist, *node, kernel.port_name(id), width)?)?;
+        made.push(add_input_stream(alloc, netlist, id.number(), kernel.port_name(id), width)?)?;
     }
     Ok(made)
 }
@@ -67,7 +66,7 @@ fn add_outputs(
     alloc: Global,
     netlist: &mut Netlist,
     kernel: &Kernel,
-    nodes: &[u32],
+    nodes: &[NodeId],
 ) -> Result<List<StreamSignals>, NoMemory>
     requires alone { HasPortsAlone netlist.old }
     requires nodes { All (λ n. n < length kernel.now.nodes) nodes.now }
@@ -78,9 +77,9 @@ fn add_outputs(
 {
     let mut made = List::new(alloc);
     for node in nodes {
-        let id = NodeId::new(*node);
+        let id = *node;
         let width = kernel.node(id).t.width();
-        made.push(add_output_stream(alloc, netlist, *node, kernel.port_name(id), width)?)?;
+        made.push(add_output_stream(alloc, netlist, id.number(), kernel.port_name(id), width)?)?;
     }
     Ok(made)
 }
@@ -97,11 +96,11 @@ fn add_all(alloc: Global, netlist: &mut Netlist, kernel: &Kernel) -> Result<Kern
     let reset = add_own_input(alloc, netlist, b"reset", 1)?;
     let hold = add_own_input(alloc, netlist, b"hold$", 1)?;
     let ticks = add_own_input(alloc, netlist, b"ticks$", 48)?;
-    let nodes = Role::Scalar.nodes(alloc, kernel)?;
+    let nodes = kernel.scalars(alloc)?;
     let scalars = add_scalars(alloc, netlist, kernel, nodes.as_slice())?;
-    let nodes = Role::Input.nodes(alloc, kernel)?;
+    let nodes = kernel.inputs(alloc)?;
     let inputs = add_inputs(alloc, netlist, kernel, nodes.as_slice())?;
-    let nodes = Role::Output.nodes(alloc, kernel)?;
+    let nodes = kernel.outputs(alloc)?;
     let outputs = add_outputs(alloc, netlist, kernel, nodes.as_slice())?;
     let ended = add_own_output(alloc, netlist, b"ended$")?;
     Ok(KernelSignals {
@@ -119,7 +118,6 @@ fn add_all(alloc: Global, netlist: &mut Netlist, kernel: &Kernel) -> Result<Kern
 /// number k is net number k. The module is named `kernel$` and the kernel's name, which is a letter
 /// and then letters, digits and `_`.
 pub fn kernel_ports(alloc: Global, kernel: &Kernel) -> Result<(Netlist, KernelSignals), NoMemory>
-    requires { IsTrue (is_plain_name kernel.now.name) }
     ensures { IfOk result (λ made. HasKernelPorts kernel.now made.0 made.1) }
 {
     let mut netlist = Netlist::new(alloc, joined(alloc, b"kernel$", kernel.name(), b"")?);

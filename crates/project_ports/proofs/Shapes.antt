@@ -13,6 +13,7 @@ use Rattle.std.proofs.Common.{
   [],
   ◌∷◌,
   ◌++◌,
+  get_or,
   map,
   refl,
   ap,
@@ -56,6 +57,10 @@ scalar_role K.Scalar e = refl
 scalar_role _ e = absurd (cc)
 
 -- ---- names
+
+-- the kernels of a project have names that ports can have
+pub all_named : (project : Project) → All HasPortName project.kernels
+all_named project = λ k d h. (get_or project.kernels k d).named
 
 names_plain : (kernels : List Kernel) → All HasPortName kernels
     → list_all is_plain_name (kernel_names kernels) ≡ true

@@ -1,11 +1,9 @@
 // The ports of the design of a project.
-ghost use Rattle.std.specs.Prelude.{◌≡◌, All, true, IfOk};
-ghost use Rattle.kernel_calls.specs.Laws.{is_port_name};
+ghost use Rattle.std.specs.Prelude.{◌≡◌, IfOk};
 ghost use Rattle.project_rtl.specs.Shapes.{shape_of};
 ghost use Rattle.rtl_ir.specs.Interfaces as Interfaces;
 ghost use Rattle.rtl_ir.specs.Interfaces.{IsInterface};
 ghost use Rattle.rtl_ir.specs.declared.design.Module.{Module};
-ghost use Rattle.stream_graph.specs.declared.kernel.Kernel.{Kernel};
 ghost use Rattle.top_ports.specs.Shapes.{IsTop};
 
 use manager_links::Project;
@@ -16,9 +14,8 @@ use std::alloc::Global;
 use top_ports::interface;
 
 /// The ports of the top module of a project's design: those of a module that has these ports and
-/// nothing else. The kernels have names that ports can have.
+/// nothing else.
 pub fn project_ports(alloc: Global, project: &Project) -> Result<Interface, NoMemory>
-    requires names { All (λ (kernel : Kernel). is_port_name kernel.name ≡ true) project.now.kernels }
     ensures shape { IfOk result (λ ports. Interfaces.shape_of ports ≡ shape_of project.now) }
     ensures is { IfOk result (λ ports.
         (alone : Module) × IsTop alone (shape_of project.now) × IsInterface alone ports) }

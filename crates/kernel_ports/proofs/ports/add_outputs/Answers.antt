@@ -1,19 +1,21 @@
 use Rattle.std.proofs.Common.{ℕ, List, length, ap, sym, ◌∙◌, arith}
+use Rattle.std.proofs.lemmas.List.{get_or_read}
 use Rattle.kernel_control.specs.Ports.{port_shape}
+use Rattle.kernel_ports.specs.Added.{stream_at}
 use Rattle.kernel_ports.proofs.Looping.{view_wide, shape_is, output_left, stream_made}
 use Rattle.kernel_ports.proofs.ports.add_outputs.Goals as goal
 
 pub width-width-requires : goal.width-width-requires
 width-width-requires c =
     let below = c.requires.nodes c.loop-node.node-index 0 c.loop-node-test.true in
-    let is = c.new-id.ensures in
-    view_wide c.args.kernel.now c.new-id.result c.node.result (omega (arith, below, is)) c.node.ensures
+    let is = get_or_read c.args.nodes.now c.loop-node.node-index c.node-item.result c.loop-node-test.true c.node-item.is 0 in
+    view_wide c.args.kernel.now c.node-item.result c.node.result (omega (arith, below, is)) c.node.ensures
 
 pub add_output_stream-requires-clause-some : goal.add_output_stream-requires-clause-some
 add_output_stream-requires-clause-some c =
     let below = c.requires.nodes c.loop-node.node-index 0 c.loop-node-test.true in
-    let is = c.new-id.ensures in
-    let wide = view_wide c.args.kernel.now c.new-id.result c.node.result (omega (arith, below, is)) c.node.ensures in
+    let is = get_or_read c.args.nodes.now c.loop-node.node-index c.node-item.result c.loop-node-test.true c.node-item.is 0 in
+    let wide = view_wide c.args.kernel.now c.node-item.result c.node.result (omega (arith, below, is)) c.node.ensures in
     let some = wide.0 in
     let width = c.width-width.ensures in
     omega (arith, some, width)
@@ -21,8 +23,8 @@ add_output_stream-requires-clause-some c =
 pub add_output_stream-requires-clause-at_most : goal.add_output_stream-requires-clause-at_most
 add_output_stream-requires-clause-at_most c =
     let below = c.requires.nodes c.loop-node.node-index 0 c.loop-node-test.true in
-    let is = c.new-id.ensures in
-    let wide = view_wide c.args.kernel.now c.new-id.result c.node.result (omega (arith, below, is)) c.node.ensures in
+    let is = get_or_read c.args.nodes.now c.loop-node.node-index c.node-item.result c.loop-node-test.true c.node-item.is 0 in
+    let wide = view_wide c.args.kernel.now c.node-item.result c.node.result (omega (arith, below, is)) c.node.ensures in
     let most = wide.1 in
     let width = c.width-width.ensures in
     omega (arith, most, width)
@@ -37,10 +39,11 @@ loop-node-preserved c =
     let w = c.width-width.result in
     let h = c.loop-node.invariant in
     let d = c.in_ok-add_output_stream.ensures in
-    let shape = ap (port_shape nodes) (sym c.new-id.ensures)
-    ∙ shape_is nodes c.new-id.result w name c.node.result c.node.ensures c.width-width.ensures c.port_name.ensures in
+    let is = get_or_read c.args.nodes.now c.loop-node.node-index c.node-item.result c.loop-node-test.true c.node-item.is 0 in
+    let shape = ap (port_shape nodes) (sym is)
+    ∙ shape_is nodes c.node-item.result w name c.node.result c.node.ensures c.width-width.ensures c.port_name.ensures in
     record {
       left = output_left nodes ns i lt name w h.left shape d.ports;
       signals = stream_made nodes ns i lt (length c.loop-node.netlist.nets) (length c.add_output_stream.new.netlist.nets) w c.loop-node.made c.push.new.self _
-          c.in_ok-add_output_stream.field-0 h.signals d.signals (ap (λ (a : List ℕ × ℕ). a.1) shape) d.ports.nets c.in_ok-push.ensures.ok;
+          c.in_ok-add_output_stream.field-0 h.signals (d.signals ∙ ap (λ n. stream_at n (length c.loop-node.netlist.nets) w) (c.number.ensures ∙ is)) (ap (λ (a : List ℕ × ℕ). a.1) shape) d.ports.nets c.in_ok-push.ensures.ok;
     }
