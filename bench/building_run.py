@@ -74,12 +74,12 @@ class Run:
         if len(params) != len(arguments):
             raise Refusal("E1", ctor.place)
         variables = self.bound(params, arguments, ctor.place)
-        for member in self.members:
-            if member.kind == "Field":
-                self.fields[member.word] = Variable(self.known_type(member.parts[0]))
-        for member in self.members:
-            if member.kind == "Field":
-                self.initial(declared_of(member.parts[0]), self.fields[member.word], member.parts[1:], member.place)
+        fields = [
+            (member, Variable(self.known_type(member.parts[0]))) for member in self.members if member.kind == "Field"
+        ]
+        self.fields = {member.word: variable for member, variable in fields}
+        for member, variable in fields:
+            self.initial(declared_of(member.parts[0]), variable, member.parts[1:], member.place)
         self.frame = Frame(variables=variables)
         self.statements(block.parts)
 

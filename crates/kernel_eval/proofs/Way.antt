@@ -18,11 +18,13 @@ use Rattle.std.proofs.Common.{
   subst,
   arith,
 }
+use Rattle.std.specs.Prelude.{Result, IsErr, IsErrAnd}
 use Rattle.kernel_calls.specs.declared.call.Call.{Call}
 use Rattle.kernel_calls.specs.Calls.{count_of}
 use Rattle.kernel_calls.specs.Laws.{Received, HasRoom, AreLawful}
 use Rattle.kernel_meaning.specs.declared.error.EvalError.{EvalError}
 use Rattle.kernel_meaning.specs.declared.error.EvalError.TheVariants as E
+use Rattle.kernel_meaning.specs.declared.plan.Plan.{Plan}
 use Rattle.kernel_meaning.specs.declared.state.State.{State}
 use Rattle.kernel_meaning.specs.declared.value.Value.{Value}
 use Rattle.kernel_meaning.specs.Answer.{Answer, Finished, Refused, calls_of, end_of, plan_at_end}
@@ -36,7 +38,7 @@ use Rattle.kernel_machine.specs.declared.machine.Machine.{Machine}
 use Rattle.kernel_machine.specs.Going.{Leads, Starts, answer_of, with_calls}
 use Rattle.kernel_eval.specs.Runs.{run_in}
 use Rattle.kernel_eval.specs.Sending.{AreNumbered, HasRoomBelow, AreSendable, AreSent}
-use Rattle.kernel_eval.specs.Building.{Builds}
+use Rattle.kernel_eval.specs.Building.{Builds, Plans}
 use Rattle.kernel_eval.proofs.Sendable.{all_sendable}
 use Rattle.kernel_eval.proofs.Sent.{received_on}
 
@@ -172,6 +174,37 @@ module _ {S V : Type 0} (has_room : S → Call → Type 0) (receives : S → Cal
   way_refused now vars rest e h new class l =
       let k = on_way now vars rest (Refused e) h l in
       (sym k.ending, k.received now refl)
+
+  -- the refusal of a step that is handed on
+  pub way_handed : (now : S) (vars : List V) (rest : Answer) (r : Result (Unit {0}) EvalError)
+      (e : EvalError) → IsOnWay has_room receives made number first run now vars rest
+      → (new : Machine) (class : ClassView) → Leads class rest (Err e) new → IsErr r
+      → IsErrAnd r (λ x. x ≡ e) → Builds receives first run r now
+  way_handed now vars rest (Ok done) e h new class l is same = absurd (cc)
+  way_handed now vars rest (Err x) e h new class l is same =
+      subst (λ y. Builds receives first run (Err y) now) (sym same)
+      (way_refused now vars rest e h new class l)
+
+-- want of memory says nothing
+pub no_memory : {S : Type 0} (receives : S → Call → S → Type 0) (first now : S) (run : Answer)
+    (r : Result (Unit {0}) EvalError) → IsErr r → IsErrAnd r (λ x. x ≡ E.NoMemory)
+    → Builds receives first run r now
+no_memory receives first now run (Ok done) is same = absurd (cc)
+no_memory receives first now run (Err x) is same =
+    subst (λ y. Builds receives first run (Err y) now) (sym same) tt
+
+plan_refused : (class : ClassView) (answer run : Answer) (e : EvalError) (new : Machine)
+    → plan_at_end answer ≡ plan_at_end run → Leads class answer (Err e) new → Plans run (Err e)
+plan_refused class answer run E.NoMemory new p l = tt
+plan_refused class answer run e new p l = sym p ∙ ap plan_at_end l
+
+-- the refusal of a step of a manager's run that is handed on
+pub plan_handed : (class : ClassView) (answer run : Answer) (r : Result Plan EvalError)
+    (e : EvalError) (new : Machine) → plan_at_end answer ≡ plan_at_end run
+    → Leads class answer (Err e) new → IsErr r → IsErrAnd r (λ x. x ≡ e) → Plans run r
+plan_handed class answer run (Ok plan) e new p l is same = absurd (cc)
+plan_handed class answer run (Err x) e new p l is same =
+    subst (λ y. Plans run (Err y)) (sym same) (plan_refused class answer run e new p l)
 
 -- before the first step
 pub way_begins : {S V : Type 0} (has_room : S → Call → Type 0)

@@ -11,6 +11,8 @@ pub use kernels::{ACC, DOUBLE, FOURTH, GUARD, LONG, NEXT, SELF, SQUARE, STENCIL,
 pub use projects::{RING, SPLIT_ADD};
 
 #[cfg(test)]
+mod fields;
+#[cfg(test)]
 mod nodes;
 #[cfg(test)]
 mod plans;

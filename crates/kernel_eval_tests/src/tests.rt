@@ -1,5 +1,6 @@
 // Worked sources: the kernels that they build, node by node, what managers build, and refusals.
 use crate::building::{Built, build_alone};
+use crate::fields::TWINS;
 use crate::kernels::{DOUBLE, ENDLESS};
 use crate::nodes::has_operands;
 use crate::plans::{EndOf, PROJECTS, Project};
@@ -8,6 +9,7 @@ use kernel_eval::eval_manager;
 use kernel_meaning::{End, Plan};
 use maxj_syntax::parse;
 use mx_base::Text;
+use std::alloc::Global;
 use std::process::Abort;
 use std::test::Fail;
 
@@ -126,14 +128,28 @@ const REFUSED: [(&str, &str); 5] = [
     ),
 ];
 
+// The kernel K of a source is refused with this line.
+fn expect_refused(rt: &impl Abort, alloc: Global, source: &str, line: &str) -> Result<(), Fail> {
+    let built = build_alone(alloc, source.as_bytes(), b"K")?;
+    match &built {
+        Built::Kernel(_) => assert!(rt; false, "{source}"),
+        Built::Refused(said) => assert!(rt; said.as_slice() == line.as_bytes(), "{source}"),
+    }
+    Ok(())
+}
+
 #[test]
 fn constructors_are_refused(rt: HostRuntime) -> Result<(), Fail> {
     for (source, line) in REFUSED {
-        let built = build_alone(rt.alloc(), source.as_bytes(), b"K")?;
-        match &built {
-            Built::Kernel(_) => assert!(rt; false, "{source}"),
-            Built::Refused(said) => assert!(rt; said.as_slice() == line.as_bytes(), "{source}"),
-        }
+        expect_refused(&rt, rt.alloc(), source, line)?;
+    }
+    Ok(())
+}
+
+#[test]
+fn fields_of_one_name_are_set_in_their_turns(rt: HostRuntime) -> Result<(), Fail> {
+    for (source, line) in TWINS {
+        expect_refused(&rt, rt.alloc(), source, line)?;
     }
     Ok(())
 }

@@ -7,7 +7,7 @@ use Rattle.maxj_syntax.specs.declared.tree.NodeKind.{NodeKind}
 use Rattle.maxj_syntax.specs.declared.tree.NodeKind.TheVariants as N
 use Rattle.kernel_meaning.specs.declared.state.State.{State}
 use Rattle.kernel_meaning.specs.declared.value.Declared.{Declared}
-use Rattle.kernel_meaning.specs.declared.value.Spot.TheVariants.{Variable}
+use Rattle.kernel_meaning.specs.declared.value.Spot.TheVariants.{Field}
 use Rattle.kernel_meaning.specs.Answer.{Next}
 use Rattle.kernel_meaning.specs.Constructors.{set_fields, members_of}
 use Rattle.kernel_meaning.specs.Plans.{number_of_trees}
@@ -22,21 +22,21 @@ use Rattle.kernel_machine.proofs.Places
 
 -- a field with its type
 pub field-typed : (cells : List Cell) (here : Place) (field : Branch) (type : Tree) (of : Declared)
-    (others : Trees) (state : State) (next : Next) → field.kind ≡ N.Field
+    (before : ℕ) (others : Trees) (state : State) (next : Next) → field.kind ≡ N.Field
     → trees_of cells field.id field.children.now
     ≡ Cons type (from_place 1 (trees_of cells field.id field.children.now))
     → declared_by type ≡ Ok of
-    → set_fields here (Cons (branch_tree cells field) others) state next
-    ≡ initial here field.span.from of (Variable field.word.now)
+    → set_fields here before (Cons (branch_tree cells field) others) state next
+    ≡ initial here field.span.from of (Field before)
     (from_place 1 (trees_of cells field.id field.children.now)) state
-    (λ state. set_fields here others state next)
-field-typed cells here field type of others state next kind parts typed =
+    (λ state. set_fields here (suc before) others state next)
+field-typed cells here field type of before others state next kind parts typed =
     by field.kind (trees_of cells field.id field.children.now) _ kind parts
   where
     by : (k : NodeKind) (trees inner : Trees) → k ≡ N.Field → trees ≡ Cons type inner
-        → set_fields here (Cons (Node k field.word.now field.span trees) others) state next
-        ≡ initial here field.span.from of (Variable field.word.now) inner state
-        (λ state. set_fields here others state next)
+        → set_fields here before (Cons (Node k field.word.now field.span trees) others) state next
+        ≡ initial here field.span.from of (Field before) inner state
+        (λ state. set_fields here (suc before) others state next)
     by k trees inner e f = rw (e, f, typed) refl
 
 -- the members are the parts of the class's node

@@ -50,7 +50,8 @@ pub other-than-statement : (t : Task)
     → ((repeat : Loop) (more : ℕ) → t ≢ T.LoopAgain repeat more)
     → (t ≢ T.Discard)
     → ((at : ℕ) → t ≢ T.GiveBack at)
-    → ((place : ℕ) (body : Option ℕ) (variables : List Binding) → t ≢ T.Fields place body variables)
+    → ((place before : ℕ) (body : Option ℕ) (variables : List Binding)
+    → t ≢ T.Fields place before body variables)
     → is_of_statement t ≡ false
 other-than-statement (T.Statements node place count) h _ _ _ _ _ _ _ _ =
     absurd (h node place count refl)
@@ -62,8 +63,8 @@ other-than-statement (T.LoopBody repeat more) _ _ _ _ h _ _ _ _ = absurd (h repe
 other-than-statement (T.LoopAgain repeat more) _ _ _ _ _ h _ _ _ = absurd (h repeat more refl)
 other-than-statement T.Discard _ _ _ _ _ _ h _ _ = absurd (h refl)
 other-than-statement (T.GiveBack at) _ _ _ _ _ _ _ h _ = absurd (h at refl)
-other-than-statement (T.Fields place body variables) _ _ _ _ _ _ _ _ h =
-    absurd (h place body variables refl)
+other-than-statement (T.Fields place before body variables) _ _ _ _ _ _ _ _ h =
+    absurd (h place before body variables refl)
 other-than-statement _ _ _ _ _ _ _ _ _ _ = refl
 
 -- nor what a variable is set to
@@ -99,7 +100,7 @@ no-other (T.LoopBody _ _) _ e _ _ _ _ _ _ = absurd (cc)
 no-other (T.LoopAgain _ _) _ e _ _ _ _ _ _ = absurd (cc)
 no-other T.Discard _ e _ _ _ _ _ _ = absurd (cc)
 no-other (T.GiveBack _) _ e _ _ _ _ _ _ = absurd (cc)
-no-other (T.Fields _ _ _) _ e _ _ _ _ _ _ = absurd (cc)
+no-other (T.Fields _ _ _ _) _ e _ _ _ _ _ _ = absurd (cc)
 
 -- no statement without statements inside
 pub other-than-alone : (kind : NodeKind)

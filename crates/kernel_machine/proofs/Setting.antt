@@ -21,17 +21,17 @@ use Rattle.std.proofs.Common.{
   sym,
   arith,
 }
-use Rattle.std.specs.Prelude.{Option, Bool, Result, Ok, Err, IfOk, slice_get, slice_index_or, slice_set, if◌then◌else◌}
+use Rattle.std.specs.Prelude.{Option, Bool, Result, Ok, Err, IfOk, slice_get, slice_index_or, slice_set, nat_eq, if◌then◌else◌}
 use Rattle.std.proofs.Common.{subst}
 use Rattle.std.specs.Str.{bytes_eq}
 use Rattle.kernel_meaning.specs.declared.state.Binding.{Binding}
 use Rattle.kernel_meaning.specs.declared.value.Value.{Value}
 use Rattle.kernel_meaning.specs.declared.state.State.{State}
 use Rattle.kernel_meaning.specs.Names.{bound_in, assigned, or_else, with_variable}
-use Rattle.kernel_meaning.specs.Arrays.{array_of, with_element}
+use Rattle.kernel_meaning.specs.Arrays.{value_of, array_of, with_element}
 use Rattle.kernel_rows.specs.Fit.{IsFit, AreFit}
 use Rattle.kernel_rows.specs.Kept.{AreBoundFit, AreArrays}
-use Rattle.kernel_meaning.specs.Places.{place_in, assigned_at}
+use Rattle.kernel_meaning.specs.Places.{place_in, bound_at, assigned_at}
 use Rattle.kernel_meaning.proofs.PlaceLaws.{
   place-bound,
   no-place-unbound,
@@ -52,18 +52,12 @@ assigned-if : (test : Bool) (b : Binding) (value : Value) (others bs : List Bind
 assigned-if true b value others bs v h k l = (v, k)
 assigned-if false b value others bs v h k l = (h, l)
 
-pub assigned-fit : (name : List ℕ) (value : Value) (bs : List Binding) → IsFit value
-    → AreBoundFit bs → AreBoundFit (assigned name value bs)
-assigned-fit name value [] v h = tt
-assigned-fit name value (b ∷ bs) v h =
-    assigned-if (bytes_eq b.name name) b value (assigned name value bs) bs v h.0 h.1 (assigned-fit
-    name value bs v h.1)
-
-pub assigned-at-fit : (name : List ℕ) (value : Value) (bs : List Binding) (place : ℕ)
-    → place_in name bs ≡ Some place → IsFit value → AreBoundFit bs
-    → AreBoundFit (assigned_at place value bs)
-assigned-at-fit name value bs place at v h =
-    subst AreBoundFit (sym (assigned-place name value bs place at)) (assigned-fit name value bs v h)
+pub assigned-at-fit : (place : ℕ) (value : Value) (bs : List Binding) → IsFit value
+    → AreBoundFit bs → AreBoundFit (assigned_at place value bs)
+assigned-at-fit place value [] v h = tt
+assigned-at-fit place value (b ∷ bs) v h =
+    assigned-if (nat_eq (length bs) place) b value (assigned_at place value bs) bs v h.0 h.1
+    (assigned-at-fit place value bs v h.1)
 
 -- the binding of a name is fit
 abbrev pub IsFitFound : Option Binding → Type 0
@@ -80,16 +74,30 @@ bound-fit name [] h = tt
 bound-fit name (b ∷ bs) h =
     found-if (bytes_eq b.name name) b (bound_in name bs) h.0 (bound-fit name bs h.1)
 
+at-fit : (place : ℕ) (bs : List Binding) → AreBoundFit bs → IsFitFound (bound_at place bs)
+at-fit place [] h = tt
+at-fit place (b ∷ bs) h =
+    found-if (nat_eq (length bs) place) b (bound_at place bs) h.0 (at-fit place bs h.1)
+
+fit-value : (o : Option Binding) → IsFitFound o → IsFit (value_of o)
+fit-value None h = tt
+fit-value (Some b) h = h
+
+pub field-fit : (place : ℕ) (fields : List Binding) → AreBoundFit fields
+    → IsFit (value_of (bound_at place fields))
+field-fit place fields h = fit-value (bound_at place fields) (at-fit place fields h)
+
 either-fit : (o other : Option Binding) → IsFitFound o → IsFitFound other
     → IsFitFound (or_else o other)
 either-fit None other h k = k
 either-fit (Some b) other h k = h
 
-pub variable-fit : (name : List ℕ) (variables fields : List Binding) (b : Binding)
+pub variable-fit : (name : List ℕ) (variables fields : List Binding)
     → AreBoundFit variables → AreBoundFit fields
-    → or_else (bound_in name variables) (bound_in name fields) ≡ Some b → IsFit b.value
-variable-fit name variables fields b h k e =
-    subst IsFitFound e (either-fit (bound_in name variables) (bound_in name fields)
+    → IsFit (value_of (or_else (bound_in name variables) (bound_in name fields)))
+variable-fit name variables fields h k =
+    fit-value (or_else (bound_in name variables) (bound_in name fields))
+    (either-fit (bound_in name variables) (bound_in name fields)
     (bound-fit name variables h) (bound-fit name fields k))
 
 -- elements that are set are fit, and as many

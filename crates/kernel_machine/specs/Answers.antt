@@ -152,21 +152,21 @@ IsSpotOf at array index state (Err e) =
 abbrev pub IsField : Branch → Bool → Type 0
 IsField member true = (member.kind ≡ N.Field) × (0 < length member.children.now)
 IsField member false =
-    (cells : List Cell) (here : Place) (others : Trees) (state : State) (next : Next) →
-    set_fields here (Cons (branch_tree cells member) others) state next
-    ≡ set_fields here others state next
+    (cells : List Cell) (here : Place) (before : ℕ) (others : Trees) (state : State)
+    (next : Next) → set_fields here before (Cons (branch_tree cells member) others) state next
+    ≡ set_fields here before others state next
 
 -- the next field from a place on, with the place behind it; those before it are none
 abbrev pub IsNextField : ClassView → ℕ → Option (ℕ × Branch) → Type 0
 IsNextField class from None =
-    (here : Place) (state : State) (next : Next) →
-    set_fields here (from_place from (members class)) state next ≡ next state
+    (here : Place) (before : ℕ) (state : State) (next : Next) →
+    set_fields here before (from_place from (members class)) state next ≡ next state
 IsNextField class from (Some (behind, member)) =
     (from < behind)
     × (behind ≤ number_of_trees (members class))
     × (member.kind ≡ N.Field)
     × (0 < length member.children.now)
-    × ((here : Place) (state : State) (next : Next) →
-    set_fields here (from_place from (members class)) state next
-    ≡ set_fields here
+    × ((here : Place) (before : ℕ) (state : State) (next : Next) →
+    set_fields here before (from_place from (members class)) state next
+    ≡ set_fields here before
     (Cons (branch_tree class.cells member) (from_place behind (members class))) state next)

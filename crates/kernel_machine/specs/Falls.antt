@@ -24,7 +24,7 @@ weight class (T.Operands _ _ _ _ _ _) = 48
 weight class (T.Indexed _ _ _) = 32
 weight class (T.Combine _ _ _) = 24
 weight class (T.Elements braces _ values) = elements_weight class braces (length values) - 8
-weight class (T.Fields place _ _) = 16 + 32 * (number_of_trees (members class) - place)
+weight class (T.Fields place _ _ _) = 16 + 32 * (number_of_trees (members class) - place)
 weight class _ = 16
 
 abbrev pub weights : ClassView → List Task → ℕ

@@ -34,7 +34,7 @@ IsFitTask class (T.Elements node _ values) =
     AreFit values × HaveSoMany class node (suc (length values))
 IsFitTask class (T.Indexed _ array _) = IsFit array
 IsFitTask class (T.Combine _ old _) = IsFit old
-IsFitTask class (T.Fields _ _ variables) = AreBoundFit variables
+IsFitTask class (T.Fields place before _ variables) = (before ≤ place) × AreBoundFit variables
 IsFitTask class _ = Unit {0}
 
 abbrev pub AreFitTasks : ClassView → List Task → Type 0

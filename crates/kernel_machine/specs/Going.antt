@@ -129,8 +129,8 @@ go class here (T.Combine node old spot ∷ tasks) value state back =
     value state (λ state. go class here tasks V.Nothing state back)
 go class here (T.Store at spot ∷ tasks) value state back =
     put at spot value state (λ state. go class here tasks V.Nothing state back)
-go class here (T.Fields place body variables ∷ tasks) value state back =
-    fields_left class here place body variables state
+go class here (T.Fields place before body variables ∷ tasks) value state back =
+    fields_left class here place before body variables state
     (λ state. go class here tasks V.Nothing state back) back
 
 -- the callers go on with a value

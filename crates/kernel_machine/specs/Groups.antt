@@ -25,7 +25,7 @@ is_of_statement (T.LoopBody _ _) = true
 is_of_statement (T.LoopAgain _ _) = true
 is_of_statement T.Discard = true
 is_of_statement (T.GiveBack _) = true
-is_of_statement (T.Fields _ _ _) = true
+is_of_statement (T.Fields _ _ _ _) = true
 is_of_statement _ = false
 
 -- a statement without statements inside

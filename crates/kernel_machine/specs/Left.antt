@@ -292,9 +292,9 @@ element_at cells here node of values value state next =
     elements_left here of (tree_of cells node) (suc (length values)) (values ++ value ∷ []) state
     next))
 
--- the fields from a place on, and then the constructor's block
-abbrev pub fields_left : ClassView → Place → ℕ → Option ℕ → List Binding → State → Next → Then
+-- the fields from a place on, before which so many stand, and then the constructor's block
+abbrev pub fields_left : ClassView → Place → ℕ → ℕ → Option ℕ → List Binding → State → Next → Then
     → Answer
-fields_left class here place body variables state next back =
-    set_fields here (from_place place (members class)) state (λ state.
+fields_left class here place before body variables state next back =
+    set_fields here before (from_place place (members class)) state (λ state.
     block_of here (tree_of class.cells body) (record state { variables = variables }) next back)

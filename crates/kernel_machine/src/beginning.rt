@@ -41,6 +41,7 @@ impl Machine {
         let mut tasks = Stack::new(alloc);
         tasks.push(Task::Fields {
             place: 0,
+            before: 0,
             body: entered.block,
             variables: entered.variables,
         })?;

@@ -192,9 +192,10 @@ impl Machine {
             Task::GiveBack { at } => self.given_back(class, at, value),
             Task::Fields {
                 place,
+                before,
                 body,
                 variables,
-            } => self.fields(alloc, class, place, body, variables),
+            } => self.fields(class, place, before, body, variables),
             task => self.go_on_setting(alloc, class, task, value),
         }
     }

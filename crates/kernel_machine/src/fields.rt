@@ -1,5 +1,5 @@
 // The fields of a class, before the block of its constructor.
-ghost use Rattle.std.specs.Prelude.{◌≡◌, ◌+◌, ◌*◌, ◌-◌, ◌<◌, OnOk, length};
+ghost use Rattle.std.specs.Prelude.{◌≡◌, ◌+◌, ◌*◌, ◌-◌, ◌<◌, ◌≤◌, OnOk, length};
 ghost use Rattle.kernel_rows.specs.Kept.{AreBoundFit};
 ghost use Rattle.kernel_meaning.specs.Constructors.{set_fields};
 ghost use Rattle.kernel_meaning.specs.Plans.{number_of_trees};
@@ -15,29 +15,29 @@ ghost use Rattle.kernel_machine.specs.Falls.{CostsBelow, idle};
 ghost use Rattle.kernel_machine.specs.Fit.{IsFitMachine};
 
 use crate::machine::{Event, Machine};
-use crate::parts::{name_of, node_at, part, type_at};
+use crate::parts::{node_at, part, type_at};
 use crate::task::{Part, Task};
 use kernel_meaning::{Bindings, EvalError, Spot};
 use kernel_plans::{Branch, Class};
 use maxj_syntax::NodeKind;
-use std::alloc::Global;
 
 impl Machine {
-    // The next field from a place on gets its initial value; behind the last one the constructor's
-    // block begins, with these variables.
+    // The next field from a place on, before which so many stand, gets its initial value; behind the
+    // last one the constructor's block begins, with these variables.
     #[tactic(auto, unfolding(crate::specs::Going::go, kernel_meaning::specs::Run::expr))]
     pub(crate) fn fields(
         &mut self,
-        alloc: Global,
         class: &Class<'_>,
         from: usize,
+        before: usize,
         body: Part,
         variables: Bindings,
     ) -> Result<Event, EvalError>
+        requires many { before ≤ from }
         requires variables { AreBoundFit variables }
         requires fit { IsFitMachine class.now self.old }
-        ensures does { Leads class.now (fields_left class.now (standing class.now self.old) from body
-            variables self.old.state (after class.now self.old) (leaving class.now self.old))
+        ensures does { Leads class.now (fields_left class.now (standing class.now self.old) from before
+            body variables self.old.state (after class.now self.old) (leaving class.now self.old))
             result self.new }
         ensures falls { CostsBelow class.now (idle class.now self.old + 18
             + 32 * (number_of_trees (members class.now) - from)) result self.new }
@@ -47,25 +47,27 @@ impl Machine {
             self.state.variables = variables;
             return self.body(class, body);
         };
-        self.field(alloc, class, behind, body, variables, &field)
+        self.field(class, behind, before, body, variables, &field)
     }
 
-    // A field, before this place of the members, gets its initial value.
+    // A field, before this place of the members and behind so many other fields, gets its initial
+    // value.
     #[tactic(auto, unfolding(crate::specs::Going::go, kernel_meaning::specs::Run::expr))]
     fn field(
         &mut self,
-        alloc: Global,
         class: &Class<'_>,
         behind: usize,
+        before: usize,
         body: Part,
         variables: Bindings,
         field: &Branch<'_>,
     ) -> Result<Event, EvalError>
         requires kind { field.now.kind ≡ NodeKind.Field }
         requires typed { 0 < length field.now.children.now }
+        requires many { before < behind }
         requires variables { AreBoundFit variables }
         requires fit { IsFitMachine class.now self.old }
-        ensures does { Leads class.now (set_fields (standing class.now self.old)
+        ensures does { Leads class.now (set_fields (standing class.now self.old) before
             (Cons (branch_tree class.now.cells field.now) (from_place behind
             (members class.now))) self.old.state (λ state. block_of (standing class.now self.old)
             (tree_of class.now.cells body) (record state { variables = variables })
@@ -80,11 +82,11 @@ impl Machine {
         };
         self.tasks.push(Task::Fields {
             place: behind,
+            before: before + 1,
             body,
             variables,
         })?;
-        let spot = Spot::Variable(name_of(alloc, field.word)?);
-        self.initial(class, field.span.from, of, spot, field)
+        self.initial(class, field.span.from, of, Spot::Field(before), field)
     }
 }
 

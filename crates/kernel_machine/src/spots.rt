@@ -3,12 +3,12 @@ ghost use Rattle.std.specs.Prelude.{◌≡◌, IfOk, length, slice_get, slice_se
 ghost use Rattle.std.specs.Option.{option_copied};
 ghost use Rattle.kernel_rows.specs.Fit.{IsFit};
 ghost use Rattle.kernel_rows.specs.Kept.{IsKept};
-ghost use Rattle.kernel_meaning.specs.Arrays.{content, array_of, with_content, with_element};
+ghost use Rattle.kernel_meaning.specs.Arrays.{value_of, content, array_of, with_content, with_element};
 ghost use Rattle.kernel_meaning.specs.Ways.{type_at};
 ghost use Rattle.kernel_machine.specs.Answers.{IsSet, IsSpot, IsSpotOf};
 
 use crate::parts::present;
-use kernel_meaning::{Declared, EvalError, Spot, State, Value};
+use kernel_meaning::{Binding, Declared, EvalError, Spot, State, Value};
 use kernel_plans::variable;
 use kernel_rows::copy_value;
 use mx_base::{List, NoMemory, Text};
@@ -22,16 +22,24 @@ pub(crate) fn content(alloc: Global, state: &State, spot: &Spot) -> Result<Value
     ensures fit { IfOk result IsFit }
 {
     match spot {
-        Spot::Variable(name) => match variable(name.as_bytes(), state) {
-            Some(binding) => copy_value(alloc, &binding.value),
-            None => Ok(Value::Nothing),
-        },
+        Spot::Variable(name) => copy_bound(alloc, variable(name.as_bytes(), state)),
+        Spot::Field(place) => copy_bound(alloc, state.fields.at(*place)),
         Spot::Element { array, place, .. } => {
             match element_of(&state.arrays, *array as usize, *place as usize) {
                 Some(value) => copy_value(alloc, value),
                 None => Ok(Value::Nothing),
             }
         }
+    }
+}
+
+// A copy of the value of a binding, if there is one.
+fn copy_bound(alloc: Global, binding: Option<&Binding>) -> Result<Value, NoMemory>
+    ensures { IfOk result (λ value. value ≡ value_of (option_copied binding.entry)) }
+{
+    match binding {
+        Some(binding) => copy_value(alloc, &binding.value),
+        None => Ok(Value::Nothing),
     }
 }
 
@@ -63,6 +71,7 @@ pub(crate) fn type_of(state: &State, spot: &Spot) -> Option<Declared>
 {
     match spot {
         Spot::Variable(name) => Some(variable(name.as_bytes(), state)?.of),
+        Spot::Field(place) => Some(state.fields.at(*place)?.of),
         Spot::Element { of, .. } => Some(*of),
     }
 }
@@ -139,6 +148,11 @@ pub(crate) fn store(alloc: Global, state: &mut State, spot: Spot, value: Value)
                 }
             }
         },
+        Spot::Field(place) => {
+            if place < state.fields.len() {
+                state.fields.set(place, value);
+            }
+        }
         Spot::Element { array, place, .. } => {
             store_element(
                 alloc,

@@ -154,9 +154,11 @@ pub enum Task {
         at: u32,
         spot: Spot,
     },
-    /// The fields from a place on, and then the block of the constructor with these variables.
+    /// The fields from a place of the members on, before which so many fields stand, and then the
+    /// block of the constructor with these variables.
     Fields {
         place: usize,
+        before: usize,
         body: Part,
         variables: Bindings,
     },

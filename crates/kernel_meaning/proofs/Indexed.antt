@@ -1,9 +1,11 @@
 -- Bindings that are added, taken off or set, and found by their names as before.
-use Rattle.std.proofs.Common.{◌≡◌, ◌∙◌, ◌<◌, ◌++◌, ℕ, zero, suc, List, [], ◌∷◌, length, Some, IsSome, Bool, true, false, cond, refl, ap, sym, subst, arith}
-use Rattle.std.specs.Prelude.{reverse, nat_eq, slice_index_or, slice_set, if◌then◌else◌}
+use Rattle.std.proofs.Common.{◌≡◌, ◌∙◌, ◌<◌, ◌++◌, ℕ, zero, suc, List, [], ◌∷◌, length, Some, None, IsSome, Bool, true, false, cond, refl, ap, sym, subst, arith}
+use Rattle.std.specs.Prelude.{Option, reverse, nat_eq, slice_get, slice_index_or, slice_set, if◌then◌else◌}
+use Rattle.std.specs.Option.{option_map}
 use Rattle.std.specs.Str.{bytes_eq}
 use Rattle.std.specs.Global.{Vec}
 use Rattle.std.specs.HashMap.{HashMap}
+use Rattle.std.proofs.lemmas.Bool.Decides.{nat_tests}
 use Rattle.std.proofs.lemmas.List.{length-map, length-reverse, reverse-append, reverse-reverse}
 use Rattle.std.proofs.Math.ListN.{get_or-append}
 use Rattle.std.proofs.Math.Seq.{get_or-append_seam}
@@ -11,7 +13,8 @@ use Rattle.text_scan.proofs.ByteTests.{bytes_refl, bytes_same}
 use Rattle.kernel_meaning.specs.declared.bindings.Entry.{Entry}
 use Rattle.kernel_meaning.specs.declared.value.Value.{Value}
 use Rattle.kernel_meaning.specs.Names.{bound_in}
-use Rattle.kernel_meaning.specs.Places.{place_in, assigned_at}
+use Rattle.kernel_meaning.specs.declared.state.Binding.{Binding}
+use Rattle.kernel_meaning.specs.Places.{place_in, bound_at, assigned_at}
 use Rattle.kernel_meaning.specs.Index.{plain, bindings_of, found_in, HaveHidden, IsIndex}
 use Rattle.kernel_meaning.proofs.PlaceLaws.{nat-same, nat-other, place-below}
 use Rattle.kernel_meaning.proofs.Reversed.{reverse-set}
@@ -233,3 +236,40 @@ indexed-set items place e value places below is index =
           subst HaveHidden (sym after) (seam-hidden h.older e value h.newer
           (subst HaveHidden h.whole index.hidden));
     }
+
+-- the binding of the entry at a place
+abbrev pub binding_at : Option Entry → Option Binding
+binding_at found = option_map (λ e. e.binding) found
+
+last-at : (es : List Entry) (e : Entry) (place : ℕ) → binding_at (slice_get (es ++ e ∷ []) place)
+    ≡ (if nat_eq (length es) place then Some e.binding else binding_at (slice_get es place))
+last-at [] e zero = refl
+last-at [] e (suc place) =
+    let other : nat_eq 0 (suc place) ≡ false = grind (arith, nat_tests) in
+    sym (ap (λ t. if t then Some e.binding else None) other)
+last-at (a ∷ es) e zero =
+    let other : nat_eq (suc (length es)) 0 ≡ false = nat-other (suc (length es)) 0 (omega arith) in
+    sym (ap (λ t. if t then Some e.binding else Some a.binding) other)
+last-at (a ∷ es) e (suc place) =
+    let same : nat_eq (suc (length es)) (suc place) ≡ nat_eq (length es) place =
+    grind (arith, nat_tests) in
+    last-at es e place
+    ∙ sym (ap (λ t. if t then Some e.binding else binding_at (slice_get es place)) same)
+
+at-newest : (es : List Entry) (place : ℕ)
+    → binding_at (slice_get (reverse es) place) ≡ bound_at place (plain es)
+at-newest [] place = refl
+at-newest (e ∷ es) place =
+    let long : length (reverse es) ≡ length (plain es) =
+    length-reverse es ∙ sym (length-map es (λ e. e.binding)) in
+    ap (λ l. binding_at (slice_get l place)) (reverse-append (e ∷ []) es)
+    ∙ last-at (reverse es) e place
+    ∙ ap (λ n. if nat_eq n place then Some e.binding else binding_at (slice_get (reverse es) place))
+    long
+    ∙ ap (λ b. if nat_eq (length (plain es)) place then Some e.binding else b) (at-newest es place)
+
+pub at-place : (items : List Entry) (place : ℕ) (bs : List Binding) → bindings_of items ≡ bs
+    → binding_at (slice_get items place) ≡ bound_at place bs
+at-place items place bs is =
+    ap (λ l. binding_at (slice_get l place)) (sym (reverse-reverse items))
+    ∙ at-newest (reverse items) place ∙ ap (bound_at place) is

@@ -7,6 +7,8 @@ pub mod ManagerLaws
 pub mod PlanLaws
 pub mod TypingLaws
 pub mod TypingFaults
+pub mod FirstFaults
+pub mod LiteralBits
 pub mod DigitLaws
 pub mod RowLaws
 pub mod RowsGood

@@ -3,6 +3,7 @@ use Rattle.std.proofs.Common.{
   ◌≡◌,
   ◌∙◌,
   ◌<◌,
+  ◌≤◌,
   ℕ,
   suc,
   List,
@@ -110,3 +111,13 @@ no-place-assigned name value (b ∷ bs) e =
         → (if t then new ∷ bs else b ∷ assigned name value bs) ≡ b ∷ bs
     by true older f = absurd (cc)
     by false older f = ap (λ l. b ∷ l) (older f)
+
+-- past the last place nothing is assigned
+pub past-assigned : (place : ℕ) (value : Value) (bs : List Binding) → length bs ≤ place
+    → assigned_at place value bs ≡ bs
+past-assigned place value [] h = refl
+past-assigned place value (b ∷ bs) h =
+    let other : nat_eq (length bs) place ≡ false = grind (arith, nat_tests) in
+    ap (λ t. if t then record { name = b.name; of = b.of; value = value } ∷ bs
+    else b ∷ assigned_at place value bs) other
+    ∙ ap (λ l. b ∷ l) (past-assigned place value bs (omega arith))

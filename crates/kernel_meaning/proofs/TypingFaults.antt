@@ -103,11 +103,11 @@ all_true p P f [] h = refl
 all_true p P f (x ∷ xs) h = both (p x) (list_all p xs) (f x (All-head P x xs h))
     (all_true p P f xs (All-tail P x xs h))
 
-same_true : (types : List StreamType) → AllSame types → all_same types ≡ true
+pub same_true : (types : List StreamType) → AllSame types → all_same types ≡ true
 same_true types h = all_true (λ t. same_type t (first types)) (λ t. t ≡ first types)
     (λ t e. subst (λ u. same_type t u ≡ true) e (same_self t)) types h
 
-for_true : (op : Op) (types : List StreamType) → IsFor op types → is_for op types ≡ true
+pub for_true : (op : Op) (types : List StreamType) → IsFor op types → is_for op types ≡ true
 for_true O.Mux types h = h
 for_true O.Cast types h = h
 for_true O.Round types h = h
@@ -117,7 +117,7 @@ narrow_at : (b : Bool) (n : ℕ) → (IsTrue b → n ≤ 64) → (if b then nat_
 narrow_at true n h = let l = h refl in grind (arith, nat_tests)
 narrow_at false n h = refl
 
-narrow_true : (op : Op) (types : List StreamType) → IsNarrow op types → is_narrow op types ≡ true
+pub narrow_true : (op : Op) (types : List StreamType) → IsNarrow op types → is_narrow op types ≡ true
 narrow_true O.Mul types h = narrow_at (is_fix (first types)) (width_of (first types)) (h refl)
 narrow_true _ types h = refl
 
@@ -125,7 +125,7 @@ between_true : (z : ℤ) → pos 0 ≤ℤ z → z ≤ℤ pos 127 → (int_le (po
 between_true (pos n) a b = grind (arith, nat_tests)
 between_true (negsuc n) a b = absurd (omega arith)
 
-range_at : (b : Bool) (z : ℤ) → (IsTrue b → (pos 0 ≤ℤ z) × (z ≤ℤ pos 127))
+pub range_at : (b : Bool) (z : ℤ) → (IsTrue b → (pos 0 ≤ℤ z) × (z ≤ℤ pos 127))
     → (if b then int_le (pos 0) z && int_le z (pos 127) else true) ≡ true
 range_at true z h = between_true z (h refl).0 (h refl).1
 range_at false z h = refl
@@ -135,7 +135,7 @@ choose_at : (n w : ℕ) → 2 ≤ n → n ≤ 64 → n ≤ 2 ^ w
 choose_at n w a b c = both (nat_le 2 n) _ (grind (arith, nat_tests))
     (both (nat_le n 64) (nat_le n (2 ^ w)) (grind (arith, nat_tests)) (grind (arith, nat_tests)))
 
-choose_true : (op : Op) (types : List StreamType) (n : ℕ) → CanChoose op types n
+pub choose_true : (op : Op) (types : List StreamType) (n : ℕ) → CanChoose op types n
     → can_choose op types n ≡ true
 choose_true O.Mux types n h = let k = h refl in choose_at n (width_of (first types)) k.0 k.1 k.2
 choose_true _ types n h = refl

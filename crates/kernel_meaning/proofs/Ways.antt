@@ -30,6 +30,7 @@ use Rattle.std.specs.Prelude.{
   is_some,
   slice_get,
   slice_set,
+  nat_eq,
   nat_le,
 }
 use Rattle.std.specs.Str.{bytes_eq}
@@ -37,12 +38,13 @@ use Rattle.kernel_meaning.specs.declared.value.Declared.{Declared}
 use Rattle.kernel_meaning.specs.declared.value.Value.{Value}
 use Rattle.kernel_meaning.specs.declared.value.Value.TheVariants as V
 use Rattle.kernel_meaning.specs.declared.value.Spot.{Spot}
-use Rattle.kernel_meaning.specs.declared.value.Spot.TheVariants.{Variable, Element}
+use Rattle.kernel_meaning.specs.declared.value.Spot.TheVariants.{Variable, Field, Element}
 use Rattle.kernel_meaning.specs.declared.state.Binding.{Binding}
 use Rattle.kernel_meaning.specs.declared.state.State.{State}
 use Rattle.kernel_meaning.specs.declared.error.EvalError.TheVariants as E
 use Rattle.kernel_meaning.specs.Names.{bound_in, or_else, declared, assigned, assigned_in}
 use Rattle.kernel_meaning.specs.Arrays.{array_of, content, with_content, value_of}
+use Rattle.kernel_meaning.specs.Places.{bound_at, assigned_at}
 use Rattle.kernel_meaning.specs.Answer.{Answer, Then, Next}
 use Rattle.kernel_meaning.specs.Ways.{
   picked,
@@ -185,6 +187,15 @@ found so_far name (b ∷ bs) h =
     IsHeld so_far (value_of (if t then Some b else bound_in name bs)))
     [ true ↦ h.0 | false ↦ found so_far name bs h.1 ]
 
+found_at : {library : Library} (so_far : History library) (place : ℕ) (bs : List Binding)
+    → AreBound so_far bs
+    → IsHeld so_far (value_of (bound_at place bs))
+found_at so_far place [] h = tt
+found_at so_far place (b ∷ bs) h =
+    elim (nat_eq (length bs) place) as (λ t.
+    IsHeld so_far (value_of (if t then Some b else bound_at place bs)))
+    [ true ↦ h.0 | false ↦ found_at so_far place bs h.1 ]
+
 found_else : {library : Library} (so_far : History library) (first second : Option Binding)
     → IsHeld so_far (value_of first)
     → IsHeld so_far (value_of second) → IsHeld so_far (value_of (or_else first second))
@@ -215,6 +226,7 @@ pub content_sound : {library : Library} (so_far : History library) (spot : Spot)
 content_sound so_far (Variable name) state s =
     found_else so_far (bound_in name state.variables) (bound_in name state.fields)
     (found so_far name state.variables s.variables) (found so_far name state.fields s.fields)
+content_sound so_far (Field place) state s = found_at so_far place state.fields s.fields
 content_sound so_far (Element n place of) state s =
     at_place so_far (array_of state.arrays n) place (array_sound so_far state.arrays n s.arrays)
     (slice_get (array_of state.arrays n) place) refl
@@ -229,6 +241,18 @@ assigned_sound so_far name value (b ∷ bs) v h =
     ∷ assigned name value bs)) [
       | true ↦ (v, h.1)
       | false ↦ (h.0, assigned_sound so_far name value bs v h.1)
+    ]
+
+assigned_at_sound : {library : Library} (so_far : History library) (place : ℕ) (value : Value)
+    (bs : List Binding)
+    → IsHeld so_far value → AreBound so_far bs → AreBound so_far (assigned_at place value bs)
+assigned_at_sound so_far place value [] v h = tt
+assigned_at_sound so_far place value (b ∷ bs) v h =
+    elim (nat_eq (length bs) place) as (λ t.
+    AreBound so_far (if t then record { name = b.name; of = b.of; value = value } ∷ bs else b
+    ∷ assigned_at place value bs)) [
+      | true ↦ (v, h.1)
+      | false ↦ (h.0, assigned_at_sound so_far place value bs v h.1)
     ]
 
 variable_sound : {library : Library} (so_far : History library) (own : Bool) (name : List ℕ)
@@ -276,6 +300,14 @@ pub stored_sound : {library : Library} (so_far : History library) (spot : Spot) 
     → IsHeld so_far value → Sound so_far state → Sound so_far (with_content spot value state)
 stored_sound so_far (Variable name) value state v s =
     variable_sound so_far (is_some (bound_in name state.variables)) name value state v s
+stored_sound so_far (Field place) value state v s = record {
+  made = s.made;
+  variables = s.variables;
+  fields = assigned_at_sound so_far place value state.fields v s.fields;
+  arrays = s.arrays;
+  digits = s.digits;
+  plan = s.plan;
+}
 stored_sound so_far (Element n place of) value state v s = record {
   made = s.made;
   variables = s.variables;

@@ -26,7 +26,7 @@ use Rattle.kernel_meaning.specs.declared.value.Declared.{Declared}
 use Rattle.kernel_meaning.specs.declared.value.Value.{Value}
 use Rattle.kernel_meaning.specs.declared.value.Value.TheVariants as V
 use Rattle.kernel_meaning.specs.declared.value.Spot.{Spot}
-use Rattle.kernel_meaning.specs.declared.value.Spot.TheVariants.{Variable}
+use Rattle.kernel_meaning.specs.declared.value.Spot.TheVariants.{Variable, Field}
 use Rattle.kernel_meaning.specs.declared.state.Binding.{Binding}
 use Rattle.kernel_meaning.specs.declared.state.State.{State}
 use Rattle.kernel_meaning.specs.declared.row.Row.{Row}
@@ -537,16 +537,18 @@ module _ (here : Place) (g : GoodCall here.library here.call) where
   good_body (Node _ word span ts) so_far state next back s h b =
       record { lawful = tt {0}; plan = tt {0}; told = tt {0} }
 
-  pub good_fields : (ms : Trees) (so_far : History here.library) (state : State) (next : Next)
-      → Sound so_far state → GoodNext so_far next → Good so_far (set_fields here ms state next)
-  good_fields Nil so_far state next s h = h so_far (at_once so_far) state s
-  good_fields (Cons (Node N.Field name span (Cons type ts)) ms) so_far state next s h =
+  pub good_fields : (before : ℕ) (ms : Trees) (so_far : History here.library) (state : State)
+      (next : Next) → Sound so_far state → GoodNext so_far next
+      → Good so_far (set_fields here before ms state next)
+  good_fields before Nil so_far state next s h = h so_far (at_once so_far) state s
+  good_fields before (Cons (Node N.Field name span (Cons type ts)) ms) so_far state next s h =
       good_typed (declared_by type) so_far state _ s
-      (λ of c1 l1 state1 s1. good_initial span.from of (Variable name) ts c1 state1 _ s1
+      (λ of c1 l1 state1 s1. good_initial span.from of (Field before) ts c1 state1 _ s1
       (λ c2 l2 state2 s2.
-      good_fields ms c2 state2 next s2
+      good_fields (suc before) ms c2 state2 next s2
       (next_later so_far c2 next (and_later so_far c1 c2 l1 l2) h)))
-  good_fields (Cons _ ms) so_far state next s h = good_fields ms so_far state next s h
+  good_fields before (Cons _ ms) so_far state next s h =
+      good_fields before ms so_far state next s h
 
 -- Bodies of methods.
 
@@ -683,7 +685,7 @@ built_good : (here : Place) (members : Trees) (r : Result Body EvalError)
 built_good here members (Err e) so_far state g b s =
     record { lawful = tt {0}; plan = tt {0}; told = b }
 built_good here members (Ok body) so_far state g b s =
-    good_fields here g members so_far state _ s (λ later l state2 s2.
+    good_fields here g 0 members so_far state _ s (λ later l state2 s2.
     good_body here g body.block later (record state2 { variables = body.variables }) _ _
     (with_vars later state2 body.variables (bound_later so_far later body.variables l b) s2)
     (λ c _ state3 s3. finished_good c state3 s3) (λ c _ _ state3 _ s3. finished_good c state3 s3))

@@ -19,7 +19,7 @@ use Rattle.std.specs.Prelude.{
   ◌*◌,
   slice_set,
 }
-use Rattle.kernel_meaning.specs.declared.value.Spot.TheVariants.{Variable, Element}
+use Rattle.kernel_meaning.specs.declared.value.Spot.TheVariants.{Variable, Field, Element}
 use Rattle.kernel_meaning.specs.declared.value.Value.{Value}
 use Rattle.kernel_meaning.specs.declared.value.Spot.{Spot}
 use Rattle.kernel_meaning.specs.declared.state.State.{State}
@@ -27,6 +27,7 @@ use Rattle.kernel_meaning.specs.declared.state.Binding.{Binding}
 use Rattle.kernel_meaning.specs.declared.value.Declared.{Declared}
 use Rattle.kernel_meaning.specs.declared.value.Value.TheVariants as V
 use Rattle.kernel_meaning.specs.Names.{variable, with_variable}
+use Rattle.kernel_meaning.specs.Places.{bound_at, assigned_at}
 
 -- the elements of the array of this number
 abbrev pub array_of : List (List Value) → ℕ → List Value
@@ -47,11 +48,14 @@ value_of (Some b) = b.value
 
 abbrev pub content : Spot → State → Value
 content (Variable name) state = value_of (variable name state)
+content (Field place) state = value_of (bound_at place state.fields)
 content (Element n place of) state =
     elim (slice_get (array_of state.arrays n) place) [ None ↦ V.Nothing | Some value ↦ value ]
 
 abbrev pub with_content : Spot → Value → State → State
 with_content (Variable name) value state = with_variable name value state
+with_content (Field place) value state =
+    record state { fields = assigned_at place value state.fields }
 with_content (Element n place of) value state =
     record state { arrays = with_element state.arrays n place value }
 

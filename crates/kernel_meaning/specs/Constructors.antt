@@ -3,6 +3,7 @@ use Rattle.std.specs.Prelude.{
   ◌==◌,
   ℕ,
   ◌+◌,
+  suc,
   List,
   [],
   ◌∷◌,
@@ -20,7 +21,7 @@ use Rattle.std.specs.Prelude.{
 use Rattle.maxj_syntax.specs.Tree.{Tree, Node, Trees, Nil, Cons, ClassTree}
 use Rattle.maxj_syntax.specs.declared.tree.NodeKind.TheVariants as N
 use Rattle.kernel_meaning.specs.declared.error.EvalError.{EvalError}
-use Rattle.kernel_meaning.specs.declared.value.Spot.TheVariants.{Variable}
+use Rattle.kernel_meaning.specs.declared.value.Spot.TheVariants.{Field}
 use Rattle.kernel_meaning.specs.declared.value.Value.{Value}
 use Rattle.kernel_meaning.specs.declared.state.State.{State}
 use Rattle.kernel_meaning.specs.declared.state.Binding.{Binding}
@@ -54,14 +55,15 @@ abbrev pub all_ahead : Trees → List Binding → List Binding
 all_ahead Nil fields = fields
 all_ahead (Cons member members) fields = all_ahead members (ahead member fields)
 
--- the fields get their initial values in order
-abbrev pub set_fields : Place → Trees → State → Next → Answer
-set_fields here Nil state next = next state
-set_fields here (Cons (Node N.Field name span (Cons type trees)) members) state next =
+-- the fields among these members get their initial values in order, each its own one; so many fields
+-- stand before them
+abbrev pub set_fields : Place → ℕ → Trees → State → Next → Answer
+set_fields here before Nil state next = next state
+set_fields here before (Cons (Node N.Field name span (Cons type trees)) members) state next =
     typed (declared_by type) state (λ of state.
-    initial here span.from of (Variable name) trees state
-    (λ state. set_fields here members state next))
-set_fields here (Cons _ members) state next = set_fields here members state next
+    initial here span.from of (Field before) trees state
+    (λ state. set_fields here (suc before) members state next))
+set_fields here before (Cons _ members) state next = set_fields here before members state next
 
 -- the constructor among the members: its place, and its parameters with the block behind them
 abbrev pub ctor_of : Trees → Option (ℕ × Trees)
@@ -73,7 +75,7 @@ ctor_of (Cons _ members) = ctor_of members
 abbrev pub built_by : Place → Trees → Result Body EvalError → State → Answer
 built_by here members (Err e) state = Refused e
 built_by here members (Ok body) state =
-    set_fields here members state (λ state.
+    set_fields here 0 members state (λ state.
     block_of here body.block (record state { variables = body.variables }) Finished (λ _. Finished))
 
 -- nothing is built yet, by a manager or by none

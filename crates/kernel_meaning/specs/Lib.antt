@@ -2,6 +2,7 @@ pub mod Values
 pub mod Names
 pub mod Arrays
 pub mod Typing
+pub mod Arithmetic
 pub mod Answer
 pub mod Outcomes
 pub mod HostRows

@@ -20,6 +20,11 @@ abbrev pub place_in : List ℕ → List Binding → Option ℕ
 place_in name [] = None
 place_in name (b ∷ bs) = if bytes_eq b.name name then Some (length bs) else place_in name bs
 
+-- the binding at a place
+abbrev pub bound_at : ℕ → List Binding → Option Binding
+bound_at place [] = None
+bound_at place (b ∷ bs) = if nat_eq (length bs) place then Some b else bound_at place bs
+
 -- the binding at a place has the value
 abbrev pub assigned_at : ℕ → Value → List Binding → List Binding
 assigned_at place value [] = []

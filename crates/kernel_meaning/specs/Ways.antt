@@ -36,7 +36,7 @@ use Rattle.maxj_syntax.specs.declared.tree.NodeKind.TheVariants as N
 use Rattle.kernel_meaning.specs.declared.row.Sign.{Sign}
 use Rattle.kernel_meaning.specs.declared.value.Base.{Base}
 use Rattle.kernel_meaning.specs.declared.row.Row.{Row}
-use Rattle.kernel_meaning.specs.declared.value.Spot.TheVariants.{Variable, Element}
+use Rattle.kernel_meaning.specs.declared.value.Spot.TheVariants.{Variable, Field, Element}
 use Rattle.kernel_meaning.specs.declared.value.Value.{Value}
 use Rattle.kernel_meaning.specs.declared.value.Spot.{Spot}
 use Rattle.kernel_meaning.specs.declared.state.State.{State}
@@ -45,6 +45,7 @@ use Rattle.kernel_meaning.specs.declared.error.EvalError.TheVariants as E
 use Rattle.kernel_meaning.specs.declared.value.Value.TheVariants as V
 use Rattle.kernel_meaning.specs.Names.{bound_in, variable, declared}
 use Rattle.kernel_meaning.specs.Plans.{OperandPlan, Fault, Reads, AddsKernel}
+use Rattle.kernel_meaning.specs.Places.{bound_at}
 use Rattle.kernel_meaning.specs.Arrays.{array_of, with_content}
 use Rattle.kernel_meaning.specs.Answer.{Answer, Refused, Then, Next, Outcome, Fails, chosen, needs}
 use Rattle.kernel_meaning.specs.SignRows.{between}
@@ -97,6 +98,7 @@ stored at of spot value state next =
 abbrev pub type_at : Spot → State → Option Declared
 type_at (Element n place of) state = Some of
 type_at (Variable name) state = option_map (λ b. b.of) (variable name state)
+type_at (Field place) state = option_map (λ b. b.of) (bound_at place state.fields)
 
 abbrev pub stored_at : ℕ → Option Declared → Spot → Value → State → Next → Answer
 stored_at at None spot value state next = Refused (E.UnknownName at)

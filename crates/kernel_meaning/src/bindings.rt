@@ -17,12 +17,12 @@ ghost use Rattle.std.specs.Prelude.{
 };
 ghost use Rattle.std.specs.Option.{option_copied};
 ghost use Rattle.kernel_meaning.specs.Names as Names;
-ghost use Rattle.kernel_meaning.specs.Places.{place_in, assigned_at};
+ghost use Rattle.kernel_meaning.specs.Places.{place_in, bound_at, assigned_at};
 ghost use Rattle.kernel_meaning.specs.Index.{found_in};
 
 use crate::{Binding, Value};
+use indexmap::IndexMap;
 use std::alloc::{AllocError, Global};
-use std::collections::HashMap;
 use std::marker::Model;
 
 // A binding, and the place of the newest one before it that has the same name.
@@ -38,7 +38,7 @@ struct Entry {
 pub struct Bindings {
     entries: Vec<Entry>,
     // The place of the newest binding of each name, counted from the oldest, from 0.
-    places: HashMap<Vec<u8>, usize>,
+    places: IndexMap<Vec<u8>, usize>,
 }
 
 impl Model for Bindings {
@@ -61,7 +61,7 @@ impl Bindings {
     {
         Bindings {
             entries: Vec::new(alloc),
-            places: HashMap::new(alloc),
+            places: IndexMap::new(alloc),
         }
     }
 
@@ -100,6 +100,13 @@ impl Bindings {
         Some(&self.entries[place].binding)
     }
 
+    /// The binding at a place, counted from the oldest, from 0, where there is one.
+    pub fn at(&self, place: usize) -> Option<&Binding>
+        ensures { option_copied result ≡ bound_at place self.now }
+    {
+        Some(&self.entries.get(place)?.binding)
+    }
+
     /// Gives the binding at a place, counted from the oldest, from 0, another value.
     pub fn set(&mut self, place: usize, value: Value)
         requires { place < length self.old }
@@ -132,7 +139,7 @@ impl Bindings {
 }
 
 // A name, which has a place, gets an older one, or none.
-fn restore(places: &mut HashMap<Vec<u8>, usize>, name: &[u8], older: Option<usize>)
+fn restore(places: &mut IndexMap<Vec<u8>, usize>, name: &[u8], older: Option<usize>)
     requires { IsSome (found_in places.old name.now) }
     ensures { (other : Items ℕ) → found_in places.new other
         ≡ cond (bytes_eq name.now other) older (found_in places.old other) }
@@ -144,7 +151,7 @@ fn restore(places: &mut HashMap<Vec<u8>, usize>, name: &[u8], older: Option<usiz
             }
         }
         None => {
-            places.remove(name);
+            places.swap_remove(name);
         }
     }
 }

@@ -3,6 +3,7 @@ ghost use Rattle.std.specs.Prelude.{◌≡◌, List, [], Err, IfOk};
 ghost use Rattle.maxj_syntax.specs.Tree.{ClassTree};
 ghost use Rattle.kernel_calls.specs.Laws.{AreLawful};
 ghost use Rattle.kernel_meaning.specs.Answer.{calls_of, end_of};
+ghost use Rattle.kernel_meaning.specs.Arithmetic.{TypesAgree, FaultsAgree, WordsAgree, RefusalsAgree};
 ghost use Rattle.kernel_meaning.specs.Constructors.{building_run};
 ghost use Rattle.kernel_meaning.specs.Managers.{source_plan};
 ghost use Rattle.kernel_meaning.specs.Sound.{AreSound};
@@ -38,4 +39,13 @@ pub fn runs_never_want_memory()
 #[tactic(auto, using(crate::proofs::SourcePlans::source_told))]
 pub fn plans_never_want_memory()
     ensures { (classes : List ClassTree) → source_plan classes ≡ Err E.NoMemory → ⊥ }
+{}
+
+/// The types that a building run gives to operations, the faults that it tells of them, and the words
+/// of its literals are those of `fix_arith`'s `result_type` and `literal`.
+pub fn arithmetic_agrees()
+    ensures types { TypesAgree }
+    ensures faults { FaultsAgree }
+    ensures words { WordsAgree }
+    ensures refusals { RefusalsAgree }
 {}

@@ -14,7 +14,9 @@ mod value;
 
 pub use bindings::Bindings;
 pub use error::EvalError;
-pub use laws::{lawful, plans_are_sound, plans_never_want_memory, runs_never_want_memory};
+pub use laws::{
+    arithmetic_agrees, lawful, plans_are_sound, plans_never_want_memory, runs_never_want_memory,
+};
 pub use plan::{Arg, End, Join, Made, Plan, Side};
 pub use row::{Row, Sign};
 pub use stack::Stack;

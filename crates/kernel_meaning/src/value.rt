@@ -66,10 +66,12 @@ pub enum Value {
     },
 }
 
-/// What can be set: a variable by its name, or the element of an array at a place, with its type.
+/// What can be set: a variable by its name, a field by its place among the fields, counted from the
+/// oldest, from 0, or the element of an array at a place, with its type.
 #[derive(Drop)]
 pub enum Spot {
     Variable(Text),
+    Field(usize),
     Element {
         array: u32,
         place: u32,

@@ -5,17 +5,17 @@ ghost use Rattle.maxj_syntax.specs.Tree.{ClassTree, ClassesAre};
 ghost use Rattle.kernel_meaning.specs.Managers.{kernel_number};
 ghost use Rattle.kernel_plans.specs.Tables.{number_in};
 
+use indexmap::IndexMap;
 use maxj_syntax::Class;
 use mx_base::NoMemory;
 use std::alloc::Global;
-use std::collections::HashMap;
 use std::marker::Model;
 
 /// The numbers of the classes of kernels by their names, which are lent. Of two classes of one
 /// name the first counts. A contract sees the names with their numbers.
 #[derive(Drop)]
 pub struct KernelClasses<'a> {
-    numbers: HashMap<&'a [u8], u32>,
+    numbers: IndexMap<&'a [u8], u32>,
 }
 
 impl<'a> Model for KernelClasses<'a> {
@@ -33,7 +33,7 @@ impl<'a> KernelClasses<'a> {
         ensures { IfOk result (λ kernels. (cells : List Cell) (trees : List ClassTree)
             → ClassesAre cells classes.now trees → number_in kernels ≡ kernel_number trees) }
     {
-        let mut numbers = HashMap::new(alloc);
+        let mut numbers = IndexMap::new(alloc);
         for place in (0..classes.len()).rev() {
             let class = &classes[place];
             if !class.manager {

@@ -6,10 +6,10 @@ ghost use Rattle.kernel_plans.specs.Trees.{tree_of, trees_of};
 ghost use Rattle.kernel_plans.specs.Tables.{named_in, AreMethods};
 
 use crate::branch::{Branch, branch_at};
+use indexmap::IndexMap;
 use maxj_syntax::{NodeId, NodeKind, SyntaxTree};
 use mx_base::NoMemory;
 use std::alloc::Global;
-use std::collections::HashMap;
 
 /// A method: its node, and the number of its parameters.
 #[derive(Clone, Copy)]
@@ -21,7 +21,7 @@ pub(crate) struct Method {
 /// The first method of each name.
 #[derive(Drop)]
 pub(crate) struct Methods<'a> {
-    by_name: HashMap<&'a [u8], Method>,
+    by_name: IndexMap<&'a [u8], Method>,
 }
 
 impl<'a> Methods<'a> {
@@ -29,7 +29,7 @@ impl<'a> Methods<'a> {
         ensures { (cells : List Cell) → AreMethods cells Nil result }
     {
         Methods {
-            by_name: HashMap::new(alloc),
+            by_name: IndexMap::new(alloc),
         }
     }
 

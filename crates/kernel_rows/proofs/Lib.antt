@@ -1,7 +1,6 @@
 pub mod KernelArgs
 pub mod NumbersBefore
 pub mod DigitBits
-pub mod LiteralBits
 mod NextOperand
 mod SignPairs
 mod PlanSteps

@@ -65,3 +65,19 @@ loop-vars-preserved g c =
           c.loop-vars.invariant.way does) c.in_ok-send_all-in-Makes.ensures;
       fit = c.in_ok-step.ensures.fit;
     }
+
+pub returns-in_err-step : goal.returns-in_err-step
+returns-in_err-step g c =
+    let class = c.args.class.now in
+    let r = c.from_residual-in_err-step in
+    Way.way_handed g.B.Builder.has_room g.B.Builder.receives g.B.Builder.made
+    g.B.Var.Numbered.number c.args.builder.now (run_in class c.args.args) c.loop-vars.builder
+    c.loop-vars.vars.items (answer_of class c.loop-vars.machine) r.result c.in_err-step.field-0.0
+    c.loop-vars.invariant.way c.step.new.self class c.in_err-step.ensures.does r.ensures.0
+    r.ensures.1
+
+pub returns-in_err-send_all-in-Makes : goal.returns-in_err-send_all-in-Makes
+returns-in_err-send_all-in-Makes g c =
+    let r = c.from_residual-in_err-send_all-in-Makes in
+    Way.no_memory g.B.Builder.receives c.args.builder.now c.send_all.new.builder
+    (run_in c.args.class.now c.args.args) r.result r.ensures.0 r.ensures.1

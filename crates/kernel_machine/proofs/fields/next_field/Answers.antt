@@ -18,20 +18,20 @@ returns-then-is_field c =
       omega (arith, many, below),
       c.if-is_field.ensures.0,
       c.if-is_field.ensures.1,
-      λ here state next.
-          c.loop-place.invariant.1 here state next
-          ∙ ap (λ ts. set_fields here ts state next)
+      λ here before state next.
+          c.loop-place.invariant.1 here before state next
+          ∙ ap (λ ts. set_fields here before ts state next)
           (FieldFirst.member-at class c.node_at-node.result c.node_at-member.result c.loop-place.place
           c.part.result own c.part.ensures below c.node_at-member.ensures.tree),
     )
 
 pub returns : goal.returns
-returns c here state next =
+returns c here before state next =
     let class = c.args.class.now in
     let own : tree_of class.cells (Some class.node) ≡ branch_tree class.cells c.node_at-node.result =
     subst (λ (n : ℕ). tree_of class.cells (Some n) ≡ branch_tree class.cells c.node_at-node.result)
     c.node.ensures c.node_at-node.ensures.tree in
-    c.loop-place.invariant.1 here state next
-    ∙ ap (λ ts. set_fields here ts state next)
+    c.loop-place.invariant.1 here before state next
+    ∙ ap (λ ts. set_fields here before ts state next)
     (FieldFirst.members-end class c.node_at-node.result c.loop-place.place own
     c.loop-place-test.false)

@@ -1,8 +1,8 @@
 -- What is set, and that it is kept.
-use Rattle.std.proofs.Common.{◌∙◌, sym, subst, ap}
+use Rattle.std.proofs.Common.{◌∙◌, sym, subst, ap, arith}
 use Rattle.kernel_meaning.specs.Arrays.{with_content}
 use Rattle.kernel_rows.specs.Kept.{AreBoundFit, AreArrays}
-use Rattle.kernel_meaning.proofs.PlaceLaws.{place-below}
+use Rattle.kernel_meaning.proofs.PlaceLaws.{place-below, past-assigned}
 use Rattle.kernel_machine.proofs.Setting
 use Rattle.kernel_machine.proofs.spots.store.Goals as goal
 
@@ -26,9 +26,8 @@ returns-in-Some-clause-is c =
 pub returns-in-Some-clause-kept : goal.returns-in-Some-clause-kept
 returns-in-Some-clause-kept c = record {
   variables =
-      subst AreBoundFit (sym c.set.ensures) (Setting.assigned-at-fit c.as_bytes.result.now
-      c.args.value c.args.state.now.variables c.in-Some.place (sym c.in-Some.ensures)
-      c.requires.value c.requires.kept.variables);
+      subst AreBoundFit (sym c.set.ensures) (Setting.assigned-at-fit c.in-Some.place
+      c.args.value c.args.state.now.variables c.requires.value c.requires.kept.variables);
   fields = c.requires.kept.fields;
   arrays = c.requires.kept.arrays;
   digits = c.requires.kept.digits;
@@ -48,8 +47,7 @@ returns-in-Some-place-clause-kept c = record {
   variables = c.requires.kept.variables;
   fields =
       subst AreBoundFit (sym c.set-in-Some-place.ensures) (Setting.assigned-at-fit
-      c.as_bytes-in-None.result.now c.args.value c.args.state.now.fields c.in-Some-place.place
-      (sym c.in-Some-place.ensures) c.requires.value c.requires.kept.fields);
+      c.in-Some-place.place c.args.value c.args.state.now.fields c.requires.value c.requires.kept.fields);
   arrays = c.requires.kept.arrays;
   digits = c.requires.kept.digits;
 }
@@ -71,3 +69,22 @@ returns-in-Element-clause-kept c = record {
       c.requires.value c.requires.kept.arrays);
   digits = c.requires.kept.digits;
 }
+
+pub returns-then-place-len-clause-kept : goal.returns-then-place-len-clause-kept
+returns-then-place-len-clause-kept c = record {
+  variables = c.requires.kept.variables;
+  fields =
+      subst AreBoundFit (sym c.set-then-place-len.ensures) (Setting.assigned-at-fit
+      c.in-Field.place c.args.value c.args.state.now.fields c.requires.value
+      c.requires.kept.fields);
+  arrays = c.requires.kept.arrays;
+  digits = c.requires.kept.digits;
+}
+
+pub returns-else-place-len-clause-is : goal.returns-else-place-len-clause-is
+returns-else-place-len-clause-is c =
+    let state = c.args.state.now in
+    let past = past-assigned c.in-Field.place c.args.value state.fields
+    (omega (arith, c.if-place-len.false, c.len.ensures)) in
+    ap (λ fields. record state { fields = fields }) (sym past)
+    ∙ ap (λ spot. with_content spot c.args.value state) (sym c.in-Field.is)

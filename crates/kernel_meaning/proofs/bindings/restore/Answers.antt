@@ -18,5 +18,5 @@ pub returns-in-None : goal.returns-in-None
 returns-in-None c = λ other.
     let name = c.args.name.now in
     let old = c.args.places.now in
-    found-after name old c.remove.new.self None c.remove.ensures.updates other
+    found-after name old c.swap_remove.new.self None c.swap_remove.ensures.updates other
     ∙ ap (λ o. cond (bytes_eq name other) o (found_in old other)) (sym c.in-None.is)

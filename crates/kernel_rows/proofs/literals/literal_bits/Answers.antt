@@ -1,7 +1,7 @@
 -- The answer is the one that is computed.
 use Rattle.std.proofs.Common.{sym, ◌∙◌, ap, Ok}
 use Rattle.fix_arith.specs.declared.number.Number.{Number}
-use Rattle.kernel_rows.proofs.LiteralBits.{literal_ok, literal_err}
+use Rattle.kernel_meaning.proofs.LiteralBits.{literal_ok, literal_err}
 use Rattle.kernel_rows.proofs.literals.literal_bits.Goals as goal
 
 pub returns-in-Ok : goal.returns-in-Ok

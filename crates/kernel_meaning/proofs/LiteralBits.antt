@@ -6,6 +6,7 @@ use Rattle.std.specs.Ordering.{int_cmp, is_eq, MatchOrdering}
 use Rattle.std.specs.declared.cmp.Ordering.{Ordering}
 use Rattle.std.specs.declared.cmp.Ordering.TheVariants as O
 use Rattle.std.specs.Cmp.{int_ranks}
+use Rattle.mx_bits.specs.declared.op.Op.TheVariants.{Cast}
 use Rattle.mx_bits.specs.declared.word.Word.{Word}
 use Rattle.fix_arith.specs.declared.number.Number.{Number}
 use Rattle.fix_arith.specs.declared.types.RoundMode.{RoundMode}
@@ -25,6 +26,7 @@ use Rattle.fix_arith.specs.Values.{reduced, value_of, IsValue}
 use Rattle.fix_arith.specs.Literals.{IsLiteral, literal_of}
 use Rattle.fix_arith.proofs.Residues.{reduced-value, reduced-lt}
 use Rattle.kernel_meaning.specs.Typing.{is_number_of, literal_bits}
+use Rattle.kernel_meaning.specs.Arithmetic.{WordsAgree, RefusalsAgree}
 
 ranked : (o : Ordering) (a b : ℤ) → MatchOrdering o (a <ℤ b) (a ≡ b) (b <ℤ a) → a ≡ b → is_eq o
     ≡ true
@@ -105,3 +107,74 @@ literal_err n mode t TypesDiffer h = absurd h
 literal_err n mode t MulTooWide h = absurd h
 literal_err n mode t (ShiftRange k) h = absurd h
 literal_err n mode t (MuxCount k) h = absurd h
+
+-- and the other way round: what is computed is the literal
+writable : (fix : Bool) (tens : ℕ) → (not fix && not (tens == 0)) ≡ false → (IsTrue fix → ⊥)
+    → tens ≡ 0
+writable true tens e n = absurd (n refl)
+writable false tens e n = grind (arith, nat_tests)
+
+not_both : (b : Bool) → b ≡ false → b ≡ true → ⊥
+not_both b p q = absurd (cc)
+
+module _ (n : Number) (mode : RoundMode) (t : StreamType) where
+  abbrev wanted : ℤ
+  wanted = literal_of n mode t
+
+  abbrev found : ℕ
+  found = reduced (width_of t) wanted
+
+  abbrev told_by : Bool → Bool → Result ℕ TypeError
+  told_by unwritten has = if unwritten then Err (NotForType Cast) else
+      (if has then Ok found else Err LiteralRange)
+
+  word_by : (unwritten has : Bool) (word : Word)
+      → (not (is_fix t) && not (n.tens == 0)) ≡ unwritten → is_number_of found t wanted ≡ has
+      → word.width ≡ width_of t → told_by unwritten has ≡ Ok word.bits → IsLiteral n mode t (Ok word)
+  word_by true has word p q w e = absurd (cc)
+  word_by false false word p q w e = absurd (cc)
+  word_by false true word p q w e =
+      let bits : found ≡ word.bits = cc in (
+        writable (is_fix t) n.tens p,
+        w,
+        ap (value_of t) (sym bits)
+            ∙ told (int_cmp (value_of t found) wanted) _ _ (int_ranks (value_of t found) wanted) q,
+      )
+
+  fault_is : (made e : TypeError) → ◌≡◌ {A = Result ℕ TypeError} (Err made) (Err e)
+      → IsLiteral n mode t (Err made) → IsLiteral n mode t (Err e)
+  fault_is made e h l =
+      let same : made ≡ e = cc in subst (λ f. IsLiteral n mode t (Err f)) same l
+
+  fault_by : (unwritten has : Bool) (e : TypeError)
+      → (not (is_fix t) && not (n.tens == 0)) ≡ unwritten → is_number_of found t wanted ≡ has
+      → told_by unwritten has ≡ Err e → IsLiteral n mode t (Err e)
+  fault_by true has e p q h =
+      fault_is (NotForType Cast) e h (refl, λ w. not_both _ (written (is_fix t) n.tens w) p)
+  fault_by false false e p q h =
+      fault_is LiteralRange e h (
+        writable (is_fix t) n.tens p,
+        λ v.
+            let back : found ≡ v.0 =
+            ap (reduced (width_of t)) (sym v.2) ∙ reduced-value t v.0 v.1 in
+            not_both _ q (number_true found t wanted (ap (value_of t) back ∙ v.2)),
+      )
+  fault_by false true e p q h = absurd (cc)
+
+  word_of_bits : (word : Word) → word.width ≡ width_of t
+      → literal_bits mode n.negative n.digits n.tens t ≡ Ok word.bits → IsLiteral n mode t (Ok word)
+  unfolding literal_bits
+  word_of_bits word w h =
+      word_by (not (is_fix t) && not (n.tens == 0)) (is_number_of found t wanted) word refl refl w h
+
+  fault_of_bits : (e : TypeError) → literal_bits mode n.negative n.digits n.tens t ≡ Err e
+      → IsLiteral n mode t (Err e)
+  unfolding literal_bits
+  fault_of_bits e h =
+      fault_by (not (is_fix t) && not (n.tens == 0)) (is_number_of found t wanted) e refl refl h
+
+pub words_agree : WordsAgree
+words_agree n mode t word w = (word_of_bits n mode t word w, literal_ok n mode t word)
+
+pub refusals_agree : RefusalsAgree
+refusals_agree n mode t e = (fault_of_bits n mode t e, literal_err n mode t e)
