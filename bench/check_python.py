@@ -169,54 +169,36 @@ def free_port():
         return taken.getsockname()[1]
 
 
+def served(words, address, seen):
+    """What a command says while a scheduler with two workers is at an address."""
+    scheduler = ["scheduler", "--host", "127.0.0.1", "--port", address.rpartition(":")[2]]
+    workers = [["worker", address, "--nthreads", "1", "--name", f"w{number}"] for number in (1, 2)]
+    quiet = {"stdout": subprocess.DEVNULL, "stderr": subprocess.DEVNULL, "start_new_session": True}
+    started = []
+    with tempfile.TemporaryDirectory() as work:
+        try:
+            for kind, *more in (scheduler, *workers):
+                server = ["python3", "-m", f"distributed.cli.dask_{kind}", *more, "--no-dashboard"]
+                started.append(subprocess.Popen(server, cwd=work, env=seen, **quiet))
+                time.sleep(3)
+            return subprocess.run(words, env=seen, capture_output=True, text=True, timeout=PATIENCE)
+        finally:
+            for server in started:
+                os.killpg(server.pid, signal.SIGTERM)
+                server.wait(30)
+
+
 def wrong_cluster(seen):
     """What differs between a sweep here and one by a scheduler with two workers."""
     if not has(PYTHON, "distributed"):
         print("dask.distributed isn't installed here, passed over")
         return []
     folder, address = TOP / "examples/fir", f"tcp://127.0.0.1:{free_port()}"
-    words = [
-        "python3",
-        "-m",
-        "kalebrush",
-        "sweep",
-        folder / "fir.maxj",
-        "--in",
-        f"x={folder}/x.txt",
-        "--stalls",
-        "0",
-        "1",
-    ]
-    words += ["--ticks", "40", "60", "--tables", TOP / "examples/tables/zero.json", TOP / "examples/tables/one.json"]
+    tables = [TOP / f"examples/tables/{name}.json" for name in ("zero", "one")]
+    words = ["python3", "-m", "kalebrush", "sweep", folder / "fir.maxj", "--in", f"x={folder}/x.txt"]
+    words += ["--stalls", "0", "1", "--ticks", "40", "60", "--tables", *tables]
     here = subprocess.run(words, env=seen, capture_output=True, text=True, timeout=PATIENCE)
-    with tempfile.TemporaryDirectory() as work:
-        servers = [
-            [
-                "distributed.cli.dask_scheduler",
-                "--host",
-                "127.0.0.1",
-                "--port",
-                address.rpartition(":")[2],
-                "--no-dashboard",
-            ]
-        ]
-        servers += [
-            ["distributed.cli.dask_worker", address, "--nthreads", "1", "--no-dashboard", "--name", f"w{n}"]
-            for n in (1, 2)
-        ]
-        started = []
-        try:
-            for server in servers:
-                quiet = {"stdout": subprocess.DEVNULL, "stderr": subprocess.DEVNULL, "start_new_session": True}
-                started.append(subprocess.Popen(["python3", "-m", *server], cwd=work, env=seen, **quiet))
-                time.sleep(3)
-            there = subprocess.run(
-                [*words, "--scheduler", address], env=seen, capture_output=True, text=True, timeout=PATIENCE
-            )
-        finally:
-            for server in started:
-                os.killpg(server.pid, signal.SIGTERM)
-                server.wait(30)
+    there = served([*words, "--scheduler", address], address, seen)
     same = here.stdout == there.stdout and here.stdout.count("\n") == 10
     print(f"a sweep by a scheduler with two workers: {'the same table' if same else 'ANOTHER TABLE'}", flush=True)
     return [] if same else [f"here {here.stdout}{here.stderr}, there {there.stdout}{there.stderr[-2000:]}"]

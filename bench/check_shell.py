@@ -3,8 +3,8 @@
 
 Of three examples (a picture; scalars and controls; a project of three kernels):
 
-- the testbench of the shell, in Icarus and as Verilator builds it, passes over the words that `expect` says: after a
-  run that is broken off, in two runs one behind the other, without gaps and with many, and with resets of several lengths;
+- the testbench of the shell, in Icarus and as Verilator builds it, passes over the words that `expect` says: after
+  a broken-off run, in two runs one behind the other, without gaps and with many, and with resets of several lengths;
 - it fails where a word that is expected is changed, where `tlast` is at other words, and where the run has other ticks;
 - Verilator has nothing to warn of but what waivers.vlt names;
 - Yosys synthesizes it for iCE40, ECP5 and Xilinx devices.

@@ -5,14 +5,17 @@
     bench/fpga.py --example FOLDER ..    each folder's source by its table: a table in Markdown
 
 For iCE40 (HX8K) the design is placed and routed with three seeds; the clock is given from the slowest of them to the
-fastest. For ECP5 and Xilinx 7 the cells are those after synthesis. `--seconds` is the limit of time for each call of a
-tool (600). A dash stands where a tool didn't end, or where the device is too small. Tools run niced, one at a time.
+fastest. For ECP5 and Xilinx 7 the cells are those after synthesis. `--seconds` is the limit of processor time for each
+call of a tool (600). A dash stands where a tool didn't end, or where the device is too small. Tools run niced, one at a
+time.
 """
 import argparse
+import functools
 import json
 import os
 import pathlib
 import re
+import resource
 import shutil
 import signal
 import subprocess
@@ -25,7 +28,8 @@ from trials import PROGRAM, TOP, build
 
 HAND = TOP / "bench/hand"
 SEEDS, MOST_SEEDS = 3, 8  # how many seeds are to end, and how many are tried: the placer may not end by one
-PLACING = 240  # seconds for a seed at the most
+PLACING = 60  # seconds for a seed at the most
+LOADED = 10  # times as long may pass on a clock on the wall, where the machine does other work
 DEVICE = ["--hx8k", "--package", "ct256", "--pcf-allow-unconstrained", "--freq", "150", "--timing-allow-fail"]
 STAT = re.compile(r"^ +([A-Z$]\w+) +(\d+)$", re.M)
 OPERATIONS = "add sub mul div neg and or xor not eq ne lt le gt ge mux round".split()
@@ -79,10 +83,12 @@ class Tools:
 
     def run(self, words, seconds=None):
         """What a tool says, or None where it fails or doesn't end; then what it started is ended too."""
+        seconds = seconds or self.seconds
         kinds = {"stdout": subprocess.PIPE, "stderr": subprocess.DEVNULL, "text": True, "start_new_session": True}
-        tool = subprocess.Popen(["nice", "-n", "15", *map(str, words)], cwd=self.folder, **kinds)
+        limit = functools.partial(resource.setrlimit, resource.RLIMIT_CPU, (seconds, seconds))
+        tool = subprocess.Popen(["nice", *map(str, words)], cwd=self.folder, preexec_fn=limit, **kinds)
         try:
-            said, _ = tool.communicate(timeout=seconds or self.seconds)
+            said, _ = tool.communicate(timeout=LOADED * seconds)
         except subprocess.TimeoutExpired:
             os.killpg(tool.pid, signal.SIGKILL)
             tool.communicate()
