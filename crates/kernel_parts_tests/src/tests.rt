@@ -93,7 +93,8 @@ fn words_wait_behind_their_pipelines(rt: HostRuntime) -> Result<(), Fail> {
     assert!(rt; is_memory(module, 0, b"m0", 8, 5));
     assert!(rt; is_memory(module, 1, b"m1", 16, 3));
     assert!(rt; stored_bits(module) == 8 + 40 + 3 + 48 + 2);
-    let [first, second] = made.shown;
+    let shown = &made.shown;
+    let (first, second) = (&shown[0], &shown[1]);
     assert!(rt; first.len() == 2 && second.len() == 1);
     let (one, six, three) = (*first.at(0), *first.at(1), *second.at(0));
     assert!(rt; [one.net().index(), six.net().index(), three.net().index()] == [5, 7, 9]);
