@@ -1,9 +1,11 @@
 -- The classes of a source build one project: its plan, its kernels and its links.
 use Rattle.std.proofs.Common.{◌≡◌, ◌∙◌, ◌≤◌, ℕ, List, [], Ok, length, sym, subst}
-use Rattle.std.specs.Prelude.{ℤ, Result, filter}
+use Rattle.std.specs.Prelude.{ℤ, Result, IsTrue, filter}
+use mathlib.Core.Bool.{Bool-set}
 use Rattle.std.proofs.Math.Bridge.{le_prop}
 use Rattle.std.proofs.Math.Logic.{∥∥₁_prop}
 use Rattle.std.proofs.lemmas.Option.{same_Some}
+use Rattle.kernel_calls.specs.Laws.{is_port_name}
 use Rattle.kernel_meaning.specs.declared.error.EvalError.{EvalError}
 use Rattle.kernel_meaning.specs.declared.plan.Join.{Join}
 use Rattle.kernel_meaning.specs.declared.plan.Made.{Made}
@@ -26,18 +28,22 @@ use Rattle.maxjc_core.proofs.Lists.{zip_only}
 
 -- ---- kernels
 
-kernel_by : (a b : List ℕ) (xs ys : List Node) (p : a ≡ b) (q : xs ≡ ys) (f : length xs ≤ 4096)
+kernel_by : (a b : List ℕ) (xs ys : List Node) (p : a ≡ b) (q : xs ≡ ys)
+    (m : IsTrue (is_port_name a)) (n : IsTrue (is_port_name b)) (f : length xs ≤ 4096)
     (g : length ys ≤ 4096) (h : ∥ AreKernel xs ∥₁) (k : ∥ AreKernel ys ∥₁)
-    → ◌≡◌ {A = Kernel} (record { name = a; nodes = xs; few = f; made = h })
-    (record { name = b; nodes = ys; few = g; made = k })
-kernel_by a b xs ys p q f g h k =
-    subst (λ zs. (g : length zs ≤ 4096) (k : ∥ AreKernel zs ∥₁)
-    → ◌≡◌ {A = Kernel} (record { name = a; nodes = xs; few = f; made = h })
-    (record { name = b; nodes = zs; few = g; made = k })) q
-    (λ g k. λ i. record { name = p i; nodes = xs; few = le_prop f g i; made = ∥∥₁_prop h k i }) g k
+    → ◌≡◌ {A = Kernel} (record { name = a; nodes = xs; named = m; few = f; made = h })
+    (record { name = b; nodes = ys; named = n; few = g; made = k })
+kernel_by a b xs ys p q m n f g h k =
+    subst (λ c. (n : IsTrue (is_port_name c))
+    → ◌≡◌ {A = Kernel} (record { name = a; nodes = xs; named = m; few = f; made = h })
+    (record { name = c; nodes = ys; named = n; few = g; made = k })) p
+    (λ n. subst (λ zs. (g : length zs ≤ 4096) (k : ∥ AreKernel zs ∥₁)
+    → ◌≡◌ {A = Kernel} (record { name = a; nodes = xs; named = m; few = f; made = h })
+    (record { name = a; nodes = zs; named = n; few = g; made = k })) q
+    (λ g k. λ i. record { name = a; nodes = xs; named = Bool-set _ _ m n i; few = le_prop f g i; made = ∥∥₁_prop h k i }) g k) n
 
 same_kernel : (x y : Kernel) → x.name ≡ y.name → x.nodes ≡ y.nodes → x ≡ y
-same_kernel x y p q = kernel_by x.name y.name x.nodes y.nodes p q x.few y.few x.made y.made
+same_kernel x y p q = kernel_by x.name y.name x.nodes y.nodes p q x.named y.named x.few y.few x.made y.made
 
 one_kernel : (classes : List ClassTree) (made : Made) (x y : Kernel) → IsKernelFor classes made x
     → IsKernelFor classes made y → x ≡ y
